@@ -1,0 +1,4 @@
+pub mod BuiltIn
+pub mod LinkedProgram
+pub mod Linking
+pub mod Subclasses

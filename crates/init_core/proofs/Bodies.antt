@@ -1,0 +1,24 @@
+-- Outside of any class a thread goes as a body does.
+use Rattle.std.proofs.Common.{◌≡◌, ℕ, List, ◌∷◌, ◌++◌, Option, Some, false}
+use Rattle.hierarchy.specs.declared.class.ClassId.{ClassId}
+use Rattle.hierarchy.specs.LinkedProgram.{LinkedProgram}
+use Rattle.init_core.specs.declared.event.Event.{Event}
+use Rattle.init_core.specs.declared.procedure.Answer.{Answer}
+use Rattle.init_core.specs.declared.procedure.Completed.{Completed}
+use Rattle.init_core.specs.declared.procedure.Outcome.{Outcome}
+use Rattle.init_core.specs.declared.procedure.Phase.TheVariants.{Looking}
+use Rattle.init_core.specs.ProcedureWord.{ProcedureWord, Items, requests, completed, given_up, GoesOn}
+use Rattle.init_core.specs.Standing.{Standing}
+use Rattle.init_core.specs.Leads.{frame, standing, BeforeRequest, LeadsTo}
+use Rattle.init_core.specs.Advance.{advanced, asked, events_of, Fits, IsAtBody}
+use Rattle.init_core.proofs.Leading.{is_requested, is_answered}
+
+goes : (p : LinkedProgram) (t : ℕ) (c : ClassId) (xs w : List Event) (r : Outcome) → BeforeRequest p t c xs → ProcedureWord p t c w r → Items p t (Some (completed c r)) (xs ++ w)
+goes p t c xs w r before x = requests before.1 before.2 x
+
+pub request_leads : (p : LinkedProgram) (t : ℕ) (s : Standing) (xs : List Event) (c : ClassId) → IsAtBody s.frames → GoesOn s.last → LeadsTo p t s xs → LeadsTo p t (standing (frame c (Looking false) ∷ s.frames) None) xs
+request_leads p t s xs c body on h = is_requested p t (BeforeRequest p t) (Items p t) (goes p t) c body on (λ i. (s.last, i, on)) h
+
+pub answer_leads : (p : LinkedProgram) (t : ℕ) (s : Standing) (later : Option Completed) (xs : List Event) (a : Answer) → Fits p s a → given_up later ≡ given_up s.last →
+    LeadsTo p t (asked s a later) xs → LeadsTo p t (advanced p s a) (xs ++ events_of t s.frames a)
+answer_leads p t s later xs a fits same h = is_answered p t (BeforeRequest p t) (Items p t) (goes p t) s later xs a fits same h

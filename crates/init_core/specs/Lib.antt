@@ -1,0 +1,9 @@
+pub mod Label
+pub mod Lawful
+pub mod Decisions
+pub mod History
+pub mod Keeps
+pub mod ProcedureWord
+pub mod Standing
+pub mod Leads
+pub mod Advance

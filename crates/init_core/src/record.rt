@@ -1,0 +1,217 @@
+//! What is known of one class's initialization.
+
+ghost use Rattle.std.specs.Prelude.{◌≡◌, ℕ, ◌<◌, ◌≤◌, ◌+◌, ◌++◌, ◌∷◌, [], IfOk, OnErr, true, false, vec_len, vec_capacity};
+ghost use Rattle.init_core.specs.Label.{label_of, failure_of, owner_of};
+ghost use Rattle.init_core.specs.Decisions.{Decides, entered, event, kind_of, waits, is_wait};
+ghost use Rattle.init_core.specs.Lawful.{IsLawful};
+ghost use Rattle.init_core.specs.History.{room_in};
+ghost use Rattle.init_core.specs.declared.event.Label.TheVariants as label;
+ghost use Rattle.init_core.specs.declared.event.Decision.TheVariants as decision;
+ghost use Rattle.init_core.specs.declared.event.Kind.TheVariants as kind;
+
+use crate::event::{Decision, Event, Kind, Label};
+use hierarchy::ClassId;
+use std::alloc::{AllocError, Global};
+use std::marker::Model;
+
+/// The record of one class: label, owner and failure are always those of its history, which is lawful.
+///
+/// While the class is in progress, room is kept for the event that ends it.
+#[derive(Debug, Drop)]
+pub struct ClassRecord {
+    class: ClassId,
+    label: Label,
+    failure: Option<ClassId>,
+    history: Vec<Event>,
+}
+
+impl Model for ClassRecord {
+    ghost use Rattle.init_core.specs.History.{History, room_in};
+
+    ghost Value = { History };
+
+    ghost use Rattle.init_core.specs.Keeps.{IsOfItsHistory};
+
+    ghost view = { λ r. record { class = r.class; events = r.history.items; room = room_in r.label } };
+
+    ghost invariant = { IsOfItsHistory };
+}
+
+impl ClassRecord {
+    /// The record of a class that is prepared: no events yet. Takes no memory.
+    pub fn new(alloc: Global, class: ClassId) -> Self
+        ensures class { result.class ≡ class }
+        ensures events { result.events ≡ [] }
+        ensures room { result.room ≡ 0 }
+    {
+        ClassRecord {
+            class,
+            label: Label::Prepared,
+            failure: None,
+            history: Vec::new(alloc),
+        }
+    }
+
+    /// The class that this is the record of.
+    pub fn class(&self) -> ClassId
+        ensures { result ≡ self.now.class }
+    {
+        self.class
+    }
+
+    /// What stands of the class.
+    pub fn label(&self) -> Label
+        ensures { result ≡ label_of self.now.events }
+    {
+        self.label
+    }
+
+    /// The thread that initializes the class, while it is in progress.
+    pub fn owner(&self) -> Option<usize>
+        ensures { result ≡ owner_of self.now.events }
+    {
+        match self.label {
+            Label::InProgress(thread) => Some(thread),
+            _ => None,
+        }
+    }
+
+    /// The class of the throwable that ended the initialization, where one did.
+    pub fn failure(&self) -> Option<ClassId>
+        ensures { result ≡ failure_of self.now.events }
+    {
+        self.failure
+    }
+
+    /// The events of the class, in order.
+    pub fn history(&self) -> &[Event]
+        ensures events { result.now ≡ self.now.events }
+        ensures lawful { IsLawful self.now.events }
+        ensures room { self.now.room ≡ room_in (label_of self.now.events) }
+    {
+        self.history.as_slice()
+    }
+
+    /// A look at the class by a thread: steps 2 to 6. It adds the one event that the label allows and answers
+    /// the decision of that name; a wait that isn't the first of its request adds none.
+    ///
+    /// An `Err` is want of memory and changes nothing.
+    #[tactic(auto, using(crate::proofs::Labels::steps))]
+    pub fn enter(&mut self, thread: usize) -> Result<Decision, AllocError>
+        ensures class { self.new.class ≡ self.old.class }
+        ensures decision { IfOk result (λ d. Decides (label_of self.old.events) thread d) }
+        ensures events { IfOk result (λ d. self.new.events ≡ self.old.events ++ entered thread self.old.class d) }
+        ensures again { IfOk result (λ d. (d ≡ decision.Wait false) → (waits thread self.old.events ≡ true)) }
+        ensures first { IfOk result (λ d. (d ≡ decision.Wait true) → (waits thread self.old.events ≡ false)) }
+        ensures err { OnErr result (self.new ≡ self.old) }
+    {
+        let decision = decision_at(self.label, thread, waits_in(self.history.as_slice(), thread));
+        if let Decision::Wait { first: false } = decision {
+            return Ok(decision);
+        }
+        self.history.reserve(2)?;
+        self.history.push_reserved(Event {
+            thread,
+            class: Some(self.class),
+            kind: kind_of_decision(decision),
+        });
+        if let Decision::Begin = decision {
+            self.label = Label::InProgress(thread);
+        }
+        Ok(decision)
+    }
+
+    /// Step 10: the class is initialized. Takes no memory.
+    #[tactic(auto, using(crate::proofs::Labels::steps))]
+    pub fn complete(&mut self, thread: usize)
+        requires { label_of self.old.events ≡ label.InProgress thread }
+        ensures class { self.new.class ≡ self.old.class }
+        ensures events { self.new.events ≡ self.old.events ++ event thread self.old.class kind.Completes ∷ [] }
+    {
+        self.history.push_reserved(Event {
+            thread,
+            class: Some(self.class),
+            kind: Kind::Completes,
+        });
+        self.label = Label::Initialized;
+    }
+
+    /// Step 12: the class is erroneous, since its own initializer completed abruptly; `throwable` is what
+    /// step 11 left. Takes no memory.
+    #[tactic(auto, using(crate::proofs::Labels::steps))]
+    pub fn fail(&mut self, thread: usize, throwable: ClassId)
+        requires { label_of self.old.events ≡ label.InProgress thread }
+        ensures class { self.new.class ≡ self.old.class }
+        ensures events { self.new.events ≡ self.old.events ++ event thread self.old.class (kind.Fails throwable) ∷ [] }
+    {
+        self.history.push_reserved(Event {
+            thread,
+            class: Some(self.class),
+            kind: Kind::Fails(throwable),
+        });
+        self.label = Label::Erroneous;
+        self.failure = Some(throwable);
+    }
+
+    /// Step 7: the class is erroneous, since the initialization of what it needs completed abruptly with
+    /// `throwable`. Takes no memory.
+    #[tactic(auto, using(crate::proofs::Labels::steps))]
+    pub fn super_failed(&mut self, thread: usize, throwable: ClassId)
+        requires { label_of self.old.events ≡ label.InProgress thread }
+        ensures class { self.new.class ≡ self.old.class }
+        ensures events { self.new.events ≡ self.old.events ++ event thread self.old.class (kind.SuperFails throwable) ∷ [] }
+    {
+        self.history.push_reserved(Event {
+            thread,
+            class: Some(self.class),
+            kind: Kind::SuperFails(throwable),
+        });
+        self.label = Label::Erroneous;
+        self.failure = Some(throwable);
+    }
+}
+
+/// Whether the last of the thread's events is a wait.
+fn waits_in(history: &[Event], thread: usize) -> bool
+    ensures { result ≡ waits thread history.now }
+{
+    let mut waited = false;
+    for event in history {
+        if event.thread == thread {
+            waited = matches!(event.kind, Kind::Waits);
+        }
+    }
+    waited
+}
+
+/// What a look comes to.
+fn decision_at(label: Label, thread: usize, waited: bool) -> Decision
+    ensures allowed { Decides label thread result }
+    ensures again { (result ≡ decision.Wait false) → (waited ≡ true) }
+    ensures first { (result ≡ decision.Wait true) → (waited ≡ false) }
+{
+    match label {
+        Label::Prepared => Decision::Begin,
+        Label::InProgress(owner) => {
+            if owner == thread {
+                Decision::Recursive
+            } else {
+                Decision::Wait { first: !waited }
+            }
+        }
+        Label::Initialized => Decision::Already,
+        Label::Erroneous => Decision::Refused,
+    }
+}
+
+fn kind_of_decision(decision: Decision) -> Kind
+    ensures { result ≡ kind_of decision }
+{
+    match decision {
+        Decision::Wait { .. } => Kind::Waits,
+        Decision::Recursive => Kind::Recurs,
+        Decision::Already => Kind::FindsInitialized,
+        Decision::Refused => Kind::FindsErroneous,
+        Decision::Begin => Kind::Begins,
+    }
+}

@@ -1,0 +1,65 @@
+-- What the initialization of a class needs first (JVMS SE 8 5.5 step 7, JLS SE 8 12.4.2 step 7).
+use Rattle.std.specs.Prelude.{ℕ, zero, suc, Bool, false, nat_lt, ◌==◌, List, [], ◌∷◌, ◌++◌, Option, Some, None, length, if◌then◌else◌}
+use Rattle.std.specs.List.{flat_map, list_any}
+use Rattle.jasmin_text.specs.declared.class_text.ClassKind.{ClassKind}
+use Rattle.jasmin_text.specs.declared.class_text.ClassKind.TheVariants as kind
+use Rattle.hierarchy.specs.declared.class.Class.{Class}
+use Rattle.hierarchy.specs.declared.class.ClassId.{ClassId}
+use Rattle.hierarchy.specs.LinkedProgram.{LinkedProgram, class_at}
+
+abbrev pub interfaces_in : Option Class → List ClassId
+interfaces_in None = []
+interfaces_in (Some class) = class.interfaces
+
+-- the direct superinterfaces, in order
+abbrev pub interfaces_of : LinkedProgram → ClassId → List ClassId
+interfaces_of p c = interfaces_in (class_at p c)
+
+abbrev pub declares_default_in : Option Class → Bool
+declares_default_in None = false
+declares_default_in (Some class) = class.declares_default
+
+-- whether it declares a non-abstract, non-static method
+abbrev pub declares_default : LinkedProgram → ClassId → Bool
+declares_default p c = declares_default_in (class_at p c)
+
+abbrev pub is_in_file : LinkedProgram → ClassId → Bool
+is_in_file p c = nat_lt c.number (length p.classes)
+
+abbrev pub enumeration_within : ℕ → LinkedProgram → ClassId → List ClassId
+enumeration_within zero p i = []
+enumeration_within (suc depth) p i = flat_map (enumeration_within depth p) (interfaces_of p i) ++ i ∷ []
+
+-- The enumeration of an interface: that of each direct superinterface in order, then the interface itself.
+-- No way up is longer than there are classes, where no class is its own supertype.
+unfoldable pub enumeration : LinkedProgram → ClassId → List ClassId
+enumeration p i = enumeration_within (suc (length p.classes)) p i
+
+abbrev pub is_among : ClassId → List ClassId → Bool
+is_among c found = list_any (λ d. d.number == c.number) found
+
+-- c at the end unless it is there already
+abbrev pub add_new : List ClassId → ClassId → List ClassId
+add_new found c = if is_among c found then found else found ++ c ∷ []
+
+-- each that passes, once: of repeats the first stands
+abbrev pub add_all : (ClassId → Bool) → List ClassId → List ClassId → List ClassId
+add_all passes found [] = found
+add_all passes found (c ∷ cs) = add_all passes (if passes c then add_new found c else found) cs
+
+-- the superclass, if it is in a file
+abbrev pub superclass_first : LinkedProgram → ClassId → List ClassId
+superclass_first p superclass = if is_in_file p superclass then superclass ∷ [] else []
+
+abbrev pub needs_by : LinkedProgram → Class → ClassKind → List ClassId
+needs_by p class kind.Interface = []
+needs_by p class kind.Class = add_all (declares_default p) (superclass_first p class.superclass) (flat_map (enumeration p) class.interfaces)
+
+abbrev pub needs_in : LinkedProgram → Option Class → List ClassId
+needs_in p None = []
+needs_in p (Some class) = needs_by p class class.kind
+
+-- what is initialized before c: of an interface nothing; of a class its superclass, then its superinterfaces
+-- that declare a non-abstract, non-static method
+unfoldable pub needs : LinkedProgram → ClassId → List ClassId
+needs p c = needs_in p (class_at p c)

@@ -1,0 +1,156 @@
+//! Lists that own their memory, seen by contracts as the list alone.
+//!
+//! A [`Sequence`] is a `Vec` without its capacity and its allocator: two sequences are equal in a contract
+//! where they have the same elements in the same order. Class texts, linked classes and events hold
+//! their parts in sequences, so that a contract can compare whole values with `≡` and name no view
+//! function. A [`Text`] is a sequence of bytes.
+//!
+//! A sequence is made of a `Vec` and gives it back without taking memory.
+#![tactic(auto)]
+
+ghost use Rattle.std.specs.Prelude.{◌≡◌, ◌++◌, ◌∷◌, [], length, IfOk, IsTrue, OnErr, OnOk, ◌↔◌};
+
+use std::alloc::{AllocError, AllocFailed, Global};
+use std::marker::Model;
+
+/// A list that owns its memory.
+#[derive(Debug, Drop)]
+pub struct Sequence<T> {
+    items: Vec<T>,
+}
+
+impl<T> Model for Sequence<T> {
+    ghost use Rattle.std.specs.Prelude.{List};
+
+    ghost Value = { List T };
+
+    ghost view = { λ s. s.items.items };
+}
+
+impl<T> Sequence<T> {
+    /// The empty list. Takes no memory.
+    pub fn new(alloc: Global) -> Self
+        ensures { result ≡ [] }
+    {
+        Sequence {
+            items: Vec::new(alloc),
+        }
+    }
+
+    /// The elements of `items`. Takes no memory.
+    pub fn from_vec(items: Vec<T>) -> Self
+        ensures { result ≡ items.items }
+    {
+        Sequence { items }
+    }
+
+    /// The elements as a `Vec`. Takes no memory.
+    pub fn into_vec(self) -> Vec<T>
+        ensures { result.items ≡ self }
+    {
+        let Sequence { items } = self;
+        items
+    }
+
+    /// How many elements the list has.
+    pub fn len(&self) -> usize
+        ensures { result ≡ length self.now }
+    {
+        self.items.len()
+    }
+
+    /// Whether the list has no element.
+    pub fn is_empty(&self) -> bool
+        ensures { IsTrue result ↔ (self.now ≡ []) }
+    {
+        self.items.is_empty()
+    }
+
+    /// The elements in order.
+    pub fn as_slice(&self) -> &[T]
+        ensures { result.now ≡ self.now }
+    {
+        self.items.as_slice()
+    }
+
+    /// Adds an element at the end. An `Err` is want of memory, gives the element back and changes nothing.
+    pub fn push(&mut self, item: T) -> Result<(), AllocFailed<T>>
+        ensures ok { OnOk result (self.new ≡ self.old ++ item ∷ []) }
+        ensures err { OnErr result (self.new ≡ self.old) }
+    {
+        self.items.push(item)?;
+        Ok(())
+    }
+}
+
+/// Bytes that own their memory.
+pub type Text = Sequence<u8>;
+
+impl Sequence<u8> {
+    /// A copy of the bytes.
+    pub fn copied(alloc: Global, bytes: &[u8]) -> Result<Self, AllocError>
+        ensures { IfOk result (λ text. text ≡ bytes.now) }
+    {
+        Ok(Sequence {
+            items: Vec::from_slice(alloc, bytes)?,
+        })
+    }
+}
+
+impl Clone for Sequence<u8> {
+    fn clone(&self) -> Result<Self, AllocError>
+        ensures { IfOk result (λ text. text ≡ self.now) }
+    {
+        let items = self.items.clone()?;
+        Ok(Sequence { items })
+    }
+}
+
+impl PartialEq for Sequence<u8> {
+    ghost use Rattle.std.specs.Prelude.{nat_eq};
+    ghost use Rattle.std.specs.Cmp.Lexicographic.{pointwise};
+    ghost use Rattle.std.specs.Cmp.Rules.{comparing};
+    ghost use Rattle.std.proofs.Common.{rules};
+
+    ghost eq = { pointwise nat_eq };
+
+    ghost laws = { Prim.search (comparing, rules) };
+
+    fn eq(&self, other: &Self) -> bool {
+        self.items == other.items
+    }
+}
+
+impl Eq for Sequence<u8> {
+    ghost use Rattle.std.specs.Cmp.Rules.{comparing};
+    ghost use Rattle.std.proofs.Common.{rules};
+
+    ghost laws = { Prim.search (comparing, rules) };
+}
+
+#[cfg(test)]
+mod tests {
+    use super::*;
+    use std::test::Fail;
+
+    #[test]
+    fn keeps_elements_in_order(rt: HostRuntime) -> Result<(), Fail> {
+        let mut numbers = Sequence::new(rt.alloc());
+        assert!(rt; numbers.is_empty());
+        numbers.push(3)?;
+        numbers.push(5)?;
+        assert_eq!(rt; numbers.len(), 2);
+        assert!(rt; numbers.as_slice() == [3, 5].as_slice());
+        let again = Sequence::from_vec(numbers.into_vec());
+        assert!(rt; again.as_slice() == [3, 5].as_slice());
+        Ok(())
+    }
+
+    #[test]
+    fn compares_bytes(rt: HostRuntime) -> Result<(), Fail> {
+        let text = Text::copied(rt.alloc(), b"java/lang/Object")?;
+        assert!(rt; text == text.clone()?);
+        assert!(rt; text != Text::copied(rt.alloc(), b"java/lang/System")?);
+        Ok(())
+    }
+}
