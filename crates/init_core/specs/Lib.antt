@@ -7,3 +7,4 @@ pub mod ProcedureWord
 pub mod Standing
 pub mod Leads
 pub mod Advance
+pub mod Interleaving

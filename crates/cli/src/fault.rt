@@ -1,0 +1,73 @@
+//! What keeps the program from its work.
+
+ghost use Rattle.std.specs.Prelude.{◌≡◌, ◌≤◌};
+
+use hierarchy::LinkFault;
+use jasmin_reader::ReadFault;
+use std::alloc::{AllocError, AllocFailed};
+use std::io;
+
+/// Why the program stops, once its command line has been read.
+#[derive(Debug, Drop)]
+pub enum Fault<'a> {
+    /// More than 256 files, or one over 1 MiB.
+    Files,
+    /// A file can't be read, or the trace can't be written.
+    Io(&'a str),
+    /// A file isn't in the Jasmin form that is read.
+    Jasmin { file: &'a str, fault: ReadFault },
+    /// The classes can't be linked.
+    Link(LinkFault),
+    /// A main class is unknown, there is none, or there are too many.
+    Mains,
+    /// Want of memory.
+    Memory,
+    /// The output can't be written.
+    Output,
+}
+
+impl From<AllocError> for Fault<'_> {
+    fn from(_e: AllocError) -> Self {
+        Fault::Memory
+    }
+}
+
+impl<T: Drop> From<AllocFailed<T>> for Fault<'_> {
+    fn from(_e: AllocFailed<T>) -> Self {
+        Fault::Memory
+    }
+}
+
+impl Fault<'_> {
+    /// The exit status: 2 for what the user can mend, 3 for what the machine refused.
+    pub fn status(&self) -> u8
+        ensures { result ≤ 3 }
+    {
+        match self {
+            Fault::Files | Fault::Jasmin { .. } | Fault::Link(_) | Fault::Mains => 2,
+            Fault::Io(_) | Fault::Memory | Fault::Output => 3,
+        }
+    }
+
+    /// Writes the one line that tells of the fault.
+    pub fn tell<W: io::Write>(&self, err: &mut W) -> io::Result<()> {
+        match self {
+            Fault::Files => writeln!(err, "cli: files"),
+            Fault::Io(name) => writeln!(err, "io: {name}"),
+            Fault::Jasmin { file, fault } => {
+                let line = fault.line;
+                let kind = fault.kind;
+                writeln!(err, "{file}:{line}: {kind}")
+            }
+            Fault::Link(fault) => {
+                let kind = fault.kind;
+                write!(err, "link: {kind} ")?;
+                err.write_all(fault.class.as_slice())?;
+                writeln!(err)
+            }
+            Fault::Mains => writeln!(err, "cli: mains"),
+            Fault::Memory => writeln!(err, "memory"),
+            Fault::Output => writeln!(err, "io: output"),
+        }
+    }
+}

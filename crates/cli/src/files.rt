@@ -1,0 +1,90 @@
+//! Files by name.
+
+ghost use Rattle.std.specs.Prelude.{◌≤◌, vec_len, IfOk};
+
+use crate::fault::Fault;
+use jasmin_reader::read_class;
+use jasmin_text::{ClassText, FaultKind};
+use std::alloc::Global;
+
+/// How many files a program may have.
+pub const MOST_FILES: usize = 256;
+
+/// How many bytes a Jasmin file may have: 1 MiB.
+pub const MOST_BYTES: usize = 1_048_576;
+
+/// Why a file by name can't be read or written.
+#[derive(Clone, Copy, Debug, PartialEq, Eq)]
+pub enum NamedFault {
+    /// The file's own fault: it isn't there, can't be read, or can't be written.
+    Io,
+    /// Want of memory.
+    Memory,
+}
+
+/// Something that reads and writes files by name.
+pub trait Named {
+    /// The first bytes of a file, at most `most` of them.
+    fn read(&mut self, alloc: Global, name: &str, most: usize) -> Result<Vec<u8>, NamedFault>
+        ensures { IfOk result (λ bytes. vec_len bytes ≤ most) };
+
+    /// Makes a file of these bytes, in the place of what stood there.
+    fn write(&mut self, name: &str, bytes: &[u8]) -> Result<(), NamedFault>;
+}
+
+fn fault_of(fault: NamedFault, name: &str) -> Fault<'_> {
+    match fault {
+        NamedFault::Io => Fault::Io(name),
+        NamedFault::Memory => Fault::Memory,
+    }
+}
+
+/// The class text of a file.
+fn read_text<'a, N: Named>(
+    alloc: Global,
+    named: &mut N,
+    file: &'a str,
+) -> Result<ClassText, Fault<'a>> {
+    let bytes = match named.read(alloc, file, MOST_BYTES + 1) {
+        Ok(bytes) => bytes,
+        Err(fault) => return Err(fault_of(fault, file)),
+    };
+    if bytes.len() > MOST_BYTES {
+        return Err(Fault::Files);
+    }
+    match read_class(alloc, &bytes) {
+        Ok(text) => Ok(text),
+        Err(fault) => match fault.kind {
+            FaultKind::NoMemory => Err(Fault::Memory),
+            _ => Err(Fault::Jasmin { file, fault }),
+        },
+    }
+}
+
+/// The class texts of all files, one after the other.
+pub(crate) fn read_texts<'a, N: Named>(
+    alloc: Global,
+    named: &mut N,
+    files: &[&'a str],
+) -> Result<Vec<ClassText>, Fault<'a>> {
+    if files.len() > MOST_FILES {
+        return Err(Fault::Files);
+    }
+    let mut texts = Vec::new(alloc);
+    for file in files {
+        texts.push(read_text(alloc, named, file)?)?;
+    }
+    Ok(texts)
+}
+
+/// Writes the trace file.
+pub(crate) fn write_named<'a, N: Named>(
+    named: &mut N,
+    name: &'a str,
+    bytes: &[u8],
+) -> Result<(), Fault<'a>> {
+    match named.write(name, bytes) {
+        Ok(()) => Ok(()),
+        Err(fault) => Err(fault_of(fault, name)),
+    }
+}

@@ -1,0 +1,18 @@
+//! The program's body: what the words of its command line ask for, done over files by name.
+//!
+//! Enter by [`serve`]: it takes the words, something that reads and writes files by name ([`Named`]) and two
+//! writers, does all that the program does, and answers the exit status. The program itself only hands in the
+//! machine's files and streams, so that each of its runs is also a test over files in memory.
+#![tactic(auto)]
+
+pub mod fault;
+pub mod files;
+pub mod ordered;
+pub mod serving;
+pub mod words;
+
+pub use fault::Fault;
+pub use files::{Named, NamedFault};
+pub use ordered::run_ordered;
+pub use serving::serve;
+pub use words::{Run, parse};

@@ -1,0 +1,121 @@
+//! The program's body.
+
+ghost use Rattle.std.specs.Prelude.{◌≤◌, ◌<◌, IfOk, IfSome, length};
+ghost use Rattle.cli.specs.Served.{IsLegalRun};
+
+use crate::fault::Fault;
+use crate::files::{Named, read_texts, write_named};
+use crate::ordered::run_ordered;
+use crate::words::{Run, parse};
+use clap::error::ErrorKind;
+use hierarchy::{ClassId, Program, link};
+use jasmin_text::ClassText;
+use std::alloc::Global;
+use std::io;
+use trace::{Report, write_trace};
+
+/// The one main class of the program that `--mains` names.
+fn main_of(program: &Program, mains: Option<&str>) -> Option<ClassId>
+    ensures { IfSome result (λ main. main.number < length program.now.classes) }
+{
+    let name = mains?;
+    let main = program.class_named(name.as_bytes())?;
+    if main.number < program.len() {
+        Some(main)
+    } else {
+        None
+    }
+}
+
+/// A program and what its run was.
+#[derive(Drop)]
+struct Ran {
+    program: Program,
+    report: Report,
+}
+
+/// Links the classes and runs their main class.
+fn run_texts<'a>(
+    alloc: Global,
+    texts: Vec<ClassText>,
+    mains: Option<&str>,
+) -> Result<Ran, Fault<'a>>
+    ensures { IfOk result (λ ran. IsLegalRun ran.program ran.report) }
+{
+    let program = match link(alloc, texts) {
+        Ok(program) => program,
+        Err(fault) => return Err(Fault::Link(fault)),
+    };
+    let Some(main) = main_of(&program, mains) else {
+        return Err(Fault::Mains);
+    };
+    let report = run_ordered(alloc, &program, main)?;
+    Ok(Ran { program, report })
+}
+
+/// Runs what the words ask for, and writes the output and the trace.
+fn run<'a, N: Named, O: io::Write>(
+    alloc: Global,
+    run: &Run<'a>,
+    named: &mut N,
+    out: &mut O,
+) -> Result<(), Fault<'a>> {
+    let texts = read_texts(alloc, named, &run.files)?;
+    let ran = run_texts(alloc, texts, run.mains)?;
+    if out.write_all(ran.report.output.as_slice()).is_err() || out.flush().is_err() {
+        return Err(Fault::Output);
+    }
+    if let Some(name) = run.trace {
+        let text = write_trace(alloc, &ran.program, ran.report.events.as_slice())?;
+        write_named(named, name, &text)?;
+    }
+    Ok(())
+}
+
+/// Tells why the words ask for nothing that can be done, or shows the help that they ask for.
+fn tell_words<O: io::Write, E: io::Write>(error: &clap::Error, out: &mut O, err: &mut E) -> u8
+    ensures { result ≤ 3 }
+{
+    if let ErrorKind::OutOfMemory = error.kind() {
+        let _ = Fault::Memory.tell(err);
+        return 3;
+    }
+    if error.use_stderr() {
+        let _ = write!(err, "{error}");
+        return 2;
+    }
+    if write!(out, "{error}").is_err() || out.flush().is_err() {
+        let _ = Fault::Output.tell(err);
+        return 3;
+    }
+    0
+}
+
+/// Does what the words of a command line ask for, and answers the exit status. The first word is the
+/// program's name.
+///
+/// Files are read and written by name through `named`, the output goes to `out`, and what went wrong to
+/// `err`, in one line. The status is 0 where all threads ended normally, 2 where the words, the files or the
+/// classes are at fault, and 3 where memory, a file or the output was refused; nothing further is written
+/// then.
+pub fn serve<N: Named, O: io::Write, E: io::Write>(
+    alloc: Global,
+    words: &[&str],
+    named: &mut N,
+    out: &mut O,
+    err: &mut E,
+) -> u8
+    ensures { result ≤ 3 }
+{
+    let asked = match parse(alloc, words) {
+        Ok(asked) => asked,
+        Err(error) => return tell_words(&error, out, err),
+    };
+    match run(alloc, &asked, named, out) {
+        Ok(()) => 0,
+        Err(fault) => {
+            let _ = fault.tell(err);
+            fault.status()
+        }
+    }
+}

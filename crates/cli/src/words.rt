@@ -1,0 +1,68 @@
+//! The words of the command line.
+
+use clap::{Arg, ArgAction, Command, Error};
+use std::alloc::{AllocError, Global};
+
+/// What `jinit run` asks for.
+#[derive(Debug, Drop)]
+pub struct Run<'a> {
+    /// The text of `--mains`: main classes, parted by commas.
+    pub mains: Option<&'a str>,
+    /// The text of `--trace`: the file that the trace is written to.
+    pub trace: Option<&'a str>,
+    /// The Jasmin files, in order.
+    pub files: Vec<&'a str>,
+}
+
+/// The program's command line.
+fn command<'a>(alloc: Global) -> Result<Command<'a>, AllocError> {
+    let mains = Arg::new(alloc, "mains")
+        .long("mains")
+        .value_name("CLASSES")
+        .help("Main classes, one thread each, parted by commas");
+    let trace = Arg::new(alloc, "trace")
+        .long("trace")
+        .value_name("FILE")
+        .help("Writes every initialization step to FILE");
+    let files = Arg::new(alloc, "files")
+        .value_name("FILES")
+        .help("Jasmin files, one class each")
+        .action(ArgAction::Append)
+        .num_args(0..);
+    let run = Command::new(alloc, "run")
+        .about("Runs each main class on a thread of its own")
+        .arg(mains)?
+        .arg(trace)?
+        .arg(files)?;
+    Command::new(alloc, "jinit")
+        .about("Initializes Java classes as JLS SE 8 12.4.2 demands, and tells each step")
+        .version("0.1.0")
+        .subcommand_required(true)
+        .subcommand(run)
+}
+
+/// What the words ask for; the first word is the program's name.
+///
+/// An `Err` is a fault of the command line, or asks for help or the version: its text says which. Want of
+/// memory is a kind of its own there.
+pub fn parse<'a>(alloc: Global, words: &'a [&'a str]) -> Result<Run<'a>, Error> {
+    let matches = command(alloc)?.try_get_matches_from(words)?;
+    let mut files = Vec::new(alloc);
+    let Some(run) = matches.subcommand_matches("run") else {
+        return Ok(Run {
+            mains: None,
+            trace: None,
+            files,
+        });
+    };
+    if let Some(names) = run.get_strs("files") {
+        for name in names {
+            files.push(*name)?;
+        }
+    }
+    Ok(Run {
+        mains: run.get_str("mains"),
+        trace: run.get_str("trace"),
+        files,
+    })
+}

@@ -1,0 +1,60 @@
+//! The program `jinit`: the machine's words, files and streams, handed to [`cli::serve`].
+#![tactic(auto)]
+
+ghost use Rattle.std.specs.Prelude.{◌≤◌, vec_len, IfOk};
+
+use cli::{Named, NamedFault, serve};
+use std::alloc::Global;
+use std::fs::File;
+use std::io::{Read, Write};
+use std::process::ExitCode;
+use std::rt::Files;
+use std::{env, fs, io};
+
+/// The machine's files.
+#[derive(Drop)]
+struct MachineFiles<'a, R> {
+    rt: &'a R,
+}
+
+fn fault_of(error: &io::Error) -> NamedFault {
+    match error.kind() {
+        io::ErrorKind::OutOfMemory => NamedFault::Memory,
+        _ => NamedFault::Io,
+    }
+}
+
+impl<R: Files> Named for MachineFiles<'_, R> {
+    fn read(&mut self, alloc: Global, name: &str, most: usize) -> Result<Vec<u8>, NamedFault> {
+        let file = match File::open(self.rt, name) {
+            Ok(file) => file,
+            Err(error) => return Err(fault_of(&error)),
+        };
+        let mut bytes = Vec::new(alloc);
+        match file.take(most as u64).read_to_end(&mut bytes) {
+            Ok(_) => {
+                bytes.truncate(most);
+                Ok(bytes)
+            }
+            Err(error) => Err(fault_of(&error)),
+        }
+    }
+
+    fn write(&mut self, name: &str, bytes: &[u8]) -> Result<(), NamedFault> {
+        match fs::write(self.rt, name, bytes) {
+            Ok(()) => Ok(()),
+            Err(error) => Err(fault_of(&error)),
+        }
+    }
+}
+
+fn main(rt: HostRuntime) -> io::Result<ExitCode> {
+    let alloc = rt.alloc();
+    let args: Vec<String> = env::args(&rt)?.collect(alloc)?;
+    let words: Vec<&str> = args.iter().map(|word| word.as_str()).collect(alloc)?;
+    let mut files = MachineFiles { rt: &rt };
+    let mut out = rt.stdout();
+    let mut err = rt.stderr();
+    let status = serve(alloc, &words, &mut files, &mut out, &mut err);
+    Ok(ExitCode::from(status))
+}
