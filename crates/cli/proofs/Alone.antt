@@ -40,5 +40,5 @@ thread_word p m e (suc t) = none_by m (eqb 0 (suc t)) (other t)
 pub alone_is_legal : (p : LinkedProgram) (m : ClassId) → needs p m ≡ [] → IsLegal p (m ∷ []) (alone m)
 alone_is_legal p m e = record {
   threads = λ t. thread_word p m e t;
-  classes = λ c. lawful_by m (eqb m.number c.number)
+  classes = λ c. lawful_by m (eqb m.number c.number);
 }

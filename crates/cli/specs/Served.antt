@@ -1,15 +1,14 @@
 -- What the program does with class texts.
 use Rattle.std.specs.Prelude.{◌≡◌, List, [], ◌∷◌}
-use Rattle.std.specs.List.{AllByRecursion}
 use Rattle.hierarchy.specs.declared.class.ClassId.{ClassId}
 use Rattle.hierarchy.specs.LinkedProgram.{LinkedProgram}
 use Rattle.init_core.specs.Interleaving.{IsLegal, labels_of}
 use Rattle.trace.specs.declared.report.Report.{Report}
-use Rattle.trace.specs.TraceText.{IsStep}
+use Rattle.trace.specs.TraceText.{AreSteps}
 
 -- the report is of a legal interleaving of the program and its main class, with each class's label
 pub record IsLegalRun (p : LinkedProgram) (r : Report) : Type 0 where
   pub main : ClassId
   pub legal : IsLegal p (main ∷ []) r.events
   pub labels : r.labels ≡ labels_of p r.events
-  pub steps : AllByRecursion IsStep r.events
+  pub steps : AreSteps r.events

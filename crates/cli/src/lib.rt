@@ -16,3 +16,6 @@ pub use files::{Named, NamedFault};
 pub use ordered::run_ordered;
 pub use serving::serve;
 pub use words::{Run, parse};
+
+#[cfg(test)]
+mod tests;

@@ -28,11 +28,7 @@ fn event_of(class: ClassId, kind: Kind) -> Event
 ///
 /// The class has no initializer and no `main` of its own, so that both bodies are empty. An `Err` is want of
 /// memory.
-pub fn run_ordered(
-    alloc: Global,
-    program: &Program,
-    main: ClassId,
-) -> Result<Report, AllocError>
+pub fn run_ordered(alloc: Global, program: &Program, main: ClassId) -> Result<Report, AllocError>
     requires one_class { length program.now.classes ≡ 1 }
     requires main { main.number < length program.now.classes }
     requires alone { needs program.now main ≡ [] }

@@ -16,9 +16,9 @@ is_reserved name = starts_with nat_eq name (codes "java/")
 -- what is wrong with a class that is linked alone: its own name first, then its superclass
 abbrev pub fault_of : ClassText → Option LinkFaultKind
 fault_of t =
-  if is_reserved t.name then Some ReservedName
-  else if not (bytes_eq t.superclass (codes "java/lang/Object")) then Some UnknownSupertype
-  else None
+    if is_reserved t.name then Some ReservedName
+    else if not (bytes_eq t.superclass (codes "java/lang/Object")) then Some UnknownSupertype
+    else None
 
 abbrev pub fault : LinkFaultKind → List ℕ → LinkFault
 fault k name = record { kind = k; class = name }

@@ -96,7 +96,10 @@ mod tests {
             (BuiltIn::Object, b"java/lang/Object".as_slice()),
             (BuiltIn::PrintStream, b"java/io/PrintStream"),
             (BuiltIn::Error, b"java/lang/Error"),
-            (BuiltIn::NoClassDefFoundError, b"java/lang/NoClassDefFoundError"),
+            (
+                BuiltIn::NoClassDefFoundError,
+                b"java/lang/NoClassDefFoundError",
+            ),
             (BuiltIn::OutOfMemoryError, b"java/lang/OutOfMemoryError"),
             (BuiltIn::InternalError, b"java/lang/InternalError"),
         ];

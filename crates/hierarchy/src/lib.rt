@@ -10,13 +10,14 @@
 pub mod built_in;
 pub mod class;
 pub mod linking;
-
 pub mod program;
 pub mod value;
 
 pub use built_in::BuiltIn;
 pub use class::{Class, ClassId};
-pub use linking::{link, LinkFault, LinkFaultKind};
-
+pub use linking::{LinkFault, LinkFaultKind, link};
 pub use program::Program;
 pub use value::Value;
+
+#[cfg(test)]
+mod tests;

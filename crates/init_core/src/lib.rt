@@ -15,10 +15,11 @@
 
 pub mod event;
 pub mod procedure;
-
 pub mod record;
 
 pub use event::{Decision, Event, Kind, Label};
 pub use procedure::{Answer, Completed, Ending, Frame, Next, Outcome, Phase, Procedure};
-
 pub use record::ClassRecord;
+
+#[cfg(test)]
+mod tests;

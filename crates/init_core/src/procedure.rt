@@ -13,8 +13,7 @@ ghost use Rattle.init_core.specs.ProcedureWord.{GoesOn, given_up, completed};
 ghost use Rattle.init_core.specs.Leads.{LeadsTo, standing, frame, outcome_of};
 ghost use Rattle.init_core.specs.Advance.{next_of, next_in, innermost_class, Fits, asked, events_of, advanced, decided, after_needs, after_word, after_end, after_body, after_give_up, started, started_frames, requested, is_given_up, ending_of, IsAtBody, IsAtLook, IsAtEnd};
 
-use crate::event::Decision;
-use crate::event::Event;
+use crate::event::{Decision, Event};
 use hierarchy::{BuiltIn, ClassId, Program};
 use init_order::needs;
 use std::alloc::{AllocError, Global};
@@ -246,10 +245,12 @@ fn close(frames: &mut Vec<Frame>, class: ClassId, outcome: Outcome) -> Option<Co
 {
     match pop_frame(frames) {
         None => Some(Completed { class, outcome }),
-        Some(Frame {
-            class: outer,
-            phase: Phase::Needing(pending),
-        }) => {
+        Some(
+            Frame {
+                class: outer,
+                phase: Phase::Needing(pending),
+            },
+        ) => {
             match outcome {
                 Outcome::Normal => open_need(frames, outer, pending),
                 Outcome::Abrupt(throwable) => fail_need(frames, outer, throwable, false),
@@ -384,12 +385,7 @@ impl Procedure {
         Ok(self.next())
     }
 
-    fn step(
-        &mut self,
-        alloc: Global,
-        program: &Program,
-        answer: Answer,
-    ) -> Result<(), AllocError>
+    fn step(&mut self, alloc: Global, program: &Program, answer: Answer) -> Result<(), AllocError>
         requires { Fits program.now self.old answer }
         ensures standing { OnOk result (self.new ≡ advanced program.now self.old answer) }
         ensures err { OnErr result (self.new ≡ self.old) }
@@ -488,10 +484,12 @@ impl Procedure {
         ensures { self.new ≡ after_end self.old.frames }
     {
         match pop_frame(&mut self.frames) {
-            Some(Frame {
-                class,
-                phase: Phase::EndingBy { ending, by_machine },
-            }) => {
+            Some(
+                Frame {
+                    class,
+                    phase: Phase::EndingBy { ending, by_machine },
+                },
+            ) => {
                 let outcome = outcome_after(ending, by_machine);
                 self.last = close(&mut self.frames, class, outcome);
             }

@@ -105,7 +105,11 @@ impl ClassRecord {
         ensures first { IfOk result (λ d. (d ≡ decision.Wait true) → (waits thread self.old.events ≡ false)) }
         ensures err { OnErr result (self.new ≡ self.old) }
     {
-        let decision = decision_at(self.label, thread, waits_in(self.history.as_slice(), thread));
+        let decision = decision_at(
+            self.label,
+            thread,
+            waits_in(self.history.as_slice(), thread),
+        );
         if let Decision::Wait { first: false } = decision {
             return Ok(decision);
         }

@@ -100,7 +100,11 @@ fn superclass_first(
 }
 
 /// What a class with these supertypes needs.
-fn needs_of_class(alloc: Global, program: &Program, class: &Class) -> Result<Vec<ClassId>, AllocError>
+fn needs_of_class(
+    alloc: Global,
+    program: &Program,
+    class: &Class,
+) -> Result<Vec<ClassId>, AllocError>
     ensures { IfOk result (λ found. found.items ≡ needs_by program.now class.now kind.Class) }
 {
     let mut found = superclass_first(alloc, program, class.superclass)?;
@@ -128,5 +132,36 @@ pub fn needs(alloc: Global, program: &Program, id: ClassId) -> Result<Vec<ClassI
             ClassKind::Interface => Ok(Vec::new(alloc)),
             ClassKind::Class => needs_of_class(alloc, program, class),
         },
+    }
+}
+
+#[cfg(test)]
+mod tests {
+    use super::*;
+    use hierarchy::{BuiltIn, link};
+    use jasmin_text::{ClassText, OBJECT};
+    use sequence::Text;
+    use std::test::Fail;
+
+    #[test]
+    fn a_class_alone_needs_nothing(rt: HostRuntime) -> Result<(), Fail> {
+        let alloc = rt.alloc();
+        for kind in [ClassKind::Class, ClassKind::Interface] {
+            let text = ClassText {
+                kind,
+                name: Text::copied(alloc, b"Solo")?,
+                superclass: Text::copied(alloc, OBJECT)?,
+            };
+            match link(alloc, vec![in alloc; text]?) {
+                Ok(program) => {
+                    let needed = needs(alloc, &program, ClassId { number: 0 })?;
+                    assert!(rt; needed.is_empty());
+                    let object = program.built_in(BuiltIn::Object);
+                    assert!(rt; needs(alloc, &program, object)?.is_empty());
+                }
+                Err(_) => assert!(rt; false),
+            }
+        }
+        Ok(())
     }
 }

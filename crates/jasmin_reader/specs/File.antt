@@ -47,7 +47,7 @@ unfoldable pub finished : Header → Result ClassText ReadFault
 finished h = elim h.class [
   | None ↦ Err (fault_at fault.Misplaced 1)
   | Some c ↦ Ok (record { kind = c.0; name = c.1; superclass = unwrap_or h.superclass object_name })
-  ]
+]
 
 -- what the next line gives, and the lines behind it
 abbrev pub then_lines : ℕ → (Header → Result ClassText ReadFault) → Result Header FaultKind → Result ClassText ReadFault

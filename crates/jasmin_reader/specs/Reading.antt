@@ -53,14 +53,14 @@ unfoldable pub makes_interface : List ℕ → Result Bool FaultKind
 makes_interface w = elim (access_at w) [
   | None ↦ Err fault.BadOperand
   | Some a ↦ elim a [ access.LeftOut ↦ Err fault.LeftOut | access.Interface ↦ Ok true | access.Taken ↦ Ok false ]
-  ]
+]
 
 -- a word in the name's place; whether a word is an access word is decided first
 unfoldable pub name_in : List ℕ → Result (List ℕ) FaultKind
 name_in w = elim (access_at w) [
   | None ↦ if is_class_name w then Ok w else Err fault.BadOperand
   | Some a ↦ elim a [ access.LeftOut ↦ Err fault.LeftOut | access.Interface ↦ Err fault.BadOperand | access.Taken ↦ Err fault.BadOperand ]
-  ]
+]
 
 -- a class's name, and whether a word before it makes it an interface
 pub record Named : Type 0 where
@@ -80,14 +80,14 @@ kind_of false = Class
 -- .class: the first such line
 unfoldable pub class_line : Header → List Item → Result Header FaultKind
 class_line h ts =
-  if is_some h.class then Err fault.Misplaced
-  else named_from false ts >>= λ n. Ok (record h { class = Some (kind_of n.is_interface, n.name) })
+    if is_some h.class then Err fault.Misplaced
+    else named_from false ts >>= λ n. Ok (record h { class = Some (kind_of n.is_interface, n.name) })
 
 -- .super: the first such line, behind .class
 unfoldable pub super_line : Header → List Item → Result Header FaultKind
 super_line h ts =
-  if is_none h.class || is_some h.superclass then Err fault.Misplaced
-  else word_from ts >>= λ w. if is_class_name w.0 then (ended_at w.1 >>= λ _. Ok (record h { superclass = Some w.0 })) else Err fault.BadOperand
+    if is_none h.class || is_some h.superclass then Err fault.Misplaced
+    else word_from ts >>= λ w. if is_class_name w.0 then (ended_at w.1 >>= λ _. Ok (record h { superclass = Some w.0 })) else Err fault.BadOperand
 
 -- what a line adds
 unfoldable pub line_at : Header → List Item → Result Header FaultKind
@@ -95,6 +95,6 @@ line_at h [] = Ok h
 line_at h (Word w ∷ rest) = elim (directive_at w) [
   | None ↦ Err fault.LeftOut
   | Some d ↦ elim d [ directive.Class ↦ class_line h rest | directive.Super ↦ super_line h rest | directive.Skipped ↦ Ok h ]
-  ]
+]
 line_at h (BadByte ∷ rest) = Err fault.BadByte
 line_at h (other ∷ rest) = Err fault.LeftOut

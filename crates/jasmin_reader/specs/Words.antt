@@ -46,12 +46,12 @@ word_at bytes = ((if list_all is_plain (take (word_len bytes) bytes) then Word (
 unfoldable pub token_at : Bool → List ℕ → Option (Item × List ℕ)
 token_at fresh [] = None
 token_at fresh (b ∷ bs) =
-  if is_blank b then token_at true bs
-  else if b == 59 && fresh then None
-  else if b == 61 then Some (Sign, bs)
-  else if b == 58 then Some (Sign, bs)
-  else if b == 34 then Some (Quote, [])
-  else Some (word_at (b ∷ bs))
+    if is_blank b then token_at true bs
+    else if b == 59 && fresh then None
+    else if b == 61 then Some (Sign, bs)
+    else if b == 58 then Some (Sign, bs)
+    else if b == 34 then Some (Quote, [])
+    else Some (word_at (b ∷ bs))
 
 -- what comes behind the next word
 abbrev pub after_token : (List ℕ → List Item) → Option (Item × List ℕ) → List Item

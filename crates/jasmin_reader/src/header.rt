@@ -5,9 +5,9 @@ ghost use Rattle.jasmin_reader.specs.Words.{view, views};
 ghost use Rattle.jasmin_reader.specs.Reading.{Gives, misplaced, word_of, word_from, ended_at, makes_interface, name_in, named_from, class_line, super_line, line_at};
 
 use crate::fault::ReadError;
-use crate::table::{access_of, directive_of, Access, Directive};
+use crate::table::{Access, Directive, access_of, directive_of};
 use crate::words::Token;
-use jasmin_text::{is_class_name, ClassKind, FaultKind};
+use jasmin_text::{ClassKind, FaultKind, is_class_name};
 use sequence::Text;
 use std::alloc::Global;
 

@@ -20,3 +20,6 @@ mod words;
 
 pub use fault::ReadFault;
 pub use file::read_class;
+
+#[cfg(test)]
+mod tests;

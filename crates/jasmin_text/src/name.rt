@@ -9,10 +9,7 @@ fn is_segment_byte(byte: u8) -> bool
 {
     32 < byte
         && byte < 127
-        && !matches!(
-            byte,
-            b'.' | b';' | b':' | b'=' | b'"' | b'[' | b'(' | b')'
-        )
+        && !matches!(byte, b'.' | b';' | b':' | b'=' | b'"' | b'[' | b'(' | b')')
 }
 
 /// Whether the bytes are the internal name of a class: segments parted by `/`, none of them empty, of
@@ -49,7 +46,19 @@ mod tests {
         for name in [b"A".as_slice(), b"java/lang/Object", b"a/b$1", b"<x>", b"1"] {
             assert!(rt; is_class_name(name));
         }
-        for name in [b"".as_slice(), b"/", b"/A", b"A/", b"a//b", b"a.b", b"a;", b"[I", b"a b", b"\x7f", b"\xc3"] {
+        for name in [
+            b"".as_slice(),
+            b"/",
+            b"/A",
+            b"A/",
+            b"a//b",
+            b"a.b",
+            b"a;",
+            b"[I",
+            b"a b",
+            b"\x7f",
+            b"\xc3",
+        ] {
             assert!(rt; !is_class_name(name));
         }
     }

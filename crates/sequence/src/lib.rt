@@ -52,6 +52,11 @@ impl<T> Sequence<T> {
         items
     }
 
+    /// The allocator that the list takes its memory from.
+    pub fn allocator(&self) -> Global {
+        *self.items.allocator()
+    }
+
     /// How many elements the list has.
     pub fn len(&self) -> usize
         ensures { result ≡ length self.now }

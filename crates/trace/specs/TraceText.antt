@@ -1,5 +1,6 @@
 -- The text of a trace: a line an event, numbered from 0, words parted by one space.
-use Rattle.std.specs.Prelude.{◌≢◌, ℕ, ◌+◌, List, [], ◌∷◌, ◌++◌, Option, Some, None, codes, decimal, unwrap_or}
+use Rattle.std.specs.Prelude.{ℕ, ◌+◌, Bool, IsTrue, nat_lt, List, [], ◌∷◌, ◌++◌, Option, Some, None, codes, decimal, unwrap_or}
+use Rattle.std.specs.List.{list_all}
 use Rattle.hierarchy.specs.declared.class.ClassId.{ClassId}
 use Rattle.hierarchy.specs.LinkedProgram.{LinkedProgram, name_at}
 use Rattle.init_core.specs.declared.event.Event.{Event}
@@ -22,8 +23,12 @@ step_of (kind.Gets field value) = 0
 step_of (kind.Puts field value) = 0
 step_of (kind.Prints text) = 0
 
-abbrev pub IsStep : Event → Type 0
-IsStep e = step_of e.kind ≢ 0
+-- whether an event is one of the steps
+abbrev pub is_step : Event → Bool
+is_step e = nat_lt 0 (step_of e.kind)
+
+abbrev pub AreSteps : List Event → Type 0
+AreSteps events = IsTrue (list_all is_step events)
 
 abbrev pub class_text : LinkedProgram → ClassId → List ℕ
 class_text p c = unwrap_or (name_at p c) []

@@ -9,3 +9,6 @@ pub mod text;
 
 pub use report::{Limit, Limits, Report, ThreadOutcome};
 pub use text::write_trace;
+
+#[cfg(test)]
+mod tests;

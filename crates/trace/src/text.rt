@@ -1,8 +1,7 @@
 //! A trace as text.
 
 ghost use Rattle.std.specs.Prelude.{◌≡◌, ◌++◌, IfOk, OnOk, OnErr};
-ghost use Rattle.std.specs.List.{AllByRecursion};
-ghost use Rattle.trace.specs.TraceText.{IsStep, step_of, class_text, event_class_text, throwable_text, head, line, trace_of};
+ghost use Rattle.trace.specs.TraceText.{AreSteps, step_of, class_text, event_class_text, throwable_text, head, line, trace_of};
 ghost use Rattle.init_core.specs.Label.{throwable_of};
 
 use hierarchy::{ClassId, Program};
@@ -38,12 +37,7 @@ fn throwable_in(kind: &Kind) -> Option<ClassId>
 }
 
 /// The number, the thread and the step of a line.
-fn write_head(
-    out: &mut Vec<u8>,
-    number: usize,
-    thread: usize,
-    step: u8,
-) -> Result<(), AllocError>
+fn write_head(out: &mut Vec<u8>, number: usize, thread: usize, step: u8) -> Result<(), AllocError>
     ensures { OnOk result (out.new.items ≡ out.old.items ++ head number thread step) }
 {
     let mut digits = Buffer::new();
@@ -115,7 +109,7 @@ pub fn write_trace(
     program: &Program,
     events: &[Event],
 ) -> Result<Vec<u8>, AllocError>
-    requires { AllByRecursion IsStep events.now }
+    requires { AreSteps events.now }
     ensures { IfOk result (λ text. text.items ≡ trace_of program.now events.now) }
 {
     let mut out = Vec::new(alloc);

@@ -8,4 +8,4 @@ returns-then-depth-eq0 t c = rw (flat_map-enumeration_within-zero c.args.program
 pub loop-id-preserved : goal.loop-id-preserved
 loop-id-preserved t c =
     enumerated c.args.program.now c.args.depth c.loop-id.found.items c.enumerate.new.found.items c.push.new.self.items _ c.args.ids.now c.loop-id.id-index (record { number = 0 })
-      (omega arith) c.loop-id-test.true (rw (← c.interfaces.ensures) c.in_ok-enumerate.ensures) c.in_ok-push.ensures.items c.loop-id.invariant
+    (omega arith) c.loop-id-test.true (rw (← c.interfaces.ensures) c.in_ok-enumerate.ensures) c.in_ok-push.ensures.items c.loop-id.invariant

@@ -1,0 +1,5 @@
+pub mod ClassNames
+pub mod Steps
+pub mod Parameters
+pub mod FieldLaws
+pub mod MethodLaws

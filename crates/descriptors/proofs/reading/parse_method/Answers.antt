@@ -1,0 +1,8 @@
+use Rattle.descriptors.proofs.MethodLaws.{is_found, is_only}
+use Rattle.descriptors.proofs.reading.parse_method.Goals as goal
+
+pub returns-clause-found : goal.returns-clause-found
+returns-clause-found c = is_found c.args.bytes.now c.whole_method.result c.whole_method.ensures
+
+pub returns-clause-only : goal.returns-clause-only
+returns-clause-only c = is_only c.args.bytes.now c.whole_method.result c.whole_method.ensures

@@ -1,0 +1,2 @@
+.class public Solo
+.super java/lang/Object
