@@ -4,7 +4,8 @@ ghost use Rattle.std.specs.Prelude.{◌≤◌, vec_len, IfOk};
 
 use crate::fault::Fault;
 use jasmin_reader::read_class;
-use jasmin_text::{ClassText, FaultKind};
+use jasmin_text::ClassText;
+use jasmin_words::FaultKind;
 use std::alloc::Global;
 
 /// How many files a program may have.

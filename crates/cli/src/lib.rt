@@ -7,6 +7,7 @@
 
 pub mod fault;
 pub mod files;
+pub mod needed;
 pub mod ordered;
 pub mod serving;
 pub mod words;
@@ -15,7 +16,8 @@ pub use fault::Fault;
 pub use files::{Named, NamedFault};
 pub use ordered::run_ordered;
 pub use serving::serve;
-pub use words::{Run, parse};
+pub use needed::write_needs;
+pub use words::{Asked, Run, parse};
 
 #[cfg(test)]
 mod tests;

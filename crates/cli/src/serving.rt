@@ -6,7 +6,8 @@ ghost use Rattle.cli.specs.Served.{IsLegalRun};
 use crate::fault::Fault;
 use crate::files::{Named, read_texts, write_named};
 use crate::ordered::run_ordered;
-use crate::words::{Run, parse};
+use crate::needed::write_needs;
+use crate::words::{Asked, Run, parse};
 use clap::error::ErrorKind;
 use hierarchy::{ClassId, Program, link};
 use jasmin_text::ClassText;
@@ -72,6 +73,38 @@ fn run<'a, N: Named, O: io::Write>(
     Ok(())
 }
 
+/// Writes what each class of the files needs.
+fn tell_needs<'a, N: Named, O: io::Write>(
+    alloc: Global,
+    files: &[&'a str],
+    named: &mut N,
+    out: &mut O,
+) -> Result<(), Fault<'a>> {
+    let texts = read_texts(alloc, named, files)?;
+    let program = match link(alloc, texts) {
+        Ok(program) => program,
+        Err(fault) => return Err(Fault::Link(fault)),
+    };
+    let text = write_needs(alloc, &program)?;
+    if out.write_all(&text).is_err() || out.flush().is_err() {
+        return Err(Fault::Output);
+    }
+    Ok(())
+}
+
+/// Does what the words ask for.
+fn answer<'a, N: Named, O: io::Write>(
+    alloc: Global,
+    asked: &Asked<'a>,
+    named: &mut N,
+    out: &mut O,
+) -> Result<(), Fault<'a>> {
+    match asked {
+        Asked::Run(words) => run(alloc, words, named, out),
+        Asked::Needs(files) => tell_needs(alloc, files, named, out),
+    }
+}
+
 /// Tells why the words ask for nothing that can be done, or shows the help that they ask for.
 fn tell_words<O: io::Write, E: io::Write>(error: &clap::Error, out: &mut O, err: &mut E) -> u8
     ensures { result ≤ 3 }
@@ -111,7 +144,7 @@ pub fn serve<N: Named, O: io::Write, E: io::Write>(
         Ok(asked) => asked,
         Err(error) => return tell_words(&error, out, err),
     };
-    match run(alloc, &asked, named, out) {
+    match answer(alloc, &asked, named, out) {
         Ok(()) => 0,
         Err(fault) => {
             let _ = fault.tell(err);

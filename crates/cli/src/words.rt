@@ -1,6 +1,6 @@
 //! The words of the command line.
 
-use clap::{Arg, ArgAction, Command, Error};
+use clap::{Arg, ArgAction, ArgMatches, Command, Error};
 use std::alloc::{AllocError, Global};
 
 /// What `jinit run` asks for.
@@ -14,6 +14,23 @@ pub struct Run<'a> {
     pub files: Vec<&'a str>,
 }
 
+/// What the words ask for.
+#[derive(Debug, Drop)]
+pub enum Asked<'a> {
+    /// `jinit run`.
+    Run(Run<'a>),
+    /// `jinit needs`, with the Jasmin files in order.
+    Needs(Vec<&'a str>),
+}
+
+fn files_argument<'a>(alloc: Global) -> Arg<'a> {
+    Arg::new(alloc, "files")
+        .value_name("FILES")
+        .help("Jasmin files, one class each")
+        .action(ArgAction::Append)
+        .num_args(0..)
+}
+
 /// The program's command line.
 fn command<'a>(alloc: Global) -> Result<Command<'a>, AllocError> {
     let mains = Arg::new(alloc, "mains")
@@ -24,45 +41,47 @@ fn command<'a>(alloc: Global) -> Result<Command<'a>, AllocError> {
         .long("trace")
         .value_name("FILE")
         .help("Writes every initialization step to FILE");
-    let files = Arg::new(alloc, "files")
-        .value_name("FILES")
-        .help("Jasmin files, one class each")
-        .action(ArgAction::Append)
-        .num_args(0..);
     let run = Command::new(alloc, "run")
         .about("Runs each main class on a thread of its own")
         .arg(mains)?
         .arg(trace)?
-        .arg(files)?;
+        .arg(files_argument(alloc))?;
+    let needs = Command::new(alloc, "needs")
+        .about("Writes for each class what is initialized before its own initializer runs")
+        .arg(files_argument(alloc))?;
     Command::new(alloc, "jinit")
         .about("Initializes Java classes as JLS SE 8 12.4.2 demands, and tells each step")
         .version("0.1.0")
         .subcommand_required(true)
-        .subcommand(run)
+        .subcommand(run)?
+        .subcommand(needs)
+}
+
+fn files_of<'a>(alloc: Global, matches: &ArgMatches<'a>) -> Result<Vec<&'a str>, AllocError> {
+    let mut files = Vec::new(alloc);
+    if let Some(names) = matches.get_strs("files") {
+        for name in names {
+            files.push(*name)?;
+        }
+    }
+    Ok(files)
 }
 
 /// What the words ask for; the first word is the program's name.
 ///
 /// An `Err` is a fault of the command line, or asks for help or the version: its text says which. Want of
 /// memory is a kind of its own there.
-pub fn parse<'a>(alloc: Global, words: &'a [&'a str]) -> Result<Run<'a>, Error> {
+pub fn parse<'a>(alloc: Global, words: &'a [&'a str]) -> Result<Asked<'a>, Error> {
     let matches = command(alloc)?.try_get_matches_from(words)?;
-    let mut files = Vec::new(alloc);
-    let Some(run) = matches.subcommand_matches("run") else {
-        return Ok(Run {
-            mains: None,
-            trace: None,
-            files,
-        });
-    };
-    if let Some(names) = run.get_strs("files") {
-        for name in names {
-            files.push(*name)?;
-        }
+    if let Some(needs) = matches.subcommand_matches("needs") {
+        return Ok(Asked::Needs(files_of(alloc, needs)?));
     }
-    Ok(Run {
+    let Some(run) = matches.subcommand_matches("run") else {
+        return Ok(Asked::Needs(Vec::new(alloc)));
+    };
+    Ok(Asked::Run(Run {
         mains: run.get_str("mains"),
         trace: run.get_str("trace"),
-        files,
-    })
+        files: files_of(alloc, run)?,
+    }))
 }

@@ -1,7 +1,8 @@
 //! Linked classes and their numbers.
 
+use descriptors::ClassName;
 use jasmin_text::ClassKind;
-use sequence::{Sequence, Text};
+use sequence::Sequence;
 
 /// A class of a program by its number: the program's classes in file order from 0, then the built-in ones.
 /// A number that a program doesn't have is no class of it.
@@ -14,7 +15,7 @@ pub struct ClassId {
 #[derive(Debug, Drop)]
 pub struct Class {
     /// The internal name (JVMS SE 8 4.2.1).
-    pub name: Text,
+    pub name: ClassName,
     pub kind: ClassKind,
     /// The direct superclass; java/lang/Object for an interface.
     pub superclass: ClassId,

@@ -7,8 +7,9 @@ ghost use Rattle.hierarchy.specs.declared.linking.LinkFaultKind.TheVariants as k
 use crate::built_in::BuiltIn;
 use crate::class::{Class, ClassId};
 use crate::program::Program;
-use jasmin_text::{ClassText, OBJECT};
-use sequence::{Sequence, Text};
+use descriptors::ClassName;
+use jasmin_text::{ClassParts, ClassText};
+use sequence::Sequence;
 use std::alloc::Global;
 use std::fmt;
 
@@ -56,7 +57,7 @@ impl fmt::Display for LinkFaultKind {
 #[derive(Debug, Drop)]
 pub struct LinkFault {
     pub kind: LinkFaultKind,
-    pub class: Text,
+    pub class: ClassName,
 }
 
 /// Whether a user's class may not have this name.
@@ -70,10 +71,11 @@ fn is_under_java(name: &[u8]) -> bool
 fn fault_in(text: &ClassText) -> Option<LinkFaultKind>
     ensures { result ≡ fault_of text.now }
 {
-    if is_under_java(text.name.as_slice()) {
+    let parts = text.parts();
+    if is_under_java(parts.name.as_slice()) {
         return Some(LinkFaultKind::ReservedName);
     }
-    if text.superclass.as_slice() != OBJECT {
+    if parts.superclass.as_slice() != b"java/lang/Object".as_slice() {
         return Some(LinkFaultKind::UnknownSupertype);
     }
     None
@@ -83,11 +85,15 @@ fn fault_in(text: &ClassText) -> Option<LinkFaultKind>
 fn linked_class(alloc: Global, text: ClassText) -> Class
     ensures { result ≡ class_of text }
 {
-    let ClassText {
+    let ClassParts {
         kind,
+        access: _,
         name,
         superclass: _,
-    } = text;
+        interfaces: _,
+        fields: _,
+        methods: _,
+    } = text.into_parts();
     Class {
         name,
         kind,
@@ -114,7 +120,7 @@ pub fn link(alloc: Global, texts: Vec<ClassText>) -> Result<Program, LinkFault>
         let second = texts.remove(1);
         return Err(LinkFault {
             kind: LinkFaultKind::TooMany,
-            class: second.name,
+            class: second.into_parts().name,
         });
     }
     let Some(text) = texts.pop() else {
@@ -123,7 +129,7 @@ pub fn link(alloc: Global, texts: Vec<ClassText>) -> Result<Program, LinkFault>
     if let Some(kind) = fault_in(&text) {
         return Err(LinkFault {
             kind,
-            class: text.name,
+            class: text.into_parts().name,
         });
     }
     match classes.push(linked_class(alloc, text)) {

@@ -1,29 +1,45 @@
 //! One class linked.
 
 use crate::{BuiltIn, ClassId, LinkFaultKind, link};
-use jasmin_text::{ClassKind, ClassText, OBJECT};
-use sequence::Text;
+use descriptors::ClassName;
+use jasmin_text::{Access, ClassKind, ClassParts, ClassText};
+use sequence::Sequence;
 use std::alloc::{AllocError, Global};
 use std::test::Fail;
 
-fn text(alloc: Global, name: &[u8], superclass: &[u8]) -> Result<ClassText, AllocError> {
-    Ok(ClassText {
-        kind: ClassKind::Class,
-        name: Text::copied(alloc, name)?,
-        superclass: Text::copied(alloc, superclass)?,
-    })
+/// A class of that name and superclass, with nothing else.
+fn text(alloc: Global, name: &[u8], superclass: &[u8]) -> Result<Option<ClassText>, AllocError> {
+    let Some(name) = ClassName::parse(alloc, name)? else {
+        return Ok(None);
+    };
+    let Some(superclass) = ClassName::parse(alloc, superclass)? else {
+        return Ok(None);
+    };
+    ClassText::new(
+        alloc,
+        ClassParts {
+            kind: ClassKind::Class,
+            access: Access::NONE,
+            name,
+            superclass,
+            interfaces: Sequence::new(alloc),
+            fields: Sequence::new(alloc),
+            methods: Sequence::new(alloc),
+        },
+    )
 }
 
 #[test]
 fn links_one_class(rt: HostRuntime) -> Result<(), Fail> {
     let alloc = rt.alloc();
-    let Ok(program) = link(alloc, vec![in alloc; text(alloc, b"a/Solo", OBJECT)?]?) else {
+    let solo = text(alloc, b"a/Solo", b"java/lang/Object")?.expect(&rt, "a class text");
+    let Ok(program) = link(alloc, vec![in alloc; solo]?) else {
         assert!(rt; false);
         return Ok(());
     };
     assert_eq!(rt; program.len(), 1);
     assert_eq!(rt; program.class_named(b"a/Solo"), Some(ClassId { number: 0 }));
-    assert_eq!(rt; program.class_named(OBJECT), Some(ClassId { number: 1 }));
+    assert_eq!(rt; program.class_named(b"java/lang/Object"), Some(ClassId { number: 1 }));
     assert_eq!(rt;
         program.class_named(b"java/lang/InternalError"),
         Some(ClassId { number: 32 })
@@ -86,9 +102,9 @@ const FAULTS: [(&[u8], &[u8], bool, LinkFaultKind, &[u8]); 5] = [
 fn tells_the_first_fault(rt: HostRuntime) -> Result<(), Fail> {
     let alloc = rt.alloc();
     for (name, superclass, two, kind, class) in FAULTS {
-        let mut texts = vec![in alloc; text(alloc, name, superclass)?]?;
+        let mut texts = vec![in alloc; text(alloc, name, superclass)?.expect(&rt, "a class text")]?;
         if two {
-            texts.push(text(alloc, b"Second", OBJECT)?)?;
+            texts.push(text(alloc, b"Second", b"java/lang/Object")?.expect(&rt, "a class text"))?;
         }
         match link(alloc, texts) {
             Ok(_) => assert!(rt; false, "at {name:?}"),

@@ -3,9 +3,10 @@
 use crate::{
     Answer, ClassRecord, Completed, Decision, Ending, Event, Kind, Label, Next, Outcome, Procedure,
 };
+use descriptors::ClassName;
 use hierarchy::{BuiltIn, ClassId, Program, link};
-use jasmin_text::{ClassKind, ClassText, OBJECT};
-use sequence::Text;
+use jasmin_text::{Access, ClassKind, ClassParts, ClassText};
+use sequence::{Sequence, Text};
 use std::alloc::{AllocError, Global};
 use std::test::Fail;
 
@@ -13,13 +14,33 @@ const CLASS: ClassId = ClassId { number: 0 };
 
 const ERROR: ClassId = ClassId { number: 7 };
 
-fn solo(alloc: Global) -> Result<Option<Program>, AllocError> {
-    let text = ClassText {
-        kind: ClassKind::Class,
-        name: Text::copied(alloc, b"Solo")?,
-        superclass: Text::copied(alloc, OBJECT)?,
+/// A class of that name and superclass, with nothing else.
+fn text(alloc: Global, name: &[u8], superclass: &[u8]) -> Result<Option<ClassText>, AllocError> {
+    let Some(name) = ClassName::parse(alloc, name)? else {
+        return Ok(None);
     };
-    Ok(link(alloc, vec![in alloc; text]?).ok())
+    let Some(superclass) = ClassName::parse(alloc, superclass)? else {
+        return Ok(None);
+    };
+    ClassText::new(
+        alloc,
+        ClassParts {
+            kind: ClassKind::Class,
+            access: Access::NONE,
+            name,
+            superclass,
+            interfaces: Sequence::new(alloc),
+            fields: Sequence::new(alloc),
+            methods: Sequence::new(alloc),
+        },
+    )
+}
+
+fn solo(alloc: Global) -> Result<Option<Program>, AllocError> {
+    match text(alloc, b"Solo", b"java/lang/Object")? {
+        Some(solo) => Ok(link(alloc, vec![in alloc; solo]?).ok()),
+        None => Ok(None),
+    }
 }
 
 fn event(thread: usize, kind: Kind) -> Event {

@@ -136,32 +136,4 @@ pub fn needs(alloc: Global, program: &Program, id: ClassId) -> Result<Vec<ClassI
 }
 
 #[cfg(test)]
-mod tests {
-    use super::*;
-    use hierarchy::{BuiltIn, link};
-    use jasmin_text::{ClassText, OBJECT};
-    use sequence::Text;
-    use std::test::Fail;
-
-    #[test]
-    fn a_class_alone_needs_nothing(rt: HostRuntime) -> Result<(), Fail> {
-        let alloc = rt.alloc();
-        for kind in [ClassKind::Class, ClassKind::Interface] {
-            let text = ClassText {
-                kind,
-                name: Text::copied(alloc, b"Solo")?,
-                superclass: Text::copied(alloc, OBJECT)?,
-            };
-            match link(alloc, vec![in alloc; text]?) {
-                Ok(program) => {
-                    let needed = needs(alloc, &program, ClassId { number: 0 })?;
-                    assert!(rt; needed.is_empty());
-                    let object = program.built_in(BuiltIn::Object);
-                    assert!(rt; needs(alloc, &program, object)?.is_empty());
-                }
-                Err(_) => assert!(rt; false),
-            }
-        }
-        Ok(())
-    }
-}
+mod tests;

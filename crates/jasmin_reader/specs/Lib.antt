@@ -1,4 +1,3 @@
-pub mod Words
 pub mod Table
 pub mod Reading
 pub mod File

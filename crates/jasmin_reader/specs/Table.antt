@@ -1,24 +1,12 @@
 -- The words that are looked up.
-use Rattle.std.specs.Prelude.{ℕ, Bool, true, false, ◌&&◌, ◌==◌, List, [], ◌∷◌, Option, Some, None, if◌then◌else◌, map}
-use Rattle.std.specs.Borrow.{Bor}
+use Rattle.std.specs.Prelude.{ℕ, List, Option, Some, codes, if◌then◌else◌, map}
+use Rattle.std.specs.Option.{option_map}
+use Rattle.jasmin_words.specs.Names.{same_bytes}
+use Rattle.jasmin_text.specs.Tables.{find_row, access_of}
 use Rattle.jasmin_reader.specs.declared.table.Directive.{Directive}
-use Rattle.jasmin_reader.specs.declared.table.Access.{Access}
-use Rattle.jasmin_reader.specs.declared.table.TheConstants.{DIRECTIVES, ACCESS}
-
-abbrev pub same_bytes : List ℕ → List ℕ → Bool
-same_bytes [] [] = true
-same_bytes [] (y ∷ ys) = false
-same_bytes (x ∷ xs) [] = false
-same_bytes (x ∷ xs) (y ∷ ys) = x == y && same_bytes xs ys
-
--- what the table has beside the word
-abbrev pub find_row : {T : Type 0} → List ℕ → List (List ℕ × T) → Option T
-find_row w [] = None
-find_row w (row ∷ rows) = if same_bytes w row.0 then Some row.1 else find_row w rows
-
--- a table's rows, without where they lie in memory
-abbrev pub rows : {T : Type 0} → List (Bor (List ℕ) × T) → List (List ℕ × T)
-rows table = map (λ r. (r.0.now, r.1)) table
+use Rattle.jasmin_reader.specs.declared.table.ClassWord.{ClassWord}
+use Rattle.jasmin_reader.specs.declared.table.ClassWord.TheVariants.{Interface, Access}
+use Rattle.jasmin_reader.specs.declared.table.TheConstants.{DIRECTIVES}
 
 unfoldable pub directives : List (List ℕ × Directive)
 directives = map (λ r. (r.0.now, r.1)) DIRECTIVES
@@ -27,9 +15,6 @@ directives = map (λ r. (r.0.now, r.1)) DIRECTIVES
 unfoldable pub directive_at : List ℕ → Option Directive
 directive_at w = find_row w directives
 
-unfoldable pub access_words : List (List ℕ × Access)
-access_words = map (λ r. (r.0.now, r.1)) ACCESS
-
--- the access word of that spelling
-unfoldable pub access_at : List ℕ → Option Access
-access_at w = find_row w access_words
+-- what the word says behind .class, if it is an access word there
+unfoldable pub class_word_at : List ℕ → Option ClassWord
+class_word_at w = if same_bytes w (codes "interface") then Some Interface else option_map Access (access_of w)

@@ -1,145 +1,172 @@
 //! What the lines of a class's header add.
 
 ghost use Rattle.std.specs.Prelude.{◌≡◌, false};
-ghost use Rattle.jasmin_reader.specs.Words.{view, views};
-ghost use Rattle.jasmin_reader.specs.Reading.{Gives, misplaced, word_of, word_from, ended_at, makes_interface, name_in, named_from, class_line, super_line, line_at};
+ghost use Rattle.jasmin_words.specs.Gives.{Gives};
+ghost use Rattle.jasmin_words.specs.Lexing.{view, views};
+ghost use Rattle.jasmin_reader.specs.Reading.{misplaced, word_of, ended_at, with_word, name_in, class_name_in, named_from, class_line, super_line, line_at, start};
 
-use crate::fault::ReadError;
-use crate::table::{Access, Directive, access_of, directive_of};
-use crate::words::Token;
-use jasmin_text::{ClassKind, FaultKind, is_class_name};
-use sequence::Text;
+use crate::table::{ClassWord, Directive, class_word_of, directive_of};
+use descriptors::ClassName;
+use jasmin_text::table::AccessWord;
+use jasmin_text::{Access, ClassKind};
+use jasmin_words::{FaultKind, Refusal, Token};
 use std::alloc::Global;
+
+/// Why a line is refused.
+pub(crate) type LineError = Refusal<FaultKind>;
 
 /// The fault of a word that may not stand in its place.
 fn fault_at(token: &Token<'_>) -> FaultKind
-    ensures { result ≡ misplaced (Rattle.jasmin_reader.specs.Words.view token.now) }
+    ensures { result ≡ misplaced (Rattle.jasmin_words.specs.Lexing.view token.now) }
 {
     match token {
-        Token::BadByte => FaultKind::BadByte,
-        Token::Quote => FaultKind::LeftOut,
+        Token::BadWord | Token::BadText(FaultKind::BadByte) => FaultKind::BadByte,
         _ => FaultKind::BadOperand,
     }
 }
 
-fn plain_word<'a>(token: &Token<'a>) -> Result<&'a [u8], ReadError>
+fn plain_word<'a>(token: &Token<'a>) -> Result<&'a [u8], LineError>
     ensures { Gives (λ x. x.now) result (word_of (view token.now)) }
 {
     match token {
         Token::Word(word) => Ok(*word),
-        _ => Err(ReadError::Fault(fault_at(token))),
+        _ => Err(Refusal::Fault(fault_at(token))),
     }
 }
 
-fn word<'a, 't>(tokens: &'t [Token<'a>]) -> Result<(&'a [u8], &'t [Token<'a>]), ReadError>
-    ensures { Gives (λ x. (x.0.now, views x.1.now)) result (word_from (views tokens.now)) }
-{
-    match tokens {
-        [] => Err(ReadError::Fault(FaultKind::BadOperand)),
-        [first, rest @ ..] => match first {
-            Token::Word(word) => Ok((*word, rest)),
-            _ => Err(ReadError::Fault(fault_at(first))),
-        },
-    }
-}
-
-fn ended(tokens: &[Token<'_>]) -> Result<(), ReadError>
+fn ended(tokens: &[Token<'_>]) -> Result<(), LineError>
     ensures { Gives (λ x. x) result (ended_at (views tokens.now)) }
 {
     match tokens {
         [] => Ok(()),
-        [other, ..] => Err(ReadError::Fault(fault_at(other))),
+        [other, ..] => Err(Refusal::Fault(fault_at(other))),
     }
 }
 
-/// Whether a word before the name makes the class an interface.
-#[tactic(auto, unfolding(crate::specs::Reading::makes_interface))]
-fn is_interface_word(word: &[u8]) -> Result<bool, ReadError>
-    ensures { Gives (λ x. x) result (makes_interface word.now) }
+/// The words before a class's name, so far.
+#[derive(Clone, Copy, Debug, PartialEq, Eq)]
+pub(crate) struct ClassWords {
+    pub kind: ClassKind,
+    pub access: Access,
+}
+
+/// The words with one more.
+#[tactic(auto, unfolding(crate::specs::Reading::with_word))]
+fn add_word(words: ClassWords, word: &[u8]) -> Result<ClassWords, LineError>
+    ensures { Gives (λ x. x) result (with_word words word.now) }
 {
-    match access_of(word) {
-        Some(Access::Interface) => Ok(true),
-        Some(Access::Taken) => Ok(false),
-        Some(Access::LeftOut) => Err(ReadError::Fault(FaultKind::LeftOut)),
-        None => Err(ReadError::Fault(FaultKind::BadOperand)),
+    let ClassWords { kind, access } = words;
+    let Some(class_word) = class_word_of(word) else {
+        return Err(Refusal::Fault(FaultKind::BadOperand));
+    };
+    let access_word = match class_word {
+        ClassWord::Interface => {
+            return Ok(ClassWords {
+                kind: ClassKind::Interface,
+                access,
+            });
+        }
+        ClassWord::Access(access_word) => access_word,
+    };
+    let access = match access_word {
+        AccessWord::Public => Access { public: true, ..access },
+        AccessWord::Private => Access { private: true, ..access },
+        AccessWord::Protected => Access { protected: true, ..access },
+        AccessWord::Static => Access { is_static: true, ..access },
+        AccessWord::Final => Access { is_final: true, ..access },
+        AccessWord::Synchronized => Access { synchronized: true, ..access },
+        AccessWord::Volatile => Access { volatile: true, ..access },
+        AccessWord::Transient => Access { transient: true, ..access },
+        AccessWord::Abstract => Access { is_abstract: true, ..access },
+        AccessWord::Dropped => access,
+        AccessWord::LeftOut => return Err(Refusal::Fault(FaultKind::LeftOut)),
+    };
+    Ok(ClassWords { kind, access })
+}
+
+/// A class's name by its bytes.
+fn class_name(alloc: Global, word: &[u8]) -> Result<ClassName, LineError>
+    ensures { Gives (λ x. x) result (class_name_in word.now) }
+{
+    match ClassName::parse(alloc, word)? {
+        Some(name) => Ok(name),
+        None => Err(Refusal::Fault(FaultKind::BadOperand)),
     }
 }
 
 /// A word in the name's place. An access word is taken as one there, and the name is then missing.
 #[tactic(auto, unfolding(crate::specs::Reading::name_in))]
-fn checked_name(word: &[u8]) -> Result<&[u8], ReadError>
-    ensures { Gives (λ x. x.now) result (name_in word.now) }
+fn name(alloc: Global, word: &[u8]) -> Result<ClassName, LineError>
+    ensures { Gives (λ x. x) result (name_in word.now) }
 {
-    match access_of(word) {
-        Some(Access::LeftOut) => Err(ReadError::Fault(FaultKind::LeftOut)),
-        None if is_class_name(word) => Ok(word),
-        _ => Err(ReadError::Fault(FaultKind::BadOperand)),
+    match class_word_of(word) {
+        Some(ClassWord::Access(AccessWord::LeftOut)) => Err(Refusal::Fault(FaultKind::LeftOut)),
+        Some(_) => Err(Refusal::Fault(FaultKind::BadOperand)),
+        None => class_name(alloc, word),
     }
 }
 
 /// The last word is the name; each before it is an access word.
 #[tactic(auto, unfolding(crate::specs::Reading::named_from))]
-fn named<'a>(tokens: &[Token<'a>]) -> Result<(&'a [u8], bool), ReadError>
-    ensures { Gives (λ x. record { name = x.0.now; is_interface = x.1 }) result (named_from false (views tokens.now)) }
+fn named(alloc: Global, tokens: &[Token<'_>]) -> Result<(ClassWords, ClassName), LineError>
+    ensures { Gives (λ x. x) result (named_from start (views tokens.now)) }
 {
     let mut rest = tokens;
-    let mut is_interface = false;
+    let mut words = ClassWords {
+        kind: ClassKind::Class,
+        access: Access::NONE,
+    };
     while let [first, after @ ..] = rest {
         let word = plain_word(first)?;
         if after.is_empty() {
-            return Ok((checked_name(word)?, is_interface));
+            return Ok((words, name(alloc, word)?));
         }
-        let more = is_interface_word(word)?;
-        is_interface = more || is_interface;
+        words = add_word(words, word)?;
         rest = after;
     }
-    Err(ReadError::Fault(FaultKind::BadOperand))
+    Err(Refusal::Fault(FaultKind::BadOperand))
 }
 
 /// The class and its superclass, as far as they were read.
 #[derive(Debug, Drop)]
 pub(crate) struct Header {
-    pub class: Option<(ClassKind, Text)>,
-    pub superclass: Option<Text>,
+    pub class: Option<(ClassWords, ClassName)>,
+    pub superclass: Option<ClassName>,
 }
 
 impl Header {
     #[tactic(auto, unfolding(crate::specs::Reading::class_line))]
-    fn class(&mut self, alloc: Global, tokens: &[Token<'_>]) -> Result<(), ReadError>
+    fn class(&mut self, alloc: Global, tokens: &[Token<'_>]) -> Result<(), LineError>
         ensures { Gives (λ _. self.new) result (class_line self.old (views tokens.now)) }
     {
         if self.class.is_some() {
-            return Err(ReadError::Fault(FaultKind::Misplaced));
+            return Err(Refusal::Fault(FaultKind::Misplaced));
         }
-        let (name, is_interface) = named(tokens)?;
-        let kind = if is_interface {
-            ClassKind::Interface
-        } else {
-            ClassKind::Class
-        };
-        self.class = Some((kind, Text::copied(alloc, name)?));
+        self.class = Some(named(alloc, tokens)?);
         Ok(())
     }
 
     #[tactic(auto, unfolding(crate::specs::Reading::super_line))]
-    fn superclass(&mut self, alloc: Global, tokens: &[Token<'_>]) -> Result<(), ReadError>
+    fn superclass(&mut self, alloc: Global, tokens: &[Token<'_>]) -> Result<(), LineError>
         ensures { Gives (λ _. self.new) result (super_line self.old (views tokens.now)) }
     {
         if self.class.is_none() || self.superclass.is_some() {
-            return Err(ReadError::Fault(FaultKind::Misplaced));
+            return Err(Refusal::Fault(FaultKind::Misplaced));
         }
-        let (name, rest) = word(tokens)?;
-        if !is_class_name(name) {
-            return Err(ReadError::Fault(FaultKind::BadOperand));
+        match tokens {
+            [] => Err(Refusal::Fault(FaultKind::BadOperand)),
+            [first, rest @ ..] => {
+                let name = class_name(alloc, plain_word(first)?)?;
+                ended(rest)?;
+                self.superclass = Some(name);
+                Ok(())
+            }
         }
-        ended(rest)?;
-        self.superclass = Some(Text::copied(alloc, name)?);
-        Ok(())
     }
 
     /// What the words of the next line add.
     #[tactic(auto, unfolding(crate::specs::Reading::line_at))]
-    pub(crate) fn line(&mut self, alloc: Global, tokens: &[Token<'_>]) -> Result<(), ReadError>
+    pub(crate) fn line(&mut self, alloc: Global, tokens: &[Token<'_>]) -> Result<(), LineError>
         ensures { Gives (λ _. self.new) result (line_at self.old (views tokens.now)) }
     {
         match tokens {
@@ -149,10 +176,10 @@ impl Header {
                     Some(Directive::Class) => self.class(alloc, rest),
                     Some(Directive::Super) => self.superclass(alloc, rest),
                     Some(Directive::Skipped) => Ok(()),
-                    None => Err(ReadError::Fault(FaultKind::LeftOut)),
+                    None => Err(Refusal::Fault(FaultKind::LeftOut)),
                 },
-                Token::BadByte => Err(ReadError::Fault(FaultKind::BadByte)),
-                _ => Err(ReadError::Fault(FaultKind::LeftOut)),
+                Token::BadWord => Err(Refusal::Fault(FaultKind::BadByte)),
+                _ => Err(Refusal::Fault(FaultKind::LeftOut)),
             },
         }
     }

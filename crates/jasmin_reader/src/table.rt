@@ -1,13 +1,11 @@
-//! The words that a line may begin with, and those that may stand before a name.
+//! The words that a line may begin with, and those that may stand before a class's name.
 
 ghost use Rattle.std.specs.Prelude.{◌≡◌};
-ghost use Rattle.jasmin_reader.specs.Table.{find_row, same_bytes, rows, directive_at, access_at};
+ghost use Rattle.jasmin_reader.specs.Table.{directive_at, class_word_at};
+ghost use Rattle.jasmin_text.specs.Tables.{find_row, rows};
 
-fn same(a: &[u8], b: &[u8]) -> bool
-    ensures { result ≡ same_bytes a.now b.now }
-{
-    a == b
-}
+use jasmin_text::table::{AccessWord, access_of};
+use jasmin_words::name::same;
 
 /// What stands beside the word in a table.
 fn find<T: Copy>(word: &[u8], table: &[(&[u8], T)]) -> Option<T>
@@ -54,42 +52,23 @@ pub(crate) fn directive_of(word: &[u8]) -> Option<Directive>
 
 /// A word before the name of a class.
 #[derive(Clone, Copy, Debug, PartialEq, Eq)]
-pub(crate) enum Access {
+pub(crate) enum ClassWord {
     /// It makes the class an interface.
     Interface,
-    /// It is taken.
-    Taken,
-    /// It is left out.
-    LeftOut,
+    /// It is one of the words that may stand before any name.
+    Access(AccessWord),
 }
 
-pub(crate) const ACCESS: [(&[u8], Access); 20] = [
-    (b"public", Access::Taken),
-    (b"private", Access::Taken),
-    (b"protected", Access::Taken),
-    (b"static", Access::Taken),
-    (b"final", Access::Taken),
-    (b"synchronized", Access::Taken),
-    (b"volatile", Access::Taken),
-    (b"transient", Access::Taken),
-    (b"abstract", Access::Taken),
-    (b"super", Access::Taken),
-    (b"strict", Access::Taken),
-    (b"strictfp", Access::Taken),
-    (b"fpstrict", Access::Taken),
-    (b"varargs", Access::Taken),
-    (b"bridge", Access::Taken),
-    (b"synthetic", Access::Taken),
-    (b"enum", Access::Taken),
-    (b"annotation", Access::Taken),
-    (b"interface", Access::Interface),
-    (b"native", Access::LeftOut),
-];
-
-/// What the word says, if it is an access word.
-#[tactic(auto, unfolding(crate::specs::Table::access_at, crate::specs::Table::access_words))]
-pub(crate) fn access_of(word: &[u8]) -> Option<Access>
-    ensures { result ≡ access_at word.now }
+/// What the word says behind `.class`, if it is an access word there.
+#[tactic(auto, unfolding(crate::specs::Table::class_word_at))]
+pub(crate) fn class_word_of(word: &[u8]) -> Option<ClassWord>
+    ensures { result ≡ class_word_at word.now }
 {
-    find(word, &ACCESS)
+    if same(word, b"interface") {
+        return Some(ClassWord::Interface);
+    }
+    match access_of(word) {
+        Some(access) => Some(ClassWord::Access(access)),
+        None => None,
+    }
 }

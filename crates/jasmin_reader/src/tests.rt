@@ -1,7 +1,8 @@
 //! Files by their bytes.
 
 use crate::{ReadFault, read_class};
-use jasmin_text::{ClassKind, FaultKind};
+use jasmin_text::ClassKind;
+use jasmin_words::FaultKind;
 
 /// Accepted files, and what they say.
 const READ: [(&[u8], ClassKind, &[u8], &[u8]); 9] = [
@@ -69,9 +70,10 @@ fn reads_headers(rt: HostRuntime) {
         }
         match read_class(rt.alloc(), bytes) {
             Ok(text) => {
-                assert_eq!(rt; text.kind, kind, "at {bytes:?}");
-                assert!(rt; text.name.as_slice() == name, "at {bytes:?}");
-                assert!(rt; text.superclass.as_slice() == superclass, "at {bytes:?}");
+                let parts = text.into_parts();
+                assert_eq!(rt; parts.kind, kind, "at {bytes:?}");
+                assert!(rt; parts.name.as_slice() == name, "at {bytes:?}");
+                assert!(rt; parts.superclass.as_slice() == superclass, "at {bytes:?}");
             }
             Err(fault) => assert!(rt; false, "at {bytes:?}: {fault:?}"),
         }

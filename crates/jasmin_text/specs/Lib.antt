@@ -1,1 +1,6 @@
-pub mod ClassName
+pub mod InstructionWords
+pub mod Keywords
+pub mod Canonical
+pub mod Marks
+pub mod Tables
+pub mod Spellable

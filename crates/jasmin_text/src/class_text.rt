@@ -1,23 +1,97 @@
-//! A class as its file spells it.
+//! The parts of a class.
 
-use sequence::Text;
+use crate::access::Access;
+use crate::instruction::Instruction;
+use descriptors::{ClassName, FieldType, MethodType};
+use jasmin_words::name::MemberName;
+use sequence::{Sequence, Text};
 
-/// The internal name of the class that every other class descends from.
-pub const OBJECT: &[u8] = b"java/lang/Object";
-
-/// Whether a file spells a class or an interface (JVMS SE 8 4.1, ACC_INTERFACE).
+/// Whether a class text is of a class or of an interface.
 #[derive(Clone, Copy, Debug, PartialEq, Eq)]
 pub enum ClassKind {
+    /// `.class`
     Class,
+    /// `.interface`
     Interface,
 }
 
-/// What a Jasmin file says of one class or interface.
+/// An int or a text, as a field's value or an operand of `ldc`.
 #[derive(Debug, Drop)]
-pub struct ClassText {
+pub enum Constant {
+    /// An int.
+    Int(i32),
+    /// The characters of a string, in UTF-8.
+    Text(Text),
+}
+
+/// A field.
+#[derive(Debug, Drop)]
+pub struct Field {
+    /// Its access words.
+    pub access: Access,
+    /// Its name.
+    pub name: MemberName,
+    /// Its type.
+    pub field_type: FieldType,
+    /// Its value, if it has one: an int for `I`, `Z`, `B`, `C` and `S`, a text for `Ljava/lang/String;`.
+    pub value: Option<Constant>,
+}
+
+/// A row of a handler table (JVMS SE 8 4.7.3). Rows stand in file order, and an empty range holds nothing.
+#[derive(Debug, Drop)]
+pub struct Handler {
+    /// The class that is caught, `None` for all.
+    pub class: Option<ClassName>,
+    /// The first place of the range.
+    pub from: u16,
+    /// The place behind the range.
+    pub to: u16,
+    /// The place of the handler.
+    pub handler: u16,
+}
+
+/// The body of a method.
+#[derive(Debug, Drop)]
+pub struct Code {
+    /// The most operands on the stack, at most 1,024.
+    pub stack: u16,
+    /// The number of locals, at most 1,024.
+    pub locals: u16,
+    /// The handler table.
+    pub handlers: Sequence<Handler>,
+    /// The instructions, one at least. Their places count from 0; a target may also be the place behind the
+    /// last.
+    pub instructions: Sequence<Instruction<u16>>,
+}
+
+/// A method.
+#[derive(Debug, Drop)]
+pub struct Method {
+    /// Its access words.
+    pub access: Access,
+    /// Its name.
+    pub name: MemberName,
+    /// Its type.
+    pub method_type: MethodType,
+    /// Its body, `None` exactly where it is abstract.
+    pub code: Option<Code>,
+}
+
+/// The parts of a class or interface. [`crate::ClassText`] holds those that a file can spell.
+#[derive(Debug, Drop)]
+pub struct ClassParts {
+    /// Class or interface.
     pub kind: ClassKind,
-    /// The internal name, with `/` between its segments (JVMS SE 8 4.2.1).
-    pub name: Text,
-    /// The internal name of the superclass; java/lang/Object where the file names none.
-    pub superclass: Text,
+    /// Its access words.
+    pub access: Access,
+    /// Its name.
+    pub name: ClassName,
+    /// Its superclass, `java/lang/Object` where no file line names one.
+    pub superclass: ClassName,
+    /// Its direct superinterfaces in file order.
+    pub interfaces: Sequence<ClassName>,
+    /// Its fields in file order.
+    pub fields: Sequence<Field>,
+    /// Its methods in file order.
+    pub methods: Sequence<Method>,
 }

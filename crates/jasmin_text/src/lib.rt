@@ -1,14 +1,30 @@
-//! What a Jasmin file says of a class, and why a file can't be read.
+//! The text of one class as a Jasmin file has it.
 //!
-//! [`ClassText`] is the value that the reader makes of a file and that linking starts from. [`FaultKind`]
-//! names what may be wrong with a file; its text is the code that the program prints. [`is_class_name`]
-//! tells the names of classes.
+//! [`ClassText`] is what a file says, without its spelling: kind, access words, name, superclass, interfaces,
+//! fields, and methods with their limits, handler tables and instructions. It holds exactly what a file can
+//! spell. [`write_class`] writes the one canonical spelling.
+//!
+//! To enter: `class_text` has the parts of a class, `instruction` the instructions in their canonical forms,
+//! and `specs/Canonical` the spelling, line by line.
 #![tactic(auto)]
 
+pub mod access;
 pub mod class_text;
-pub mod fault;
-pub mod name;
+pub mod instruction;
+mod keyword;
+mod mark;
+mod spellable;
+mod spellable_code;
+pub mod table;
+pub mod text;
+pub mod word;
+mod write;
+mod write_code;
 
-pub use class_text::{ClassKind, ClassText, OBJECT};
-pub use fault::FaultKind;
-pub use name::is_class_name;
+pub use access::Access;
+pub use class_text::{ClassKind, ClassParts, Code, Constant, Field, Handler, Method};
+pub use instruction::{Call, FieldAccess, FieldReference, Instruction, Jump, Local, MethodReference, Plain, ReferenceType, TypeUse};
+pub use text::{ClassText, write_class};
+
+#[cfg(test)]
+mod tests;

@@ -3,11 +3,35 @@
 ghost use Rattle.std.specs.Prelude.{◌≡◌};
 
 use crate::write_trace;
+use descriptors::ClassName;
 use hierarchy::{BuiltIn, ClassId, link};
 use init_core::{Event, Kind};
-use jasmin_text::{ClassKind, ClassText, OBJECT};
-use sequence::Text;
+use jasmin_text::{Access, ClassKind, ClassParts, ClassText};
+use sequence::Sequence;
+use std::alloc::{AllocError, Global};
 use std::test::Fail;
+
+/// A class of that name and superclass, with nothing else.
+fn text(alloc: Global, name: &[u8], superclass: &[u8]) -> Result<Option<ClassText>, AllocError> {
+    let Some(name) = ClassName::parse(alloc, name)? else {
+        return Ok(None);
+    };
+    let Some(superclass) = ClassName::parse(alloc, superclass)? else {
+        return Ok(None);
+    };
+    ClassText::new(
+        alloc,
+        ClassParts {
+            kind: ClassKind::Class,
+            access: Access::NONE,
+            name,
+            superclass,
+            interfaces: Sequence::new(alloc),
+            fields: Sequence::new(alloc),
+            methods: Sequence::new(alloc),
+        },
+    )
+}
 
 fn event(thread: usize, kind: Kind) -> Event
     ensures { result.kind ≡ kind }
@@ -22,12 +46,8 @@ fn event(thread: usize, kind: Kind) -> Event
 #[test]
 fn writes_each_step(rt: HostRuntime) -> Result<(), Fail> {
     let alloc = rt.alloc();
-    let text = ClassText {
-        kind: ClassKind::Class,
-        name: Text::copied(alloc, b"a/Solo")?,
-        superclass: Text::copied(alloc, OBJECT)?,
-    };
-    let Ok(program) = link(alloc, vec![in alloc; text]?) else {
+    let solo = text(alloc, b"a/Solo", b"java/lang/Object")?.expect(&rt, "a class text");
+    let Ok(program) = link(alloc, vec![in alloc; solo]?) else {
         assert!(rt; false);
         return Ok(());
     };

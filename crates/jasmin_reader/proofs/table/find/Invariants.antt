@@ -1,5 +1,5 @@
 use Rattle.std.proofs.Common.{◌≡◌, length}
-use Rattle.jasmin_reader.specs.Table.{find_row, rows}
+use Rattle.jasmin_text.specs.Tables.{find_row, rows}
 use Rattle.jasmin_reader.proofs.table.find.Given as goal
 
 abbrev pub invariant-loop-rest : goal.invariant-loop-rest

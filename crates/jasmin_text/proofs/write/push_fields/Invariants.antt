@@ -1,0 +1,6 @@
+use Rattle.std.proofs.Common.{◌≡◌, ◌++◌, take, map}
+use Rattle.jasmin_text.specs.Canonical.{ended_all, field_line}
+use Rattle.jasmin_text.proofs.write.push_fields.Given as goal
+
+abbrev pub invariant-loop-field : goal.invariant-loop-field
+invariant-loop-field l = l.text.items ≡ l.fn.text.items ++ ended_all (map field_line (take l.field-index l.fields))

@@ -1,0 +1,6 @@
+use Rattle.std.proofs.Common.{◌≡◌, ◌++◌, take, map}
+use Rattle.jasmin_text.specs.Canonical.{ended_all, implements_line}
+use Rattle.jasmin_text.proofs.write.push_interfaces.Given as goal
+
+abbrev pub invariant-loop-interface : goal.invariant-loop-interface
+invariant-loop-interface l = l.text.items ≡ l.fn.text.items ++ ended_all (map implements_line (take l.interface-index l.interfaces))

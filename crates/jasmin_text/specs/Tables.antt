@@ -1,0 +1,25 @@
+-- Tables of words.
+use Rattle.std.specs.Prelude.{ℕ, Bool, List, [], ◌∷◌, Option, Some, None, if◌then◌else◌, map, is_some}
+use Rattle.std.specs.Borrow.{Bor}
+use Rattle.jasmin_words.specs.Names.{same_bytes}
+use Rattle.jasmin_text.specs.declared.table.AccessWord.{AccessWord}
+use Rattle.jasmin_text.specs.declared.table.TheConstants.{ACCESS_WORDS}
+
+-- what the table has beside the word
+abbrev pub find_row : {T : Type 0} → List ℕ → List (List ℕ × T) → Option T
+find_row word [] = None
+find_row word (row ∷ rows) = if same_bytes word row.0 then Some row.1 else find_row word rows
+
+-- a table's rows, without where they lie in memory
+abbrev pub rows : {T : Type 0} → List (Bor (List ℕ) × T) → List (List ℕ × T)
+rows table = map (λ r. (r.0.now, r.1)) table
+
+-- the access words
+unfoldable pub access_words : List (List ℕ × AccessWord)
+access_words = map (λ r. (r.0.now, r.1)) ACCESS_WORDS
+
+unfoldable pub access_of : List ℕ → Option AccessWord
+access_of word = find_row word access_words
+
+abbrev pub is_access_word : List ℕ → Bool
+is_access_word word = is_some (access_of word)

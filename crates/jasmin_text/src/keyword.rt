@@ -1,0 +1,100 @@
+//! The fixed words of the canonical spelling.
+
+ghost use Rattle.std.specs.Prelude.{◌≡◌, ◌++◌, OnOk};
+ghost use Rattle.jasmin_text.specs.Keywords.{spelled};
+
+use std::alloc::AllocError;
+
+/// The fixed words of the canonical spelling, with the spaces that stand round them.
+#[derive(Clone, Copy)]
+pub(crate) enum Keyword {
+    Class,
+    Interface,
+    Super,
+    Implements,
+    Field,
+    Method,
+    EndMethod,
+    LimitStack,
+    LimitLocals,
+    Catch,
+    From,
+    To,
+    Using,
+    All,
+    Equals,
+    Colon,
+    Default,
+    Ldc,
+    Iinc,
+    TableSwitch,
+    LookupSwitch,
+    InvokeInterface,
+    New,
+    NewArray,
+    Public,
+    Private,
+    Protected,
+    Static,
+    Final,
+    Synchronized,
+    Volatile,
+    Transient,
+    Abstract,
+}
+
+/// The bytes of the word.
+#[tactic(auto, unfolding(crate::specs::Keywords::spelled))]
+pub(crate) fn spelling(keyword: Keyword) -> &'static [u8]
+    ensures { result.now ≡ spelled keyword }
+{
+    match keyword {
+        Keyword::Class => b".class",
+        Keyword::Interface => b".interface",
+        Keyword::Super => b".super ",
+        Keyword::Implements => b".implements ",
+        Keyword::Field => b".field",
+        Keyword::Method => b".method",
+        Keyword::EndMethod => b".end method",
+        Keyword::LimitStack => b".limit stack ",
+        Keyword::LimitLocals => b".limit locals ",
+        Keyword::Catch => b".catch ",
+        Keyword::From => b" from ",
+        Keyword::To => b" to ",
+        Keyword::Using => b" using ",
+        Keyword::All => b"all",
+        Keyword::Equals => b" = ",
+        Keyword::Colon => b" : ",
+        Keyword::Default => b"default : ",
+        Keyword::Ldc => b"ldc ",
+        Keyword::Iinc => b"iinc ",
+        Keyword::TableSwitch => b"tableswitch ",
+        Keyword::LookupSwitch => b"lookupswitch",
+        Keyword::InvokeInterface => b"invokeinterface ",
+        Keyword::New => b"new ",
+        Keyword::NewArray => b"newarray ",
+        Keyword::Public => b" public",
+        Keyword::Private => b" private",
+        Keyword::Protected => b" protected",
+        Keyword::Static => b" static",
+        Keyword::Final => b" final",
+        Keyword::Synchronized => b" synchronized",
+        Keyword::Volatile => b" volatile",
+        Keyword::Transient => b" transient",
+        Keyword::Abstract => b" abstract",
+    }
+}
+
+/// Adds the bytes at the end.
+pub(crate) fn push(text: &mut Vec<u8>, bytes: &[u8]) -> Result<(), AllocError>
+    ensures { OnOk result (text.new.items ≡ text.old.items ++ bytes.now) }
+{
+    text.extend_from_slice(bytes)
+}
+
+/// Adds the word at the end.
+pub(crate) fn push_keyword(text: &mut Vec<u8>, keyword: Keyword) -> Result<(), AllocError>
+    ensures { OnOk result (text.new.items ≡ text.old.items ++ spelled keyword) }
+{
+    push(text, spelling(keyword))
+}

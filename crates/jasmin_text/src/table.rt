@@ -1,0 +1,77 @@
+//! Tables of words.
+
+ghost use Rattle.std.specs.Prelude.{◌≡◌};
+ghost use Rattle.jasmin_text.specs.Tables.{find_row, rows, access_of as access_at};
+
+use jasmin_words::name::same;
+
+/// What a word before a name says.
+#[derive(Clone, Copy, Debug, PartialEq, Eq)]
+pub enum AccessWord {
+    /// `public`
+    Public,
+    /// `private`
+    Private,
+    /// `protected`
+    Protected,
+    /// `static`
+    Static,
+    /// `final`
+    Final,
+    /// `synchronized`
+    Synchronized,
+    /// `volatile`
+    Volatile,
+    /// `transient`
+    Transient,
+    /// `abstract`
+    Abstract,
+    /// A word that is taken and says nothing.
+    Dropped,
+    /// `native`, which is left out.
+    LeftOut,
+}
+
+/// Each access word. Beside them `interface` is one behind `.class`.
+pub const ACCESS_WORDS: [(&[u8], AccessWord); 19] = [
+    (b"public", AccessWord::Public),
+    (b"private", AccessWord::Private),
+    (b"protected", AccessWord::Protected),
+    (b"static", AccessWord::Static),
+    (b"final", AccessWord::Final),
+    (b"synchronized", AccessWord::Synchronized),
+    (b"volatile", AccessWord::Volatile),
+    (b"transient", AccessWord::Transient),
+    (b"abstract", AccessWord::Abstract),
+    (b"super", AccessWord::Dropped),
+    (b"strict", AccessWord::Dropped),
+    (b"strictfp", AccessWord::Dropped),
+    (b"fpstrict", AccessWord::Dropped),
+    (b"varargs", AccessWord::Dropped),
+    (b"bridge", AccessWord::Dropped),
+    (b"synthetic", AccessWord::Dropped),
+    (b"enum", AccessWord::Dropped),
+    (b"annotation", AccessWord::Dropped),
+    (b"native", AccessWord::LeftOut),
+];
+
+fn find<T: Copy>(word: &[u8], table: &[(&[u8], T)]) -> Option<T>
+    ensures { result ≡ find_row word.now (rows table.now) }
+{
+    let mut rest = table;
+    while let [(name, row), after @ ..] = rest {
+        if same(word, name) {
+            return Some(*row);
+        }
+        rest = after;
+    }
+    None
+}
+
+/// What the word says, if it is an access word.
+#[tactic(auto, unfolding(crate::specs::Tables::access_of, crate::specs::Tables::access_words))]
+pub fn access_of(word: &[u8]) -> Option<AccessWord>
+    ensures { result ≡ access_at word.now }
+{
+    find(word, &ACCESS_WORDS)
+}

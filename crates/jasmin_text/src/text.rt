@@ -1,0 +1,73 @@
+//! Class texts: parts that a file can spell.
+
+ghost use Rattle.std.specs.Prelude.{◌≡◌, IfOk};
+ghost use Rattle.std.specs.Option.{SomeIff};
+ghost use Rattle.jasmin_text.specs.Spellable.{IsSpellable};
+ghost use Rattle.jasmin_text.specs.Canonical.{canonical_text};
+
+use crate::class_text::ClassParts;
+use crate::spellable_code::spellable;
+use crate::write::write_parts;
+use std::alloc::{AllocError, Global};
+use std::marker::Model;
+
+/// The text of one class or interface: parts that a Jasmin file can spell.
+///
+/// It leaves out what no file spells: a class or a field with an access word for its name, a class named `all`
+/// in a handler table, a method with `abstract` and `static`, a body under `abstract` or none without it, a
+/// `<clinit>` that isn't static and void without parameters, a value that doesn't fit its field's type, keys
+/// of a `lookupswitch` that don't rise, a target behind the end, and what is beyond a limit: 255 direct
+/// superinterfaces, 1,024 members, 16,384 instructions with the labels and keys of switches, 1,024 operands
+/// and locals, words and strings of 65,535 bytes. Contracts see a class text as its parts.
+#[derive(Debug, Drop)]
+pub struct ClassText {
+    parts: ClassParts,
+}
+
+impl Model for ClassText {
+    ghost use Rattle.jasmin_text.specs.declared.class_text.ClassParts.{ClassParts};
+    ghost use Rattle.jasmin_text.specs.Spellable.{IsSpellable};
+
+    ghost Value = { ClassParts };
+
+    ghost view = { λ t. t.parts };
+
+    ghost invariant = { λ t. IsSpellable t.parts };
+}
+
+impl ClassText {
+    /// The class text of these parts, or `None` where no file spells them. An `Err` is want of memory.
+    pub fn new(alloc: Global, parts: ClassParts) -> Result<Option<Self>, AllocError>
+        ensures { IfOk result (λ text. SomeIff text (IsSpellable parts) parts) }
+    {
+        if spellable(alloc, &parts)? { Ok(Some(ClassText { parts })) } else { Ok(None) }
+    }
+
+    /// The parts. A file can spell them.
+    pub fn parts(&self) -> &ClassParts
+        ensures parts { result.now ≡ self.now }
+        ensures spellable { IsSpellable self.now }
+    {
+        &self.parts
+    }
+
+    /// The parts. A file can spell them. Takes no memory.
+    pub fn into_parts(self) -> ClassParts
+        ensures parts { result ≡ self }
+        ensures spellable { IsSpellable result }
+    {
+        let ClassText { parts } = self;
+        parts
+    }
+}
+
+/// The one canonical spelling of a class: one space between words, no indentation, LF at each line's end.
+///
+/// `.class` or `.interface` stands first, then `.super`, `.implements` lines, fields, methods. A method's
+/// limits stand before its handler table, that before its instructions. Each place that is named has the
+/// label `L` with its number on a line of its own. An `Err` is want of memory.
+pub fn write_class(alloc: Global, class: &ClassText) -> Result<Vec<u8>, AllocError>
+    ensures { IfOk result (λ text. text.items ≡ canonical_text class.now) }
+{
+    write_parts(alloc, class.parts())
+}

@@ -1,0 +1,11 @@
+pub mod Results
+pub mod Parts
+pub mod Tokens
+pub mod Quoted
+pub mod Spelled
+pub mod TakenString
+pub mod Taken
+pub mod Utf8
+pub mod Lexed
+pub mod Numbers
+pub mod Quoting

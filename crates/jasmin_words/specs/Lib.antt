@@ -1,0 +1,8 @@
+pub mod Fault
+pub mod Gives
+pub mod Escapes
+pub mod Lexing
+pub mod Spelling
+pub mod Integers
+pub mod Names
+pub mod Quoting

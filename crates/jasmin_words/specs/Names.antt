@@ -1,0 +1,31 @@
+-- Names of members, and labels.
+use Rattle.std.specs.Prelude.{◌≡◌, ℕ, Bool, true, false, not, ◌&&◌, ◌||◌, List, [], ◌∷◌, nat_lt, ◌==◌, codes}
+use Rattle.std.specs.List.{list_all}
+use Rattle.jasmin_words.specs.Spelling.{is_word_byte}
+
+-- the same bytes
+abbrev pub same_bytes : List ℕ → List ℕ → Bool
+same_bytes [] [] = true
+same_bytes [] (y ∷ ys) = false
+same_bytes (x ∷ xs) [] = false
+same_bytes (x ∷ xs) (y ∷ ys) = x == y && same_bytes xs ys
+
+-- a byte of a word, and none of . ; [ / ( ) < >
+abbrev pub is_name_byte : ℕ → Bool
+is_name_byte b = is_word_byte b && not (b == 46) && not (b == 59) && not (b == 91) && not (b == 47) && not (b == 40) && not (b == 41) && not (b == 60) && not (b == 62)
+
+abbrev pub is_some_byte : List ℕ → Bool
+is_some_byte [] = false
+is_some_byte (b ∷ bs) = true
+
+-- JVMS SE 8 4.2.2: <init>, <clinit>, or one byte or more that may stand in a name
+unfoldable pub is_member_name : List ℕ → Bool
+is_member_name name = same_bytes name (codes "<init>") || same_bytes name (codes "<clinit>") || (is_some_byte name && list_all is_name_byte name)
+
+abbrev pub IsMemberName : List ℕ → Type 0
+IsMemberName name = is_member_name name ≡ true
+
+-- a word that begins with neither a digit nor a dot
+abbrev pub is_label : List ℕ → Bool
+is_label [] = false
+is_label (b ∷ bs) = not (b == 46) && (nat_lt b 48 || nat_lt 57 b)

@@ -1,0 +1,34 @@
+//! Why a text could not be read: its own fault, or want of memory.
+
+ghost use Rattle.std.specs.Prelude.{◌≡◌};
+
+use std::alloc::{AllocError, AllocFailed};
+
+/// Why a text could not be read.
+#[derive(Debug, Drop)]
+pub enum Refusal<F> {
+    /// There was no memory. Nothing is said of the text.
+    Memory,
+    /// The text is at fault.
+    Fault(F),
+}
+
+impl<F> From<AllocError> for Refusal<F> {
+    ghost use Rattle.jasmin_words.specs.declared.refusal.Refusal.TheVariants.{Memory};
+
+    ghost from_gives = { λ _ e. e ≡ Memory };
+
+    fn from(_error: AllocError) -> Refusal<F> {
+        Refusal::Memory
+    }
+}
+
+impl<F, T: Drop> From<AllocFailed<T>> for Refusal<F> {
+    ghost use Rattle.jasmin_words.specs.declared.refusal.Refusal.TheVariants.{Memory};
+
+    ghost from_gives = { λ _ e. e ≡ Memory };
+
+    fn from(_error: AllocFailed<T>) -> Refusal<F> {
+        Refusal::Memory
+    }
+}
