@@ -1,0 +1,10 @@
+pub mod Lists
+pub mod Logs
+pub mod Spread
+pub mod Entries
+pub mod Steps
+pub mod Ends
+pub mod Finals
+pub mod Places
+pub mod Seats
+pub mod Passes

@@ -1,0 +1,5 @@
+pub mod Log
+pub mod Rule
+pub mod Steps
+pub mod Known
+pub mod Closing

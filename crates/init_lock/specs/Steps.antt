@@ -1,0 +1,150 @@
+-- What each atomic step tells the pass that makes it.
+use Rattle.std.specs.Prelude.{◌≡◌, ◌≢◌, ℕ, suc, ◌+◌, ◌^◌, ◌<◌, ◌≤◌, List, [], ◌∷◌, ◌++◌, Option as Opt, Some, None, map, length}
+use Rattle.std.specs.List.{AllByRecursion}
+use mathlib.Core.Option.{some}
+use lib.ListN.{get_elem?}
+use Rattle.atomic_table.specs.Table.{Me, Step, rest}
+use Rattle.init_lock.specs.declared.views.PassView.{PassView}
+use Rattle.init_lock.specs.declared.views.PlaceView.{PlaceView}
+use Rattle.init_lock.specs.declared.views.Custody.{Custody}
+use Rattle.init_lock.specs.declared.views.Custody.TheVariants.{Away, Carried, Held}
+use Rattle.init_lock.specs.declared.journal.Stamped.{Stamped}
+use Rattle.init_lock.specs.Log.{Grew, IsWithin, own_events, AreBelow, stamped}
+use Rattle.init_lock.specs.Rule.{place_view, pass_view, Each, element_at, place_of_word}
+use Rattle.init_lock.specs.Known.{look, seen_at, out_of, last_at, places_of, looks_of, opening_of}
+
+abbrev pub modify : {A : Type 0} → ℕ → (A → A) → List A → List A
+modify n f [] = []
+modify Prim.Native.Nat.zero f (x ∷ xs) = f x ∷ xs
+modify (suc n) f (x ∷ xs) = x ∷ modify n f xs
+
+-- a seat of the table: the views of its passes, and the slots that it carries
+abbrev pub SeatView : Type 0 → Type 0 → Type 0
+SeatView R E = Me (Opt R) (List (PassView R E))
+
+module _ {R E : Type 0} where
+  -- the pass with another custody of a place
+  abbrev pub restage : Custody → PlaceView R E → PlaceView R E
+  restage custody t = place_view t.seen t.last custody
+
+  abbrev pub in_custody : ℕ → Custody → PassView R E → PassView R E
+  in_custody n custody p = pass_view p.pass p.journal p.looks p.opening (modify n (restage custody) p.places)
+
+  -- the pass has the record, and a look is noted
+  abbrev pub took : (R → List E) → ℕ → R → Custody → PassView R E → PassView R E
+  took kept n r custody p = pass_view p.pass p.journal (look n (length p.journal) (kept r) ∷ p.looks) p.opening (modify n (λ t. place_view (kept r) r custody) p.places)
+
+  abbrev pub leave : R → PlaceView R E → PlaceView R E
+  leave r t = place_view t.seen r Away
+
+  -- the pass no longer has the record, and a look is noted
+  abbrev pub released : ℕ → R → PassView R E → PassView R E
+  released n r p = pass_view p.pass p.journal (look n (length p.journal) (seen_at n p.places) ∷ p.looks) p.opening (modify n (leave r) p.places)
+
+  abbrev pub extend : E → PlaceView R E → PlaceView R E
+  extend event t = place_view (t.seen ++ event ∷ []) t.last t.custody
+
+  abbrev pub drawn_places : Opt ℕ → E → List (PlaceView R E) → List (PlaceView R E)
+  drawn_places None event ts = ts
+  drawn_places (Some n) event ts = modify n (extend event) ts
+
+  abbrev pub drew : Opt ℕ → E → ℕ → PassView R E → PassView R E
+  drew place event found p = pass_view p.pass (p.journal ++ stamped found place event ∷ []) p.looks p.opening (drawn_places place event p.places)
+
+  module _ (kept : R → List E) (may : ℕ → Opt ℕ → E → Type 0) (follows : R → R → Type 0) where
+    -- what a pass finds when it takes the record r of the place n
+    pub record Found (n : ℕ) (r : R) (p : PassView R E) : Type 0 where
+      pub inside : n < length p.places
+      pub free : out_of n p.places ≡ None
+      pub grew : Grew may p.pass n (seen_at n p.places) (kept r)
+      pub own : IsWithin (own_events n p.journal) (kept r)
+      pub last : (x : R) → last_at n p.places ≡ Some x → follows x r
+      pub opening : (x : R) → element_at n p.opening ≡ Some x → follows x r
+
+    -- the lock word is tried
+    abbrev pub TakesLockAt : ℕ → SeatView R E → ℕ → SeatView R E → Type 0
+    TakesLockAt n v found w =
+        (found ≡ 0 → (r : R) × (w ≡ (map (took kept n r Carried) v.0, (n, Some r) ∷ v.1)) × Each (Found n r) v.0)
+        × (found ≢ 0 → w ≡ v)
+
+    abbrev pub TakesLock : Step (Opt R) → SeatView R E → ℕ → SeatView R E → Type 0
+    TakesLock s v found w = TakesLockAt (place_of_word s.word) v found w
+
+  -- the emptied slot goes home, while the pass keeps the record
+  abbrev pub ParksSlotAt : ℕ → SeatView R E → ℕ → SeatView R E → Type 0
+  ParksSlotAt n v found w = w ≡ (map (in_custody n Held) v.0, rest v.1)
+
+  abbrev pub ParksSlot : Step (Opt R) → SeatView R E → ℕ → SeatView R E → Type 0
+  ParksSlot s v found w = ParksSlotAt (place_of_word s.word) v found w
+
+  -- the empty slot comes out again
+  abbrev pub FetchesSlotAt : ℕ → SeatView R E → ℕ → SeatView R E → Type 0
+  FetchesSlotAt n v found w = w ≡ (map (in_custody n Carried) v.0, (n, None) ∷ v.1)
+
+  abbrev pub FetchesSlot : Step (Opt R) → SeatView R E → ℕ → SeatView R E → Type 0
+  FetchesSlot s v found w = FetchesSlotAt (place_of_word s.word) v found w
+
+  -- the lock word is freed, with the record in its slot
+  abbrev pub FreesLockAt : ℕ → SeatView R E → ℕ → SeatView R E → Type 0
+  FreesLockAt n v found w = (r : R) → v.1 ≡ (n, Some r) ∷ [] → w ≡ (map (released n r) v.0, [])
+
+  abbrev pub FreesLock : Step (Opt R) → SeatView R E → ℕ → SeatView R E → Type 0
+  FreesLock s v found w = FreesLockAt (place_of_word s.word) v found w
+
+  -- the stamp word is raised, and the event drawn
+  abbrev pub DrawsStamp : Opt ℕ → E → Step (Opt R) → SeatView R E → ℕ → SeatView R E → Type 0
+  DrawsStamp place event s v found w = (w ≡ (map (drew place event found) v.0, v.1)) × (found < 2 ^ 62) × Each (λ p. AreBelow found p.journal) v.0
+
+  abbrev pub DrawsWhatIsSaid : Opt (Opt ℕ × E) → Step (Opt R) → SeatView R E → ℕ → SeatView R E → Type 0
+  DrawsWhatIsSaid None s v found w = w ≡ v
+  DrawsWhatIsSaid (Some x) s v found w = DrawsStamp x.0 x.1 s v found w
+
+  -- the view of a seat with one pass
+  abbrev pub view_of : ℕ → List (Stamped E) → List (PassView R E) → List (PassView R E)
+  view_of pass journal v = pass_view pass journal (looks_of v) (opening_of v) (places_of v) ∷ []
+
+  -- the seat has the pass of the number alone, and carries no slot
+  pub record IsOnePass (number : ℕ) (me : SeatView R E) : Type 0 where
+    pub pass : PassView R E
+    pub is : me ≡ (pass ∷ [], [])
+    pub numbered : pass.pass ≡ number
+
+  -- the seat has one pass, and this pass has the record of the place, which may go back as this one
+  pub record MayReturn (kept : R → List E) (may : ℕ → Opt ℕ → E → Type 0) (follows : R → R → Type 0) (n : ℕ) (r : R) (me : SeatView R E) : Type 0 where
+    pub pass : PassView R E
+    pub is : me ≡ (pass ∷ [], [])
+    pub place : PlaceView R E
+    pub there : get_elem? pass.places n ≡ some place
+    pub held : place.custody ≡ Held
+    pub keeps : kept r ≡ place.seen
+    pub follows_last : follows place.last r
+
+  -- what is true of each pass between two calls: its seat has its one view and carries no slot, its journal leaves the stamps below 2 ^ 62, and it knows of each place of the table
+  pub record PassHolds (slots number : ℕ) (journal : List (Stamped E)) (room : ℕ) (me : SeatView R E) : Type 0 where
+    pub tied : me ≡ (view_of number journal me.0, [])
+    pub low : number < 16
+    pub short : length journal + room ≤ 2 ^ 58
+    pub wide : length (places_of me.0) ≡ slots
+    pub none_carried : AllByRecursion (λ t. t.custody ≢ Carried) (places_of me.0)
+
+  abbrev pub but_first : List (PassView R E) → List (PassView R E)
+  but_first [] = []
+  but_first (p ∷ ps) = ps
+
+  abbrev pub just_first : List (PassView R E) → List (PassView R E)
+  just_first [] = []
+  just_first (p ∷ ps) = p ∷ []
+
+  -- the pass has the record of the place
+  abbrev pub IsHolding : ℕ → List (PlaceView R E) → Type 0
+  IsHolding n places = (t : PlaceView R E) × (get_elem? places n ≡ some t) × (t.custody ≡ Held)
+
+  -- the pass has the record of the event's place, if it has one
+  abbrev pub IsHoldingAt : Opt ℕ → List (PlaceView R E) → Type 0
+  IsHoldingAt None places = Unit {0}
+  IsHoldingAt (Some n) places = IsHolding n places
+
+  -- the pass has the record of the event's place out, if the event has a place
+  abbrev pub IsOutAt : Opt ℕ → List (PlaceView R E) → Type 0
+  IsOutAt None places = Unit {0}
+  IsOutAt (Some n) places = (r : R) × (out_of n places ≡ Some r)

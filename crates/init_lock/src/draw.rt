@@ -1,0 +1,90 @@
+//! How events get their stamps.
+ghost use Rattle.std.specs.Prelude.{◌≡◌, ◌+◌, ◌^◌, ◌<◌, ◌++◌, ◌∷◌, [], Some, None};
+ghost use Rattle.init_lock.specs.Log.{stamped, AreBelow};
+ghost use Rattle.init_lock.specs.Known.{seen_at, out_of, last_at, IsSamePass, IsSameBut, IsAwayBut};
+ghost use Rattle.init_lock.specs.Steps.{drawn_places, IsOutAt};
+
+use crate::journal::{Stamp, Stamped};
+use crate::keeps::Keeps;
+use crate::pass::{Held, Pass};
+use crate::rule::{DrawStamp, Drawn};
+use crate::table::InitTable;
+use std::marker::Brand;
+
+impl<R: Keeps> InitTable<R> {
+    // One `fetch_add` on the stamp word, and the event goes into the room of the journal.
+    fn stamp<J: Drawn<R::Event>>(
+        &self,
+        pass: &mut Pass<R>,
+        place: Option<usize>,
+        event: R::Event,
+    ) -> Stamp
+        requires told { J.drawn ≡ Some (place, event) }
+        requires table { pass.old.table ≡ self.now.id }
+        requires room { 0 < pass.old.room }
+        requires allowed { R.may_draw pass.old.number place event }
+        requires out { IsOutAt place pass.old.places }
+        ensures pass { IsSamePass pass.old pass.new }
+        ensures journal { pass.new.journal ≡ pass.old.journal ++ stamped result place event ∷ [] }
+        ensures room { pass.new.room + 1 ≡ pass.old.room }
+        ensures places { pass.new.places ≡ drawn_places place event pass.old.places }
+        ensures looks { pass.new.looks ≡ pass.old.looks }
+        ensures stamp { result < 2 ^ 62 }
+        ensures rising { AreBelow result pass.old.journal }
+    {
+        let stamp = self
+            .table
+            .shared
+            .fetch_add::<DrawStamp<J>>(&mut pass.seat, 0, 1);
+        pass.journal.push(Stamped {
+            stamp,
+            place,
+            event,
+        });
+        stamp
+    }
+
+    /// Draws an event that stands at no place: it gets the next stamp, and is written into the pass's journal.
+    ///
+    /// By [`InitTable::finish`] its stamp is above those of all that the pass has seen. The journal must have room
+    /// ([`Pass::reserve`]), and the event must be one that this pass may draw at no place. No waiting and no memory.
+    pub fn draw(&self, pass: &mut Pass<R>, event: R::Event) -> Stamp
+        requires table { pass.old.table ≡ self.now.id }
+        requires room { 0 < pass.old.room }
+        requires allowed { R.may_draw pass.old.number None event }
+        ensures pass { IsSamePass pass.old pass.new }
+        ensures journal { pass.new.journal ≡ pass.old.journal ++ stamped result None event ∷ [] }
+        ensures room { pass.new.room + 1 ≡ pass.old.room }
+        ensures places { pass.new.places ≡ pass.old.places }
+        ensures looks { pass.new.looks ≡ pass.old.looks }
+        ensures stamp { result < 2 ^ 62 }
+        ensures rising { AreBelow result pass.old.journal }
+    {
+        self.stamp::<Brand>(pass, None, event)
+    }
+
+    /// Draws an event that stands at the place of a record that the pass has, while it has it.
+    ///
+    /// The record must keep the event when it goes back. The journal must have room ([`Pass::reserve`]), and the event
+    /// must be one that this pass may draw at that place. No waiting and no memory.
+    pub fn draw_held(&self, pass: &mut Pass<R>, held: &mut Held<R>, event: R::Event) -> Stamp
+        requires table { pass.old.table ≡ self.now.id }
+        requires room { 0 < pass.old.room }
+        requires allowed { R.may_draw pass.old.number (Some held.old.place) event }
+        requires out { out_of held.old.place pass.old.places ≡ Some held.old.taken }
+        ensures held { held.new ≡ held.old }
+        ensures pass { IsSamePass pass.old pass.new }
+        ensures journal { pass.new.journal ≡ pass.old.journal ++ stamped result (Some held.old.place) event ∷ [] }
+        ensures room { pass.new.room + 1 ≡ pass.old.room }
+        ensures seen { seen_at held.old.place pass.new.places ≡ seen_at held.old.place pass.old.places ++ event ∷ [] }
+        ensures out { out_of held.old.place pass.new.places ≡ Some held.old.taken }
+        ensures last { last_at held.old.place pass.new.places ≡ last_at held.old.place pass.old.places }
+        ensures others { IsSameBut held.old.place pass.old.places pass.new.places }
+        ensures looks { pass.new.looks ≡ pass.old.looks }
+        ensures holding { IsAwayBut held.old.place pass.old.places → IsAwayBut held.old.place pass.new.places }
+        ensures stamp { result < 2 ^ 62 }
+        ensures rising { AreBelow result pass.old.journal }
+    {
+        self.stamp::<Brand>(pass, Some(held.place), event)
+    }
+}

@@ -1,0 +1,93 @@
+//! Records under locks, and one order of all that is done to them.
+//!
+//! A table holds records, each under a lock of its own. Several threads take records, change them and give them back.
+//! Whatever is done is an *event*, and each event gets a *stamp*: the number that one shared counter had when the event
+//! was drawn. A thread steps with a [`Pass`], which carries its *journal*, the list of the events that it drew. Many events
+//! belong to a record: they are drawn while the thread has it, and stand at its *place*, which is the record's number.
+//! Others stand at no place. The crate knows nothing of what a record or an event is; [`Keeps`] says the little that it
+//! asks.
+//!
+//! # What is promised
+//!
+//! Ordinary locks promise that two threads never have one record at a time. Here two things more are proved, for every
+//! schedule of the threads:
+//!
+//! - **What a thread finds under a lock begins with all that it had seen there.** The record that [`InitTable::try_take`]
+//!   or [`InitTable::take`] answers keeps a list of events that begins with the list which this pass saw last at the
+//!   place, its own events among them, and goes on with events that other passes drew there.
+//! - **When the threads have ended there is one log.** [`InitTable::finish`] shows one list of all events. The stamp of an
+//!   event is its index in the log, so the stamps are 0 to m-1, each once. The journal of a pass is the part of the log
+//!   that the pass drew, so its stamps rise. Each record keeps exactly the events of its place, in the order of the log.
+//!   What a pass had seen at a place at some moment stood in the log before all that the pass drew later.
+//!
+//! # The rule
+//!
+//! Both follow from one fact about the table, which holds between any two atomic steps. It speaks of the lock words, of
+//! the counter, of the records in their slots, and of what each pass knows:
+//!
+//! 1. There is a log: a list of entries, each an event with its place, if it has one, and the pass that drew it. The
+//!    counter is the length of the log. Each entry is one that its pass may draw at its place.
+//! 2. The lock word of a place is 0 while its record is free, and p + 1 while pass p has it. At most one pass has the
+//!    number p.
+//! 3. While a record is free, it lies in its slot and keeps the events of its place in the log. It follows the record
+//!    that the table began with.
+//! 4. A pass that has a record knows all that stands at its place in the log. The record that it took was the last there.
+//! 5. A pass that doesn't have a record has seen a beginning of what stands at its place, and has drawn nothing there
+//!    since.
+//! 6. Each look of a pass, noted when it took or gave back a record, shows all that stood at the place at one moment of
+//!    the log, and how many events the pass had drawn by then.
+//!
+//! The kinds of atomic step are few, and each keeps the rule by one lemma (`proofs/Steps.antt`):
+//!
+//! | Step | Word | What the pass knows afterwards |
+//! |---|---|---|
+//! | the lock is tried | lock word, 0 to p + 1 by one exchange | if it was 0: it has the record, and all that stands there |
+//! | the empty slot is parked or fetched | lock word, read | the same |
+//! | a stamp is drawn | counter, plus one | its journal and, for an event with a place, the list there are longer by one |
+//! | the lock is freed | lock word, to 0 | it has seen the list that the record keeps now |
+//!
+//! Rule 3 holds when the lock is freed because giving back asks that the record keep what it kept when it was taken,
+//! followed by what was drawn on it since. It holds when a stamp is drawn because an event with a place is drawn only by
+//! the pass that has the record, while it isn't free. Rule 5 holds for another pass because nothing is drawn at a
+//! place under that pass's number but by itself.
+//!
+//! A stamp takes one `fetch_add`, a try of a lock one exchange. No lock goes round several records, and drawing, trying,
+//! giving back and ending neither wait nor take memory: [`Pass::reserve`] makes the journal's room beforehand. Only
+//! [`InitTable::take`] may wait, and it is the single try again and again.
+//!
+//! # What is not promised
+//!
+//! That a lock is ever given back, that a try ever succeeds, which thread comes first, and how long anything takes. A
+//! record that is taken must go back before its pass is handed to [`InitTable::finish`].
+//!
+//! # How it is used
+//!
+//! Make the table and one pass a thread with [`InitTable::new`]; give each thread its pass and `&InitTable`; `reserve`,
+//! then take, change the record by [`Held::kept`], [`InitTable::draw_held`], [`InitTable::give_back`]; draw events of no
+//! place by [`InitTable::draw`]; at the end hand all passes to `finish`. `src/tests.rt` has small examples.
+//!
+//! A word beside each lock word is kept free in the layout, for places that are settled for good: [`Keeps`] already says
+//! which events settle a place.
+#![tactic(auto)]
+
+mod draw;
+mod finish;
+mod journal;
+mod keeps;
+mod open;
+mod pass;
+mod rule;
+mod seat;
+mod table;
+mod take;
+#[cfg(test)]
+mod tests;
+mod views;
+
+pub use finish::Closed;
+pub use journal::{Journal, Stamp, Stamped};
+pub use keeps::Keeps;
+pub use pass::{Held, Pass};
+pub use table::InitTable;
+pub use take::GaveUp;
+pub use views::{Custody, Look, PassView, PlaceView, Setup};

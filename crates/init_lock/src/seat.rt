@@ -1,0 +1,70 @@
+//! The steps of a seat that has one pass: what a try of a lock and a giving back are made of.
+ghost use Rattle.std.specs.Prelude.{◌≡◌, ℕ, ◌+◌, ◌*◌, ◌^◌, ◌<◌, ◌≤◌, [], ◌∷◌, map, IfSome, IfNone};
+ghost use mathlib.Core.Option.{some};
+ghost use lib.ListN.{get_elem?};
+ghost use Rattle.init_lock.specs.declared.views.Custody.TheVariants.{Held};
+ghost use Rattle.init_lock.specs.declared.views.PlaceView.{PlaceView};
+ghost use Rattle.init_lock.specs.Rule.{Each};
+ghost use Rattle.init_lock.specs.Known.{places_of};
+ghost use Rattle.init_lock.specs.Steps.{Found, IsOnePass, MayReturn, took, released};
+
+use crate::keeps::Keeps;
+use crate::rule::{FetchSlot, FreeLock, LockRule, ParkSlot, TakeLock, View};
+use crate::views::Setup;
+use atomic_table::{Seat, Shared};
+
+// The lock word of a place. Word 0 is the counter of stamps, and eight words fill a cache line: threads that are busy at
+// different places share none but that of the counter.
+fn lock_word(place: usize) -> usize
+    requires { place < 2 ^ 58 }
+    ensures { result ≡ place * 8 + 8 }
+{
+    place * 8 + 8
+}
+
+/// Tries the lock of a place once, and takes its record out of the slot. The slot stays in the table, empty.
+pub(crate) fn take_out<R: Keeps>(
+    shared: &Shared<Option<R>, View<R, R::Event>, Setup<R>, LockRule<R>>,
+    seat: &mut Seat<Option<R>, View<R, R::Event>>,
+    number: usize,
+    place: usize,
+) -> Option<R>
+    requires table { seat.old.table_id ≡ shared.now.table_id }
+    requires place { (place < shared.now.table_id.slots) × (shared.now.table_id.words ≡ shared.now.table_id.slots * 8 + 8) × (shared.now.table_id.slots < 2 ^ 58) }
+    requires pass { (number < 16) × IsOnePass number seat.old.me }
+    ensures table { (seat.new.table_id ≡ seat.old.table_id) × (seat.new.id ≡ seat.old.id) }
+    ensures some { IfSome result (λ r. (seat.new.me ≡ (map (took R.kept place r Held) seat.old.me.0, [])) × Each (Found R.kept R.may_draw R.follows place r) seat.old.me.0) }
+    ensures none { IfNone result (seat.new.me ≡ seat.old.me) }
+{
+    // A lock word is 0 while the lock is free, and one more than the pass's number while a pass has it.
+    let word = lock_word(place);
+    let found = shared.compare_exchange::<TakeLock<R>>(seat, word, 0, number as u64 + 1);
+    if found != 0 {
+        return None;
+    }
+    let Some(record) = shared.exchange(seat, place, None) else {
+        unreachable!()
+    };
+    shared.load::<ParkSlot>(seat, word);
+    Some(record)
+}
+
+/// Puts the record of a place into its slot, and frees its lock.
+pub(crate) fn put_back<R: Keeps>(
+    shared: &Shared<Option<R>, View<R, R::Event>, Setup<R>, LockRule<R>>,
+    seat: &mut Seat<Option<R>, View<R, R::Event>>,
+    place: usize,
+    back: R,
+)
+    requires table { seat.old.table_id ≡ shared.now.table_id }
+    requires place { (place < shared.now.table_id.slots) × (shared.now.table_id.words ≡ shared.now.table_id.slots * 8 + 8) × (shared.now.table_id.slots < 2 ^ 58) }
+    requires held { MayReturn R.kept R.may_draw R.follows place back seat.old.me }
+    ensures table { (seat.new.table_id ≡ seat.old.table_id) × (seat.new.id ≡ seat.old.id) }
+    ensures freed { seat.new.me ≡ (map (released place back) seat.old.me.0, []) }
+{
+    let word = lock_word(place);
+    shared.load::<FetchSlot>(seat, word);
+    let empty = shared.exchange(seat, place, Some(back));
+    let None = empty else { unreachable!() };
+    shared.store::<FreeLock>(seat, word, 0);
+}

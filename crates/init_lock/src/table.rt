@@ -1,0 +1,110 @@
+//! The table of locked records, and one try of a lock.
+ghost use Rattle.std.specs.Prelude.{◌≡◌, ℕ, ◌<◌, ◌≤◌, ◌∷◌, length, Option, Some, None, IfSome, IfNone};
+ghost use Rattle.init_lock.specs.Log.{Grew, IsWithin, own_events};
+ghost use Rattle.init_lock.specs.Rule.{element_at};
+ghost use Rattle.init_lock.specs.Known.{look, seen_at, out_of, last_at, IsSamePass, IsSameBut, IsAway, IsAwayBut};
+
+use crate::journal::Journal;
+use crate::keeps::Keeps;
+use crate::pass::{Held, Pass};
+use crate::rule::{LockRule, View};
+use crate::seat::{put_back, take_out};
+use crate::views::Setup;
+use atomic_table::Table;
+use std::alloc::Global;
+use std::marker::Model;
+use std::snapshot::Snapshot;
+
+/// Records, each under its own lock, and one word that gives each event its stamp.
+///
+/// A place is the number of a record, from 0 on. All threads share the table by `&`, and each steps with its own [`Pass`].
+/// Contracts see the record `TableFacts`: which table it is, how many places it has, and how many passes.
+#[derive(Drop)]
+pub struct InitTable<R: Keeps> {
+    pub(crate) table: Table<Option<R>, View<R, R::Event>, Setup<R>, LockRule<R>, Global>,
+    pub(crate) places: usize,
+    pub(crate) threads: usize,
+    // Room for what `finish` gives out, so that it takes no memory.
+    pub(crate) records: Vec<R>,
+    pub(crate) journals: Vec<Journal<R::Event>>,
+}
+
+impl<R: Keeps> Model for InitTable<R> {
+    ghost use Rattle.std.specs.Prelude.{◌≡◌, ◌+◌, ◌*◌, ◌^◌, ◌<◌, ◌≤◌, vec_len, vec_capacity};
+    ghost use Rattle.init_lock.specs.Known.{TableFacts};
+
+    ghost Value = { TableFacts };
+
+    ghost view = { λ t. record { id = t.table.shared.table_id; places = t.places; threads = t.threads } };
+
+    ghost invariant = { λ t. (t.table.shared.table_id.words ≡ t.places * 8 + 8) × (t.table.shared.table_id.slots ≡ t.places) × (t.table.shared.key.threads ≡ t.threads) × (vec_len t.records ≡ 0) × (t.places ≤ vec_capacity t.records) × (vec_len t.journals ≡ 0) × (t.threads ≤ vec_capacity t.journals) × (t.places < 2 ^ 58) };
+}
+
+impl<R: Keeps> InitTable<R> {
+    /// Takes the record of a place if its lock is free: one try of the lock word, with no waiting and no memory.
+    ///
+    /// The record's events begin with all that the pass had seen at the place, its own events there included, and go on
+    /// with what other passes drew. `None` where another pass has the record, or this one.
+    ///
+    /// This is the taking of the initialization lock (JLS SE 8 12.4.2 step 1, JVMS SE 8 5.5 step 1), tried once.
+    pub fn try_take(&self, pass: &mut Pass<R>, place: usize) -> Option<Held<R>>
+        requires table { pass.old.table ≡ self.now.id }
+        requires place { place < self.now.places }
+        ensures pass { IsSamePass pass.old pass.new }
+        ensures journal { pass.new.journal ≡ pass.old.journal }
+        ensures room { pass.new.room ≡ pass.old.room }
+        ensures place { IfSome result (λ h. h.place ≡ place) }
+        ensures taken { IfSome result (λ h. h.taken ≡ h.kept) }
+        ensures free { IfSome result (λ h. out_of place pass.old.places ≡ None) }
+        ensures grew { IfSome result (λ h. Grew R.may_draw pass.old.number place (seen_at place pass.old.places) (R.kept h.kept)) }
+        ensures own { IfSome result (λ h. IsWithin (own_events place pass.old.journal) (R.kept h.kept)) }
+        ensures follows { IfSome result (λ h. (x : R) → last_at place pass.old.places ≡ Some x → R.follows x h.kept) }
+        ensures opening { IfSome result (λ h. (x : R) → element_at place pass.old.opening ≡ Some x → R.follows x h.kept) }
+        ensures seen { IfSome result (λ h. seen_at place pass.new.places ≡ R.kept h.kept) }
+        ensures out { IfSome result (λ h. out_of place pass.new.places ≡ Some h.kept) }
+        ensures last { IfSome result (λ h. last_at place pass.new.places ≡ Some h.kept) }
+        ensures others { IfSome result (λ h. IsSameBut place pass.old.places pass.new.places) }
+        ensures looks { IfSome result (λ h. pass.new.looks ≡ look place (length pass.old.journal) (R.kept h.kept) ∷ pass.old.looks) }
+        ensures holding { IsAway pass.old.places → IfSome result (λ h. IsAwayBut place pass.new.places) }
+        ensures none { IfNone result (pass.new ≡ pass.old) }
+    {
+        let Some(record) = take_out(&self.table.shared, &mut pass.seat, pass.number, place) else {
+            return None;
+        };
+        let taken = Snapshot::of(&record);
+        Some(Held {
+            record,
+            place,
+            taken,
+        })
+    }
+
+    /// Gives a record back and frees its lock, with no memory.
+    ///
+    /// The record must keep what it kept when it was taken, followed by the events drawn on it since, and must follow
+    /// the record that was taken. From then on the pass has seen its events.
+    ///
+    /// This is the release of the initialization lock (JLS SE 8 12.4.2, JVMS SE 8 5.5).
+    pub fn give_back(&self, pass: &mut Pass<R>, held: Held<R>)
+        requires table { pass.old.table ≡ self.now.id }
+        requires out { out_of held.place pass.old.places ≡ Some held.taken }
+        requires keeps { R.kept held.kept ≡ seen_at held.place pass.old.places }
+        requires follows { R.follows held.taken held.kept }
+        ensures pass { IsSamePass pass.old pass.new }
+        ensures journal { pass.new.journal ≡ pass.old.journal }
+        ensures room { pass.new.room ≡ pass.old.room }
+        ensures seen { seen_at held.place pass.new.places ≡ R.kept held.kept }
+        ensures out { out_of held.place pass.new.places ≡ None }
+        ensures last { last_at held.place pass.new.places ≡ Some held.kept }
+        ensures others { IsSameBut held.place pass.old.places pass.new.places }
+        ensures looks { pass.new.looks ≡ look held.place (length pass.old.journal) (R.kept held.kept) ∷ pass.old.looks }
+        ensures away { IsAwayBut held.place pass.old.places → IsAway pass.new.places }
+    {
+        let Held {
+            record,
+            place,
+            taken: _,
+        } = held;
+        put_back(&self.table.shared, &mut pass.seat, place, record);
+    }
+}

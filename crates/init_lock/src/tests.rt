@@ -1,0 +1,299 @@
+//! The calls on a small record, on one thread and on two.
+ghost use Rattle.std.specs.Prelude.{◌≡◌, ◌+◌, ◌<◌, ◌≤◌, [], vec_len, Some, IfOk};
+ghost use Rattle.init_lock.specs.Known.{seen_at, out_of, IsAway, IsAwayBut, IsSamePass};
+
+use crate::finish::Closed;
+use crate::keeps::Keeps;
+use crate::pass::{Held, Pass};
+use crate::table::InitTable;
+use crate::take::GaveUp;
+use std::alloc::{AllocError, Global};
+use std::sync::Wait;
+use std::test::Fail;
+use std::thread::join;
+
+/// A record that keeps a list of numbers. Every pass may draw every number.
+#[derive(Drop)]
+pub struct Numbers {
+    pub events: Vec<u64>,
+}
+
+impl Keeps for Numbers {
+    type Event = u64;
+
+    ghost use Rattle.std.specs.Prelude.{false};
+
+    ghost kept = { λ r. r.events.items };
+
+    ghost may_draw = { λ by place event. Unit {0} };
+
+    ghost settles = { λ event. false };
+
+    ghost follows = { λ x y. Unit {0} };
+
+    ghost follows_itself = { λ x. tt };
+
+    ghost follows_on = { λ x y z p q. tt };
+}
+
+fn empty(alloc: Global) -> Numbers
+    ensures { result.events.items ≡ [] }
+{
+    Numbers {
+        events: Vec::new(alloc),
+    }
+}
+
+// Draws a number on a record that the pass has, writes it into the record and gives the record back.
+// The answer is false where the record had no memory: then it goes back as it was taken.
+fn draw_and_give_back(
+    table: &InitTable<Numbers>,
+    pass: &mut Pass<Numbers>,
+    mut held: Held<Numbers>,
+    event: u64,
+) -> bool
+    requires table { pass.old.table ≡ table.now.id }
+    requires room { 0 < pass.old.room }
+    requires out { out_of held.place pass.old.places ≡ Some held.taken }
+    requires untouched { held.kept.events.items ≡ seen_at held.place pass.old.places }
+    ensures pass { IsSamePass pass.old pass.new }
+    ensures away { IsAwayBut held.place pass.old.places → IsAway pass.new.places }
+    ensures room { pass.old.room ≤ pass.new.room + 1 }
+{
+    if held.kept().events.push(event).is_err() {
+        table.give_back(pass, held);
+        return false;
+    }
+    table.draw_held(pass, &mut held, event);
+    table.give_back(pass, held);
+    true
+}
+
+// Draws a number on a record, which is taken by one try.
+// The answer is how many numbers the record kept before, or `None` where it wasn't free or had no memory.
+fn draw_on(
+    table: &InitTable<Numbers>,
+    pass: &mut Pass<Numbers>,
+    place: usize,
+    event: u64,
+) -> Option<usize>
+    requires table { pass.old.table ≡ table.now.id }
+    requires place { place < table.now.places }
+    requires room { 0 < pass.old.room }
+    requires away { IsAway pass.old.places }
+    ensures pass { IsSamePass pass.old pass.new }
+    ensures away { IsAway pass.new.places }
+    ensures room { pass.old.room ≤ pass.new.room + 1 }
+{
+    let mut held = table.try_take(pass, place)?;
+    let before = held.kept().events.len();
+    if draw_and_give_back(table, pass, held, event) {
+        Some(before)
+    } else {
+        None
+    }
+}
+
+// Two records that keep nothing, and two passes with room for so many events each.
+fn two_of_each(
+    alloc: Global,
+    room: usize,
+) -> Result<(InitTable<Numbers>, Pass<Numbers>, Pass<Numbers>), AllocError>
+    requires { room < 1000 }
+    ensures places { IfOk result (λ t. t.0.places ≡ 2) }
+    ensures threads { IfOk result (λ t. t.0.threads ≡ 2) }
+    ensures first { IfOk result (λ t. (t.1.number ≡ 0) × (t.1.table ≡ t.0.id) × (t.1.room ≡ room) × IsAway t.1.places) }
+    ensures second { IfOk result (λ t. (t.2.number ≡ 1) × (t.2.table ≡ t.0.id) × (t.2.room ≡ room) × IsAway t.2.places) }
+{
+    let records = vec![in alloc; empty(alloc), empty(alloc)]?;
+    let (table, mut passes) = InitTable::new(alloc, records, 2)?;
+    let Some(mut second) = passes.pop() else {
+        unreachable!()
+    };
+    let Some(mut first) = passes.pop() else {
+        unreachable!()
+    };
+    first.reserve(room)?;
+    second.reserve(room)?;
+    Ok((table, first, second))
+}
+
+// Ends a table of two passes.
+fn finish_both(
+    alloc: Global,
+    table: InitTable<Numbers>,
+    first: Pass<Numbers>,
+    second: Pass<Numbers>,
+) -> Result<Closed<Numbers>, AllocError>
+    requires threads { table.threads ≡ 2 }
+    requires first { (first.number ≡ 0) × (first.table ≡ table.id) × IsAway first.places }
+    requires second { (second.number ≡ 1) × (second.table ≡ table.id) × IsAway second.places }
+    ensures records { IfOk result (λ c. vec_len c.records ≡ table.places) }
+    ensures journals { IfOk result (λ c. vec_len c.journals ≡ 2) }
+{
+    let passes = vec![in alloc; first, second]?;
+    Ok(table.finish(passes))
+}
+
+#[test]
+fn two_passes(rt: HostRuntime) -> Result<(), Fail> {
+    let (table, mut first, mut second) = two_of_each(rt.alloc(), 4)?;
+    assert!(rt; draw_on(&table, &mut first, 0, 5) == Some(0));
+    assert!(rt; table.draw(&mut first, 6) == 1);
+    assert!(rt; draw_on(&table, &mut second, 0, 7) == Some(1));
+    let mut closed = finish_both(rt.alloc(), table, first, second)?;
+    assert!(rt; closed.records[0].events.as_slice() == [5, 7].as_slice());
+    assert!(rt; closed.records[1].events.is_empty());
+    let journal = &mut closed.journals[0];
+    assert!(rt; journal.len() == 2 && !journal.is_empty());
+    let last = journal.pop().expect(&rt, "the second event");
+    assert!(rt; last.stamp == 1 && last.place == None && last.event == 6);
+    let last = journal.pop().expect(&rt, "the first event");
+    assert!(rt; last.stamp == 0 && last.place == Some(0) && last.event == 5);
+    assert!(rt; journal.pop().is_none() && journal.is_empty());
+    let journal = &mut closed.journals[1];
+    let last = journal.pop().expect(&rt, "the only event");
+    assert!(rt; last.stamp == 2 && last.place == Some(0) && last.event == 7);
+    assert!(rt; journal.is_empty());
+    Ok(())
+}
+
+#[test]
+fn takes_alone(rt: HostRuntime) -> Result<(), Fail> {
+    let alloc = rt.alloc();
+    let records = vec![in alloc; empty(alloc)]?;
+    let (table, mut passes) = InitTable::new(alloc, records, 1)?;
+    let Some(mut pass) = passes.pop() else {
+        unreachable!()
+    };
+    assert!(rt; pass.number() == 0);
+    let Some(mut held) = table.try_take(&mut pass, 0) else {
+        panic!(rt; "the lock of a table with one pass isn't free");
+    };
+    assert!(rt; held.kept().events.is_empty());
+    let again = table.try_take(&mut pass, 0);
+    let refused = match again {
+        None => true,
+        Some(second) => {
+            table.give_back(&mut pass, second);
+            false
+        }
+    };
+    table.give_back(&mut pass, held);
+    assert!(rt; refused);
+    Ok(())
+}
+
+#[test]
+fn finds_what_another_gave_back(rt: HostRuntime) -> Result<(), Fail> {
+    let (table, mut first, mut second) = two_of_each(rt.alloc(), 1)?;
+    assert!(rt; draw_on(&table, &mut first, 0, 5) == Some(0));
+    let Some(mut held) = table.try_take(&mut second, 0) else {
+        panic!(rt; "the record was given back");
+    };
+    let found = held.kept().events.as_slice() == [5].as_slice();
+    table.give_back(&mut second, held);
+    assert!(rt; found);
+    Ok(())
+}
+
+#[test]
+fn gives_up_and_goes_on(rt: HostRuntime) -> Result<(), Fail> {
+    let (table, mut first, mut second) = two_of_each(rt.alloc(), 1)?;
+    let Ok(held) = table.take(&rt, &mut first, 1, 0) else {
+        unreachable!()
+    };
+    let gave_up = match table.take(&rt, &mut second, 1, 3) {
+        Err(GaveUp) => true,
+        Ok(other) => {
+            table.give_back(&mut second, other);
+            false
+        }
+    };
+    table.give_back(&mut first, held);
+    assert!(rt; gave_up);
+    let Ok(held) = table.take(&rt, &mut second, 1, 1) else {
+        panic!(rt; "the lock is free");
+    };
+    table.give_back(&mut second, held);
+    Ok(())
+}
+
+#[test]
+fn has_two_records_at_once(rt: HostRuntime) -> Result<(), Fail> {
+    let (table, mut first, second) = two_of_each(rt.alloc(), 2)?;
+    let Some(mut low) = table.try_take(&mut first, 0) else {
+        panic!(rt; "record 0 is free");
+    };
+    let Some(high) = table.try_take(&mut first, 1) else {
+        table.give_back(&mut first, low);
+        panic!(rt; "record 1 is free");
+    };
+    let pushed = low.kept().events.push(8).is_ok();
+    if pushed {
+        table.draw_held(&mut first, &mut low, 8);
+    }
+    table.give_back(&mut first, low);
+    table.give_back(&mut first, high);
+    let closed = finish_both(rt.alloc(), table, first, second)?;
+    assert!(rt; pushed && closed.records[0].events.as_slice() == [8].as_slice());
+    assert!(rt; closed.records[1].events.is_empty());
+    Ok(())
+}
+
+#[test]
+fn finishes_in_any_order(rt: HostRuntime) -> Result<(), Fail> {
+    let (table, mut first, second) = two_of_each(rt.alloc(), 1)?;
+    table.draw(&mut first, 9);
+    let passes = vec![in rt.alloc(); second, first]?;
+    let closed = table.finish(passes);
+    assert!(rt; closed.journals.len() == 2);
+    assert!(rt; closed.journals[0].is_empty() && closed.journals[1].len() == 1);
+    Ok(())
+}
+
+// Draws a number on record 0, some times.
+fn draw_often<W: Wait>(
+    rt: &W,
+    table: &InitTable<Numbers>,
+    mut pass: Pass<Numbers>,
+    event: u64,
+    rounds: usize,
+) -> Pass<Numbers>
+    requires table { pass.table ≡ table.now.id }
+    requires place { 0 < table.now.places }
+    requires room { rounds ≤ pass.room }
+    requires away { IsAway pass.places }
+    ensures pass { (result.table ≡ pass.table) × (result.number ≡ pass.number) }
+    ensures away { IsAway result.places }
+{
+    let mut left = rounds;
+    while left > 0 {
+        left -= 1;
+        let Ok(held) = table.take(rt, &mut pass, 0, 0) else {
+            unreachable!()
+        };
+        draw_and_give_back(table, &mut pass, held, event);
+    }
+    pass
+}
+
+#[test]
+fn two_takers(rt: HostRuntime) -> Result<(), Fail> {
+    let (table, first, second) = two_of_each(rt.alloc(), 100)?;
+    let (first, second) = join(
+        &rt,
+        || -> Pass<Numbers>
+            requires { (first.table ≡ table.id) × (0 < table.places) × (100 ≤ first.room) × IsAway first.places }
+            ensures { (result.table ≡ first.table) × (result.number ≡ first.number) × IsAway result.places }
+        { draw_often(&rt, &table, first, 5, 100) },
+        || -> Pass<Numbers>
+            requires { (second.table ≡ table.id) × (0 < table.places) × (100 ≤ second.room) × IsAway second.places }
+            ensures { (result.table ≡ second.table) × (result.number ≡ second.number) × IsAway result.places }
+        { draw_often(&rt, &table, second, 7, 100) },
+    );
+    let closed = finish_both(rt.alloc(), table, first, second)?;
+    assert!(rt; closed.records[0].events.len() == 200);
+    assert!(rt; closed.journals[0].len() == 100 && closed.journals[1].len() == 100);
+    Ok(())
+}
