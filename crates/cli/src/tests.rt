@@ -122,8 +122,18 @@ fn first_path(rt: HostRuntime) {
     assert!(rt; quiet.trace.is_empty() && quiet.err.is_empty());
 }
 
+#[test]
+fn what_is_needed(rt: HostRuntime) {
+    let told = run_words(rt.alloc(), &["jinit", "needs", "Solo.j"]);
+    assert_eq!(rt; told.status, 0);
+    assert!(rt; told.out.as_slice() == b"Solo:\n".as_slice());
+    assert!(rt; told.err.is_empty() && told.trace.is_empty());
+}
+
 /// The words, and the line and the status that answer them.
-const FAULTS: [(&[&str], &[u8], u8); 16] = [
+const FAULTS: [(&[&str], &[u8], u8); 18] = [
+    (&["jinit", "needs", "Solo.j", "None.j"], b"io: None.j\n", 3),
+    (&["jinit", "needs", "Sub.j"], b"link: H2 Sub\n", 2),
     (&["jinit", "run", "Solo.j"], b"cli: mains\n", 2),
     (
         &["jinit", "run", "--mains", "", "Solo.j"],
@@ -236,6 +246,7 @@ fn words_of_the_command_line(rt: HostRuntime) {
     for words in [
         ["jinit", "--help"].as_slice(),
         ["jinit", "run", "--help"].as_slice(),
+        ["jinit", "needs", "--help"].as_slice(),
         ["jinit", "--version"].as_slice(),
     ] {
         let ran = run_words(rt.alloc(), words);
@@ -245,6 +256,8 @@ fn words_of_the_command_line(rt: HostRuntime) {
     for words in [
         ["jinit"].as_slice(),
         ["jinit", "walk"].as_slice(),
+        ["jinit", "needs"].as_slice(),
+        ["jinit", "needs", "--mains", "Solo", "Solo.j"].as_slice(),
         ["jinit", "check", "--mains", "Solo", "Solo.j"].as_slice(),
         ["jinit", "run", "--order", "0", "Solo.j"].as_slice(),
         ["jinit", "run", "--mains"].as_slice(),
