@@ -58,6 +58,11 @@ abbrev pub IsAtBody : List Frame → Type 0
 IsAtBody [] = Unit {0}
 IsAtBody (f ∷ fs) = elim f.phase [ Running true ↦ Unit {0} | _ ↦ ⊥ ]
 
+-- in the body of the innermost class, behind its step 9
+abbrev pub is_running : List Frame → Bool
+is_running [] = false
+is_running (f ∷ fs) = elim f.phase [ Running true ↦ true | _ ↦ false ]
+
 abbrev pub started_phase : Phase → Phase
 started_phase (Running ran) = Running true
 started_phase phase = phase

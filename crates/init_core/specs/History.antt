@@ -5,11 +5,12 @@ use Rattle.init_core.specs.declared.event.Event.{Event}
 use Rattle.init_core.specs.declared.event.Label.{Label}
 use Rattle.init_core.specs.declared.event.Label.TheVariants.{InProgress}
 
--- a class, its events, and for how many more events room is kept
+-- a class, its events, for how many more events room is kept, and for how many there is room now
 pub record History : Type 0 where
   pub class : ClassId
   pub events : List Event
   pub room : ℕ
+  pub spare : ℕ
 
 -- while a class is in progress there is room for the event that ends it
 abbrev pub room_in : Label → ℕ

@@ -1,6 +1,7 @@
 //! What a thread does at a class, one event a step (JLS SE 8 12.4.2).
 
 ghost use Rattle.std.specs.Prelude.{◌≡◌, IfOk};
+ghost use Rattle.init_core.specs.Decisions.{kind_of};
 
 use hierarchy::{ClassId, Value};
 use sequence::Text;
@@ -111,4 +112,19 @@ pub enum Decision {
     Refused,
     /// Step 6: this thread begins to initialize it.
     Begin,
+}
+
+impl Decision {
+    /// The step that a look makes which comes to this.
+    pub fn kind(self) -> Kind
+        ensures { result ≡ kind_of self }
+    {
+        match self {
+            Decision::Wait { .. } => Kind::Waits,
+            Decision::Recursive => Kind::Recurs,
+            Decision::Already => Kind::FindsInitialized,
+            Decision::Refused => Kind::FindsErroneous,
+            Decision::Begin => Kind::Begins,
+        }
+    }
 }

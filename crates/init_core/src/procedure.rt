@@ -1,17 +1,20 @@
 //! One thread's twelve steps (JLS SE 8 12.4.2), over a stack of classes.
 
-ghost use Rattle.std.specs.Prelude.{◌≡◌, ◌≢◌, ℕ, ◌<◌, ◌≤◌, ◌+◌, ◌++◌, ◌∷◌, [], List, Option, None, Some, IfOk, IfSome, IfNone, OnErr, OnOk, reverse, vec_len, vec_capacity, option_copied};
+ghost use Rattle.std.specs.Prelude.{◌≡◌, ◌≢◌, ℕ, ◌<◌, ◌≤◌, ◌+◌, ◌++◌, ◌∷◌, [], List, Option, None, Some, false, IfOk, IfSome, IfNone, OnErr, OnOk, reverse, vec_len, vec_capacity, option_copied};
 ghost use Rattle.hierarchy.specs.declared.class.ClassId.{ClassId};
 ghost use Rattle.hierarchy.specs.LinkedProgram.{LinkedProgram};
 ghost use Rattle.init_core.specs.declared.event.Event.{Event};
 ghost use Rattle.init_core.specs.declared.event.Decision.TheVariants as decisions;
+ghost use Rattle.init_core.specs.declared.event.Kind.TheVariants as kinds;
 ghost use Rattle.init_core.specs.declared.procedure.Completed.{Completed};
+ghost use Rattle.init_core.specs.declared.procedure.Next.TheVariants as nexts;
+ghost use Rattle.init_core.specs.Decisions.{event};
 ghost use Rattle.init_core.specs.declared.procedure.Answer.TheVariants as answers;
 ghost use Rattle.init_core.specs.declared.procedure.Ending.TheVariants as endings;
 ghost use Rattle.init_core.specs.declared.procedure.Phase.TheVariants as phases;
 ghost use Rattle.init_core.specs.ProcedureWord.{GoesOn, given_up, completed};
 ghost use Rattle.init_core.specs.Leads.{LeadsTo, standing, frame, outcome_of};
-ghost use Rattle.init_core.specs.Advance.{next_of, next_in, innermost_class, Fits, asked, events_of, advanced, decided, after_needs, after_word, after_end, after_body, after_give_up, started, started_frames, requested, is_given_up, ending_of, IsAtBody, IsAtLook, IsAtEnd};
+ghost use Rattle.init_core.specs.Advance.{next_of, next_in, innermost_class, Fits, asked, events_of, advanced, decided, after_needs, after_word, after_end, after_body, after_give_up, started, started_frames, is_running, requested, is_given_up, ending_of, IsAtBody, IsAtLook, IsAtEnd};
 
 use crate::event::{Decision, Event};
 use hierarchy::{BuiltIn, ClassId, Program};
@@ -320,6 +323,33 @@ impl Procedure {
         }
     }
 
+    /// Whether the innermost class is in its body, behind step 9. Takes no memory.
+    pub fn is_running(&self) -> bool
+        ensures { result ≡ is_running self.now.frames }
+    {
+        match self.frames.last() {
+            None => false,
+            Some(frame) => matches!(&frame.phase, Phase::Running { ran: true }),
+        }
+    }
+
+    /// Step 9 of the innermost class was made. Takes no memory.
+    pub fn run_body(&mut self)
+        requires { is_running self.old.frames ≡ false }
+        ensures standing { self.new ≡ started self.old None }
+        ensures leads { (p : LinkedProgram) (t : ℕ) (c : ClassId) (xs : List Event) →
+            next_of self.old.frames ≡ nexts.Body c → LeadsTo p t self.old xs → LeadsTo p t self.new (xs ++ event t c kinds.Runs ∷ []) }
+    {
+        self.start_body();
+    }
+
+    fn start_body(&mut self)
+        ensures { self.new ≡ started self.old None }
+    {
+        mark_run(&mut self.frames);
+        self.last = None;
+    }
+
     /// The procedure completed last, where nothing that the procedure was told came behind it. Takes no
     /// memory.
     pub fn last(&self) -> Option<Completed>
@@ -455,8 +485,9 @@ impl Procedure {
         self.last = close(&mut self.frames, class, outcome);
     }
 
-    /// The body ended: step 10 or 12 comes next.
-    fn end_body(&mut self, thrown: Option<ClassId>)
+    /// The body ended, normally or with a throwable of this class, which is what step 11 left: step 10 or 12
+    /// comes next. It says what [`Answer::BodyEnded`] says, without the program. Takes no memory.
+    pub fn end_body(&mut self, thrown: Option<ClassId>)
         requires { self.old.frames ≢ [] }
         ensures { (p : LinkedProgram) → self.new ≡ advanced p self.old (answers.BodyEnded thrown) }
     {

@@ -1,6 +1,6 @@
 //! What is known of one class's initialization.
 
-ghost use Rattle.std.specs.Prelude.{◌≡◌, ℕ, ◌<◌, ◌≤◌, ◌+◌, ◌++◌, ◌∷◌, [], IfOk, OnErr, true, false, vec_len, vec_capacity};
+ghost use Rattle.std.specs.Prelude.{◌≡◌, ℕ, ◌<◌, ◌≤◌, ◌+◌, ◌++◌, ◌∷◌, [], IfOk, OnOk, OnErr, true, false, vec_len, vec_capacity};
 ghost use Rattle.init_core.specs.Label.{label_of, failure_of, owner_of};
 ghost use Rattle.init_core.specs.Decisions.{Decides, entered, event, kind_of, waits, is_wait};
 ghost use Rattle.init_core.specs.Lawful.{IsLawful};
@@ -27,12 +27,13 @@ pub struct ClassRecord {
 
 impl Model for ClassRecord {
     ghost use Rattle.init_core.specs.History.{History, room_in};
+    ghost use Rattle.std.specs.Prelude.{◌-◌, vec_len, vec_capacity};
 
     ghost Value = { History };
 
     ghost use Rattle.init_core.specs.Keeps.{IsOfItsHistory};
 
-    ghost view = { λ r. record { class = r.class; events = r.history.items; room = room_in r.label } };
+    ghost view = { λ r. record { class = r.class; events = r.history.items; room = room_in r.label; spare = vec_capacity r.history - vec_len r.history } };
 
     ghost invariant = { IsOfItsHistory };
 }
@@ -92,6 +93,20 @@ impl ClassRecord {
         self.history.as_slice()
     }
 
+    /// Makes room for what a look adds, so that the next [`ClassRecord::enter`] needs no memory.
+    ///
+    /// An `Err` is want of memory and changes nothing.
+    pub fn reserve(&mut self) -> Result<(), AllocError>
+        ensures class { self.new.class ≡ self.old.class }
+        ensures events { self.new.events ≡ self.old.events }
+        ensures room { self.new.room ≡ self.old.room }
+        ensures spare { OnOk result (2 ≤ self.new.spare) }
+        ensures err { OnErr result (self.new ≡ self.old) }
+    {
+        self.history.reserve(2)?;
+        Ok(())
+    }
+
     /// A look at the class by a thread: steps 2 to 6. It adds the one event that the label allows and answers
     /// the decision of that name; a wait that isn't the first of its request adds none.
     ///
@@ -104,6 +119,7 @@ impl ClassRecord {
         ensures again { IfOk result (λ d. (d ≡ decision.Wait false) → (waits thread self.old.events ≡ true)) }
         ensures first { IfOk result (λ d. (d ≡ decision.Wait true) → (waits thread self.old.events ≡ false)) }
         ensures err { OnErr result (self.new ≡ self.old) }
+        ensures memory { OnErr result (self.old.spare < 2) }
     {
         let decision = decision_at(
             self.label,
@@ -117,7 +133,7 @@ impl ClassRecord {
         self.history.push_reserved(Event {
             thread,
             class: Some(self.class),
-            kind: kind_of_decision(decision),
+            kind: decision.kind(),
         });
         if let Decision::Begin = decision {
             self.label = Label::InProgress(thread);
@@ -205,17 +221,5 @@ fn decision_at(label: Label, thread: usize, waited: bool) -> Decision
         }
         Label::Initialized => Decision::Already,
         Label::Erroneous => Decision::Refused,
-    }
-}
-
-fn kind_of_decision(decision: Decision) -> Kind
-    ensures { result ≡ kind_of decision }
-{
-    match decision {
-        Decision::Wait { .. } => Kind::Waits,
-        Decision::Recursive => Kind::Recurs,
-        Decision::Already => Kind::FindsInitialized,
-        Decision::Refused => Kind::FindsErroneous,
-        Decision::Begin => Kind::Begins,
     }
 }
