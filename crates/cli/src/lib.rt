@@ -14,9 +14,9 @@ pub mod words;
 
 pub use fault::Fault;
 pub use files::{Named, NamedFault};
+pub use needed::write_needs;
 pub use ordered::run_ordered;
 pub use serving::serve;
-pub use needed::write_needs;
 pub use words::{Asked, Run, parse};
 
 #[cfg(test)]

@@ -9,11 +9,7 @@ use std::alloc::{AllocError, Global};
 use trace::write_class;
 
 /// Adds a space and the name of each of these classes.
-fn write_names(
-    out: &mut Vec<u8>,
-    program: &Program,
-    classes: &[ClassId],
-) -> Result<(), AllocError>
+fn write_names(out: &mut Vec<u8>, program: &Program, classes: &[ClassId]) -> Result<(), AllocError>
     ensures { OnOk result (out.new.items ≡ out.old.items ++ names_text program.now classes.now) }
 {
     for class in classes {

@@ -5,8 +5,8 @@ ghost use Rattle.cli.specs.Served.{IsLegalRun};
 
 use crate::fault::Fault;
 use crate::files::{Named, read_texts, write_named};
-use crate::ordered::run_ordered;
 use crate::needed::write_needs;
+use crate::ordered::run_ordered;
 use crate::words::{Asked, Run, parse};
 use clap::error::ErrorKind;
 use hierarchy::{ClassId, Program, link};

@@ -1,6 +1,6 @@
 //! One class linked.
 
-use crate::{BuiltIn, ClassId, LinkFaultKind, link};
+use crate::{BuiltIn, Class, ClassId, LinkFaultKind, Program, link};
 use descriptors::ClassName;
 use jasmin_text::{Access, ClassKind, ClassParts, ClassText};
 use sequence::Sequence;
@@ -39,7 +39,10 @@ fn links_one_class(rt: HostRuntime) -> Result<(), Fail> {
     };
     assert_eq!(rt; program.len(), 1);
     assert_eq!(rt; program.class_named(b"a/Solo"), Some(ClassId { number: 0 }));
-    assert_eq!(rt; program.class_named(b"java/lang/Object"), Some(ClassId { number: 1 }));
+    assert_eq!(rt;
+        program.class_named(b"java/lang/Object"),
+        Some(ClassId { number: 1 })
+    );
     assert_eq!(rt;
         program.class_named(b"java/lang/InternalError"),
         Some(ClassId { number: 32 })
@@ -117,5 +120,28 @@ fn tells_the_first_fault(rt: HostRuntime) -> Result<(), Fail> {
     let first = format!(in alloc; "{}", LinkFaultKind::RepeatedName)?;
     let last = format!(in alloc; "{}", LinkFaultKind::NoMemory)?;
     assert!(rt; first.as_str() == "H1" && last.as_str() == "H9");
+    Ok(())
+}
+
+#[test]
+fn given_classes(rt: HostRuntime) -> Result<(), Fail> {
+    let alloc = rt.alloc();
+    let Some(name) = ClassName::parse(alloc, b"Given")? else {
+        assert!(rt; false);
+        return Ok(());
+    };
+    let given = Class {
+        name,
+        kind: ClassKind::Class,
+        superclass: ClassId { number: 1 },
+        interfaces: Sequence::new(alloc),
+        declares_default: false,
+    };
+    let Some(program) = Program::of_classes(vec![in alloc; given]?) else {
+        assert!(rt; false);
+        return Ok(());
+    };
+    assert_eq!(rt; program.len(), 1);
+    assert_eq!(rt; program.class_named(b"Given"), Some(ClassId { number: 0 }));
     Ok(())
 }

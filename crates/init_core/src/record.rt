@@ -103,8 +103,8 @@ impl ClassRecord {
         ensures spare { OnOk result (2 ≤ self.new.spare) }
         ensures err { OnErr result (self.new ≡ self.old) }
     {
-        self.history.reserve(2)?;
-        Ok(())
+        let events = &mut self.history;
+        events.reserve(2)
     }
 
     /// A look at the class by a thread: steps 2 to 6. It adds the one event that the label allows and answers

@@ -156,6 +156,32 @@ fn gives_up_behind_step_six(rt: HostRuntime) -> Result<(), Fail> {
 }
 
 #[test]
+fn a_body_by_itself(rt: HostRuntime) -> Result<(), Fail> {
+    let alloc = rt.alloc();
+    let Some(program) = solo(alloc)? else {
+        assert!(rt; false);
+        return Ok(());
+    };
+    let mut record = ClassRecord::new(alloc, CLASS);
+    record.reserve()?;
+    assert_eq!(rt; record.enter(0)?.kind(), Kind::Begins);
+    let mut procedure = Procedure::new(alloc);
+    procedure.request(CLASS)?;
+    let next = procedure.advance(alloc, &program, Answer::Decided(Decision::Begin))?;
+    assert_eq!(rt; next, Next::Body(CLASS));
+    assert!(rt; !procedure.is_running());
+    if !procedure.is_running() {
+        procedure.run_body();
+    }
+    assert!(rt; procedure.is_running());
+    let mut thrown = Procedure::new(alloc);
+    thrown.request(CLASS)?;
+    thrown.end_body(Some(ERROR));
+    assert_eq!(rt; thrown.next(), Next::End(CLASS, Ending::Fails(ERROR)));
+    Ok(())
+}
+
+#[test]
 fn events_are_copied(rt: HostRuntime) -> Result<(), Fail> {
     let printed = Event {
         thread: 2,

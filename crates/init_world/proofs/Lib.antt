@@ -1,0 +1,15 @@
+pub mod Steps
+pub mod Histories
+pub mod Sound
+pub mod Stacks
+pub mod Walk
+pub mod Waits
+pub mod Fronts
+pub mod InFiles
+pub mod Kept
+pub mod Threads
+pub mod Turning
+pub mod Consistency
+pub mod Deciding
+pub mod Answering
+pub mod Turns

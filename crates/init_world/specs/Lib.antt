@@ -1,0 +1,5 @@
+pub mod Safe
+pub mod OpenClasses
+pub mod WorldState
+pub mod Turns
+pub mod Consistent
