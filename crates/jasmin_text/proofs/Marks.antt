@@ -1,5 +1,5 @@
 -- Marks for the places that are named, one after the other.
-use Rattle.std.proofs.Common.{◌≡◌, ℕ, zero, suc, ◌+◌, ◌<◌, ◌≤◌, Bool, true, false, ◌||◌, cond, eqb, List, [], ◌∷◌, ◌++◌, length, take, map, refl, sym, ap, subst, ◌∙◌, append_assoc, arith, get_or}
+use Rattle.std.proofs.Common.{◌≡◌, ℕ, zero, suc, ◌+◌, ◌<◌, ◌≤◌, Bool, true, false, ◌||◌, eqb, List, [], ◌∷◌, ◌++◌, length, take, map, refl, sym, ap, subst, ◌∙◌, append_assoc, arith, get_or}
 use Rattle.std.specs.Prelude.{slice_index_or, slice_set, replicate, ℤ}
 use Rattle.std.specs.List.{flat_map}
 use Rattle.std.proofs.lemmas.Bool.{eqb-true, eqb-false}
@@ -37,7 +37,7 @@ marked_set marks p within n ps h = record { len = length-set marks p true ∙ h.
               ap (λ (z : ℕ). slice_index_or (slice_set marks p true) z false) (sym same) ∙ get_or-set_same marks p true false within ∙ sym (or-true (is_named ps k)) ∙ ap (λ (b : Bool). is_named ps k || b) (sym e) ∙ sym (is_named-push ps p k)
           | false ↦ λ e.
               get_or-set_other marks p k true false (λ (same : k ≡ p). eqb-false p k e (sym same)) ∙ h.each k less ∙ sym (or-false (is_named ps k)) ∙ ap (λ (b : Bool). is_named ps k || b) (sym e) ∙ sym (is_named-push ps p k)
-          ] in
+        ] in
         go (eqb p k) refl
 
 pub marked_past : (marks : List Bool) (p : ℕ) → length marks ≤ p → (n : ℕ) (ps : List ℕ) → IsMarked n marks ps → IsMarked n marks (ps ++ p ∷ [])

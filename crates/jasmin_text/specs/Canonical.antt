@@ -1,5 +1,5 @@
 -- The one canonical spelling of a class text, line by line.
-use Rattle.std.specs.Prelude.{◌≡◌, ℕ, ◌+◌, min, Bool, true, false, ◌||◌, ◌==◌, List, [], ◌∷◌, ◌++◌, length, map, Option, Some, None, ℤ}
+use Rattle.std.specs.Prelude.{ℕ, ◌+◌, min, Bool, true, false, ◌||◌, ◌==◌, List, [], ◌∷◌, ◌++◌, length, map, Option, Some, None, ℤ}
 use Rattle.std.specs.List.{flat_map}
 use Rattle.std.specs.Fmt.{decimal, signed_decimal}
 use Rattle.descriptors.specs.Spelling.{field_spelling, method_spelling}
@@ -177,8 +177,8 @@ locals_line code = spelled word.LimitLocals ++ decimal code.locals
 
 unfoldable pub code_lines : Code → List (List ℕ)
 code_lines code =
-  stack_line code ∷ locals_line code
-  ∷ (map handler_line code.handlers ++ body_lines (code_places code) 0 code.instructions)
+    stack_line code ∷ locals_line code
+    ∷ (map handler_line code.handlers ++ body_lines (code_places code) 0 code.instructions)
 
 unfoldable pub method_line : Method → List ℕ
 method_line m = spelled word.Method ++ access_text m.access ++ 32 ∷ m.name ++ method_spelling m.method_type
@@ -193,8 +193,8 @@ method_lines m = method_line m ∷ (optional_code_lines m.code ++ spelled word.E
 
 unfoldable pub class_lines : ClassParts → List (List ℕ)
 class_lines c =
-  class_line c.kind c.access c.name ∷ super_line c.superclass
-  ∷ (map implements_line c.interfaces ++ map field_line c.fields ++ flat_map method_lines c.methods)
+    class_line c.kind c.access c.name ∷ super_line c.superclass
+    ∷ (map implements_line c.interfaces ++ map field_line c.fields ++ flat_map method_lines c.methods)
 
 -- the file
 abbrev pub canonical_text : ClassParts → List ℕ

@@ -4,3 +4,5 @@ pub mod Canonical
 pub mod Marks
 pub mod Tables
 pub mod Spellable
+pub mod Forms
+pub mod Grammar

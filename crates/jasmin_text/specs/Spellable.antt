@@ -11,7 +11,6 @@ use Rattle.descriptors.specs.declared.field.FieldType.{FieldType}
 use Rattle.jasmin_words.specs.Lexing.{fits}
 use Rattle.jasmin_words.specs.Names.{same_bytes, is_member_name}
 use Rattle.jasmin_text.specs.Tables.{is_access_word}
-use Rattle.jasmin_text.specs.declared.access.Access.{Access}
 use Rattle.jasmin_text.specs.declared.class_text.ClassKind.{ClassKind}
 use Rattle.jasmin_text.specs.declared.class_text.ClassKind.TheVariants as kind
 use Rattle.jasmin_text.specs.declared.class_text.Constant.{Constant}
@@ -53,17 +52,21 @@ abbrev pub is_element_type : ElementType → Bool
 is_element_type (element.Base b) = true
 is_element_type (element.Class name) = is_class_name name
 
+-- a type that there is
+abbrev pub is_type : FieldType → Bool
+is_type t = nat_le t.dimensions 255 && is_element_type t.element
+
 -- a type whose descriptor is one word
 unfoldable pub is_field_type : FieldType → Bool
-is_field_type t = is_element_type t.element && fits (field_spelling t)
+is_field_type t = is_type t && fits (field_spelling t)
 
 abbrev pub is_result_type : Option FieldType → Bool
 is_result_type None = true
-is_result_type (Some t) = is_element_type t.element
+is_result_type (Some t) = is_type t
 
--- each class of the signature has a name
+-- a signature that there is
 unfoldable pub is_method_type : Signature → Bool
-is_method_type m = nat_le (length m.parameters) 255 && list_all (λ t. is_element_type t.element) m.parameters && is_result_type m.result
+is_method_type m = nat_le (length m.parameters) 255 && list_all is_type m.parameters && is_result_type m.result
 
 abbrev pub is_int_type : FieldType → Bool
 is_int_type t = elim t.element [ element.Base b ↦ t.dimensions == 0 | element.Class name ↦ false ]
@@ -141,13 +144,13 @@ is_caught (Some name) = is_class_word name && not (same_bytes name (codes "all")
 -- a row of the handler table of a body of so many instructions
 unfoldable pub is_handler : ℕ → Handler → Bool
 is_handler count h =
-  is_caught h.class && nat_le h.from count && nat_le h.to count && nat_le h.handler count
+    is_caught h.class && nat_le h.from count && nat_le h.to count && nat_le h.handler count
 
 -- JVMS SE 8 4.7.3, with this project's limits
 unfoldable pub is_code : Code → Bool
 is_code c =
-  nat_le c.stack 1024 && nat_le c.locals 1024 && not (length c.instructions == 0) && have_room 16384 c.instructions
-  && list_all (is_handler (length c.instructions)) c.handlers && list_all (is_instruction (length c.instructions)) c.instructions
+    nat_le c.stack 1024 && nat_le c.locals 1024 && not (length c.instructions == 0) && have_room 16384 c.instructions
+    && list_all (is_handler (length c.instructions)) c.handlers && list_all (is_instruction (length c.instructions)) c.instructions
 
 abbrev pub is_optional_code : Bool → Option Code → Bool
 is_optional_code is_abstract None = is_abstract
@@ -159,9 +162,9 @@ is_initializer m = m.access.is_static && length m.method_type.parameters == 0 &&
 
 unfoldable pub is_method : Method → Bool
 is_method m =
-  is_member_name m.name && is_method_type m.method_type && fits (m.name ++ method_spelling m.method_type)
-  && not (m.access.is_abstract && m.access.is_static) && (if same_bytes m.name (codes "<clinit>") then is_initializer m else true)
-  && is_optional_code m.access.is_abstract m.code
+    is_member_name m.name && is_method_type m.method_type && fits (m.name ++ method_spelling m.method_type)
+    && not (m.access.is_abstract && m.access.is_static) && (if same_bytes m.name (codes "<clinit>") then is_initializer m else true)
+    && is_optional_code m.access.is_abstract m.code
 
 -- behind .class the word interface is an access word
 abbrev pub is_taken : ClassKind → List ℕ → Bool
@@ -171,10 +174,10 @@ is_taken kind.Interface name = is_access_word name
 -- the parts that a file can spell
 unfoldable pub is_spellable : ClassParts → Bool
 is_spellable c =
-  is_class_word c.name && not (is_taken c.kind c.name) && is_class_word c.superclass
-  && nat_le (length c.interfaces) 255 && list_all is_class_word c.interfaces
-  && nat_le (length c.fields) 1024 && nat_le (length c.methods) (1024 - length c.fields)
-  && list_all is_field c.fields && list_all is_method c.methods
+    is_class_word c.name && not (is_taken c.kind c.name) && is_class_word c.superclass
+    && nat_le (length c.interfaces) 255 && list_all is_class_word c.interfaces
+    && nat_le (length c.fields) 1024 && nat_le (length c.methods) (1024 - length c.fields)
+    && list_all is_field c.fields && list_all is_method c.methods
 
 abbrev pub IsSpellable : ClassParts → Type 0
 IsSpellable c = is_spellable c ≡ true

@@ -1,5 +1,5 @@
 -- Tables of words.
-use Rattle.std.specs.Prelude.{ℕ, Bool, List, [], ◌∷◌, Option, Some, None, if◌then◌else◌, map, is_some}
+use Rattle.std.specs.Prelude.{ℕ, Bool, false, ◌||◌, List, [], ◌∷◌, Option, Some, None, if◌then◌else◌, map, is_some}
 use Rattle.std.specs.Borrow.{Bor}
 use Rattle.jasmin_words.specs.Names.{same_bytes}
 use Rattle.jasmin_text.specs.declared.table.AccessWord.{AccessWord}
@@ -13,6 +13,11 @@ find_row word (row ∷ rows) = if same_bytes word row.0 then Some row.1 else fin
 -- a table's rows, without where they lie in memory
 abbrev pub rows : {T : Type 0} → List (Bor (List ℕ) × T) → List (List ℕ × T)
 rows table = map (λ r. (r.0.now, r.1)) table
+
+-- the word is one of these
+abbrev pub stands_in : List ℕ → List (List ℕ) → Bool
+stands_in word [] = false
+stands_in word (w ∷ words) = same_bytes word w || stands_in word words
 
 -- the access words
 unfoldable pub access_words : List (List ℕ × AccessWord)

@@ -10,20 +10,25 @@
 
 pub mod access;
 pub mod class_text;
+pub mod form;
 pub mod instruction;
 mod keyword;
+pub mod laws;
 mod mark;
 mod spellable;
 mod spellable_code;
 pub mod table;
 pub mod text;
-pub mod word;
+mod word;
 mod write;
 mod write_code;
 
 pub use access::Access;
 pub use class_text::{ClassKind, ClassParts, Code, Constant, Field, Handler, Method};
-pub use instruction::{Call, FieldAccess, FieldReference, Instruction, Jump, Local, MethodReference, Plain, ReferenceType, TypeUse};
+pub use instruction::{
+    Call, FieldAccess, FieldReference, Instruction, Jump, Local, MethodReference, Plain,
+    ReferenceType, TypeUse,
+};
 pub use text::{ClassText, write_class};
 
 #[cfg(test)]

@@ -5,7 +5,7 @@ ghost use Rattle.std.specs.List.{list_all};
 ghost use Rattle.descriptors.specs.Spelling.{field_spelling, method_spelling};
 ghost use Rattle.jasmin_words.specs.Lexing.{fits};
 ghost use Rattle.jasmin_text.specs.Tables.{is_access_word};
-ghost use Rattle.jasmin_text.specs.Spellable.{is_local, is_int, is_short, is_class_word, is_string, is_element_type, is_field_type, is_result_type, is_method_type, is_int_type, is_string_type, is_value_of, is_field, is_field_reference, is_method_reference, is_reference_type, is_constant};
+ghost use Rattle.jasmin_text.specs.Spellable.{is_local, is_int, is_short, is_class_word, is_string, is_element_type, is_type, is_field_type, is_result_type, is_method_type, is_int_type, is_string_type, is_value_of, is_field, is_field_reference, is_method_reference, is_reference_type, is_constant};
 
 use crate::class_text::{Constant, Field};
 use crate::instruction::{FieldReference, MethodReference, ReferenceType};
@@ -65,18 +65,24 @@ fn element_type(element: &ElementType) -> bool
     }
 }
 
+fn known_type(field: &FieldType) -> bool
+    ensures { result ≡ is_type field.now }
+{
+    field.dimensions <= 255 && element_type(&field.element)
+}
+
 #[tactic(auto, unfolding(crate::specs::Spellable::is_field_type))]
 pub(crate) fn field_type(alloc: Global, field: &FieldType) -> Result<bool, AllocError>
     ensures { IfOk result (λ b. b ≡ is_field_type field.now) }
 {
     let spelling = write_field(alloc, field)?;
-    Ok(element_type(&field.element) && short(spelling.as_slice()))
+    Ok(known_type(field) && short(spelling.as_slice()))
 }
 
 fn parameter_types(parameters: &[FieldType]) -> bool
-    ensures { result ≡ list_all (λ t. is_element_type t.element) parameters.now }
+    ensures { result ≡ list_all is_type parameters.now }
 {
-    parameters.iter().all(|parameter| element_type(&parameter.element))
+    parameters.iter().all(|parameter| known_type(parameter))
 }
 
 fn result_type(outcome: Option<&FieldType>) -> bool
@@ -84,7 +90,7 @@ fn result_type(outcome: Option<&FieldType>) -> bool
 {
     match outcome {
         None => true,
-        Some(field) => element_type(&field.element),
+        Some(field) => known_type(field),
     }
 }
 
@@ -133,10 +139,12 @@ pub(crate) fn field(alloc: Global, field: &Field) -> Result<bool, AllocError>
 {
     let name = field.name.as_slice();
     let typed = field_type(alloc, &field.field_type)?;
-    Ok(short(name)
-        && access_of(name).is_none()
-        && typed
-        && value_of(&field.field_type, &field.value))
+    Ok(
+        short(name)
+            && access_of(name).is_none()
+            && typed
+            && value_of(&field.field_type, &field.value),
+    )
 }
 
 /// The class, a slash and the name.
@@ -150,7 +158,11 @@ fn member_word(alloc: Global, class: &[u8], name: &[u8]) -> Result<Vec<u8>, Allo
 }
 
 /// The name and the descriptor of a method.
-pub(crate) fn method_word(alloc: Global, name: &[u8], method: &MethodType) -> Result<Vec<u8>, AllocError>
+pub(crate) fn method_word(
+    alloc: Global,
+    name: &[u8],
+    method: &MethodType,
+) -> Result<Vec<u8>, AllocError>
     ensures { IfOk result (λ word. word.items ≡ name.now ++ method_spelling method.now) }
 {
     let mut word = Vec::from_slice(alloc, name)?;

@@ -7,7 +7,10 @@ ghost use Rattle.jasmin_text.specs.Spellable.{is_int, is_class_word, rises_from,
 
 use crate::class_text::{ClassKind, ClassParts, Code, Field, Handler, Method};
 use crate::instruction::Instruction;
-use crate::spellable::{class_word, constant, field, field_reference, int, local, method_reference, method_type, method_word, reference_type, short, short_int};
+use crate::spellable::{
+    class_word, constant, field, field_reference, int, local, method_reference, method_type,
+    method_word, reference_type, short, short_int,
+};
 use crate::table::access_of;
 use descriptors::ClassName;
 use jasmin_words::name::same;
@@ -22,7 +25,9 @@ fn places_within(places: &[u16], count: usize) -> bool
 fn cases_within(cases: &[(i32, u16)], count: usize) -> bool
     ensures { result ≡ list_all (λ c. is_int c.0 && nat_le c.1 count) cases.now }
 {
-    cases.iter().all(|case| int(case.0) && case.1 as usize <= count)
+    cases
+        .iter()
+        .all(|case| int(case.0) && case.1 as usize <= count)
 }
 
 fn rise_from(key: i32, cases: &[(i32, u16)]) -> bool
@@ -50,7 +55,11 @@ fn rise(cases: &[(i32, u16)]) -> bool
 }
 
 #[tactic(auto, unfolding(crate::specs::Spellable::is_instruction))]
-fn instruction(alloc: Global, count: usize, instruction: &Instruction<u16>) -> Result<bool, AllocError>
+fn instruction(
+    alloc: Global,
+    count: usize,
+    instruction: &Instruction<u16>,
+) -> Result<bool, AllocError>
     ensures { IfOk result (λ b. b ≡ is_instruction count instruction.now) }
 {
     match instruction {
@@ -62,9 +71,11 @@ fn instruction(alloc: Global, count: usize, instruction: &Instruction<u16>) -> R
         Instruction::TableSwitch(low, places, default) => {
             Ok(int(*low) && places_within(places.as_slice(), count) && *default as usize <= count)
         }
-        Instruction::LookupSwitch(cases, default) => Ok(cases_within(cases.as_slice(), count)
-            && rise(cases.as_slice())
-            && *default as usize <= count),
+        Instruction::LookupSwitch(cases, default) => Ok(
+            cases_within(cases.as_slice(), count)
+                && rise(cases.as_slice())
+                && *default as usize <= count,
+        ),
         Instruction::Field(_, field) => field_reference(alloc, field),
         Instruction::Call(_, method) => method_reference(alloc, method),
         Instruction::CallInterface(method) => method_reference(alloc, method),
@@ -79,10 +90,18 @@ fn room_of(room: usize, instruction: &Instruction<u16>) -> Option<usize>
 {
     match instruction {
         Instruction::TableSwitch(_, places, _) => {
-            if places.len() < room { Some(room - 1 - places.len()) } else { None }
+            if places.len() < room {
+                Some(room - 1 - places.len())
+            } else {
+                None
+            }
         }
         Instruction::LookupSwitch(cases, _) => {
-            if cases.len() < room { Some(room - 1 - cases.len()) } else { None }
+            if cases.len() < room {
+                Some(room - 1 - cases.len())
+            } else {
+                None
+            }
         }
         _ => if room != 0 { Some(room - 1) } else { None },
     }
@@ -126,7 +145,11 @@ fn handlers_within(count: usize, handlers: &[Handler]) -> bool
     handlers.iter().all(|row| handler(count, row))
 }
 
-fn instructions_within(alloc: Global, count: usize, instructions: &[Instruction<u16>]) -> Result<bool, AllocError>
+fn instructions_within(
+    alloc: Global,
+    count: usize,
+    instructions: &[Instruction<u16>],
+) -> Result<bool, AllocError>
     ensures { IfOk result (λ b. b ≡ list_all (is_instruction count) instructions.now) }
 {
     for next in instructions {
@@ -143,12 +166,14 @@ fn code(alloc: Global, code: &Code) -> Result<bool, AllocError>
 {
     let count = code.instructions.len();
     let spelled = instructions_within(alloc, count, code.instructions.as_slice())?;
-    Ok(code.stack <= 1024
-        && code.locals <= 1024
-        && count != 0
-        && room_for(code.instructions.as_slice())
-        && handlers_within(count, code.handlers.as_slice())
-        && spelled)
+    Ok(
+        code.stack <= 1024
+            && code.locals <= 1024
+            && count != 0
+            && room_for(code.instructions.as_slice())
+            && handlers_within(count, code.handlers.as_slice())
+            && spelled,
+    )
 }
 
 fn optional_code(alloc: Global, is_abstract: bool, body: &Option<Code>) -> Result<bool, AllocError>
@@ -171,7 +196,11 @@ fn initializer(method: &Method) -> bool
 fn initializer_if(method: &Method) -> bool
     ensures { result ≡ (if same_bytes method.now.name (codes "<clinit>") then is_initializer method.now else true) }
 {
-    if same(method.name.as_slice(), b"<clinit>") { initializer(method) } else { true }
+    if same(method.name.as_slice(), b"<clinit>") {
+        initializer(method)
+    } else {
+        true
+    }
 }
 
 #[tactic(auto, unfolding(crate::specs::Spellable::is_method))]
@@ -180,11 +209,13 @@ fn method(alloc: Global, method: &Method) -> Result<bool, AllocError>
 {
     let word = method_word(alloc, method.name.as_slice(), &method.method_type)?;
     let body = optional_code(alloc, method.access.is_abstract, &method.code)?;
-    Ok(method_type(&method.method_type)
-        && short(word.as_slice())
-        && !(method.access.is_abstract && method.access.is_static)
-        && initializer_if(method)
-        && body)
+    Ok(
+        method_type(&method.method_type)
+            && short(word.as_slice())
+            && !(method.access.is_abstract && method.access.is_static)
+            && initializer_if(method)
+            && body,
+    )
 }
 
 fn all_fields(alloc: Global, fields: &[Field]) -> Result<bool, AllocError>
@@ -231,13 +262,15 @@ pub(crate) fn spellable(alloc: Global, class: &ClassParts) -> Result<bool, Alloc
 {
     let fields = all_fields(alloc, class.fields.as_slice())?;
     let methods = all_methods(alloc, class.methods.as_slice())?;
-    Ok(class_word(&class.name)
-        && !taken(class.kind, class.name.as_slice())
-        && class_word(&class.superclass)
-        && class.interfaces.len() <= 255
-        && all_interfaces(class.interfaces.as_slice())
-        && class.fields.len() <= 1024
-        && class.methods.len() <= 1024 - class.fields.len()
-        && fields
-        && methods)
+    Ok(
+        class_word(&class.name)
+            && !taken(class.kind, class.name.as_slice())
+            && class_word(&class.superclass)
+            && class.interfaces.len() <= 255
+            && all_interfaces(class.interfaces.as_slice())
+            && class.fields.len() <= 1024
+            && class.methods.len() <= 1024 - class.fields.len()
+            && fields
+            && methods,
+    )
 }

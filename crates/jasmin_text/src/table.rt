@@ -1,7 +1,7 @@
 //! Tables of words.
 
-ghost use Rattle.std.specs.Prelude.{◌≡◌};
-ghost use Rattle.jasmin_text.specs.Tables.{find_row, rows, access_of as access_at};
+ghost use Rattle.std.specs.Prelude.{◌≡◌, map};
+ghost use Rattle.jasmin_text.specs.Tables.{find_row, rows, stands_in as is_among, access_of as access_at};
 
 use jasmin_words::name::same;
 
@@ -55,7 +55,7 @@ pub const ACCESS_WORDS: [(&[u8], AccessWord); 19] = [
     (b"native", AccessWord::LeftOut),
 ];
 
-fn find<T: Copy>(word: &[u8], table: &[(&[u8], T)]) -> Option<T>
+pub(crate) fn find<T: Copy>(word: &[u8], table: &[(&[u8], T)]) -> Option<T>
     ensures { result ≡ find_row word.now (rows table.now) }
 {
     let mut rest = table;
@@ -66,6 +66,19 @@ fn find<T: Copy>(word: &[u8], table: &[(&[u8], T)]) -> Option<T>
         rest = after;
     }
     None
+}
+
+pub(crate) fn stands_in(word: &[u8], words: &[&[u8]]) -> bool
+    ensures { result ≡ is_among word.now (map (λ w. w.now) words.now) }
+{
+    let mut rest = words;
+    while let [next, after @ ..] = rest {
+        if same(word, next) {
+            return true;
+        }
+        rest = after;
+    }
+    false
 }
 
 /// What the word says, if it is an access word.

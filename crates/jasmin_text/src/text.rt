@@ -40,7 +40,11 @@ impl ClassText {
     pub fn new(alloc: Global, parts: ClassParts) -> Result<Option<Self>, AllocError>
         ensures { IfOk result (λ text. SomeIff text (IsSpellable parts) parts) }
     {
-        if spellable(alloc, &parts)? { Ok(Some(ClassText { parts })) } else { Ok(None) }
+        if spellable(alloc, &parts)? {
+            Ok(Some(ClassText { parts }))
+        } else {
+            Ok(None)
+        }
     }
 
     /// The parts. A file can spell them.

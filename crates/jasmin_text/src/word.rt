@@ -7,7 +7,7 @@ use crate::instruction::{Call, FieldAccess, Jump, Local, Plain, TypeUse};
 use descriptors::BaseType;
 
 /// The word of an instruction without operands.
-pub fn plain_word(plain: Plain) -> &'static [u8]
+pub(crate) fn plain_word(plain: Plain) -> &'static [u8]
     ensures { result.now ≡ plain_word_spelling plain }
 {
     match plain {
@@ -58,7 +58,7 @@ pub fn plain_word(plain: Plain) -> &'static [u8]
 }
 
 /// The word of an instruction with the number of a local.
-pub fn local_word(local: Local) -> &'static [u8]
+pub(crate) fn local_word(local: Local) -> &'static [u8]
     ensures { result.now ≡ local_word_spelling local }
 {
     match local {
@@ -70,7 +70,7 @@ pub fn local_word(local: Local) -> &'static [u8]
 }
 
 /// The word of a jump.
-pub fn jump_word(jump: Jump) -> &'static [u8]
+pub(crate) fn jump_word(jump: Jump) -> &'static [u8]
     ensures { result.now ≡ jump_word_spelling jump }
 {
     match jump {
@@ -95,7 +95,7 @@ pub fn jump_word(jump: Jump) -> &'static [u8]
 }
 
 /// The word of an instruction on a field.
-pub fn field_word(access: FieldAccess) -> &'static [u8]
+pub(crate) fn field_word(access: FieldAccess) -> &'static [u8]
     ensures { result.now ≡ field_word_spelling access }
 {
     match access {
@@ -107,7 +107,7 @@ pub fn field_word(access: FieldAccess) -> &'static [u8]
 }
 
 /// The word of a call.
-pub fn call_word(call: Call) -> &'static [u8]
+pub(crate) fn call_word(call: Call) -> &'static [u8]
     ensures { result.now ≡ call_word_spelling call }
 {
     match call {
@@ -118,7 +118,7 @@ pub fn call_word(call: Call) -> &'static [u8]
 }
 
 /// The word of an instruction on a type.
-pub fn type_word(type_use: TypeUse) -> &'static [u8]
+pub(crate) fn type_word(type_use: TypeUse) -> &'static [u8]
     ensures { result.now ≡ type_word_spelling type_use }
 {
     match type_use {
@@ -129,7 +129,7 @@ pub fn type_word(type_use: TypeUse) -> &'static [u8]
 }
 
 /// The word of a base type as `newarray` names it.
-pub fn base_word(base: BaseType) -> &'static [u8]
+pub(crate) fn base_word(base: BaseType) -> &'static [u8]
     ensures { result.now ≡ base_word_spelling base }
 {
     match base {

@@ -19,7 +19,11 @@ use std::alloc::{AllocError, Global};
 fn push_if(text: &mut Vec<u8>, stands: bool, keyword: Keyword) -> Result<(), AllocError>
     ensures { OnOk result (text.new.items ≡ text.old.items ++ word_if stands keyword) }
 {
-    if stands { push_keyword(text, keyword) } else { Ok(()) }
+    if stands {
+        push_keyword(text, keyword)
+    } else {
+        Ok(())
+    }
 }
 
 #[tactic(auto, unfolding(crate::specs::Canonical::visibility_text))]
@@ -58,14 +62,22 @@ fn push_access(text: &mut Vec<u8>, access: &Access) -> Result<(), AllocError>
     push_storage(text, access)
 }
 
-pub(crate) fn push_field_type(alloc: Global, text: &mut Vec<u8>, field_type: &FieldType) -> Result<(), AllocError>
+pub(crate) fn push_field_type(
+    alloc: Global,
+    text: &mut Vec<u8>,
+    field_type: &FieldType,
+) -> Result<(), AllocError>
     ensures { OnOk result (text.new.items ≡ text.old.items ++ field_spelling field_type.now) }
 {
     let spelling = write_field(alloc, field_type)?;
     push(text, &spelling)
 }
 
-pub(crate) fn push_method_type(alloc: Global, text: &mut Vec<u8>, method_type: &MethodType) -> Result<(), AllocError>
+pub(crate) fn push_method_type(
+    alloc: Global,
+    text: &mut Vec<u8>,
+    method_type: &MethodType,
+) -> Result<(), AllocError>
     ensures { OnOk result (text.new.items ≡ text.old.items ++ method_spelling method_type.now) }
 {
     let spelling = write_method(alloc, method_type)?;
@@ -73,7 +85,12 @@ pub(crate) fn push_method_type(alloc: Global, text: &mut Vec<u8>, method_type: &
 }
 
 #[tactic(auto, unfolding(crate::specs::Canonical::class_line))]
-fn push_class_line(text: &mut Vec<u8>, kind: ClassKind, access: &Access, name: &ClassName) -> Result<(), AllocError>
+fn push_class_line(
+    text: &mut Vec<u8>,
+    kind: ClassKind,
+    access: &Access,
+    name: &ClassName,
+) -> Result<(), AllocError>
     ensures { OnOk result (text.new.items ≡ text.old.items ++ ended (class_line kind access.now name.now)) }
 {
     match kind {
@@ -148,7 +165,11 @@ fn push_field_line(alloc: Global, text: &mut Vec<u8>, field: &Field) -> Result<(
 }
 
 #[tactic(auto, unfolding(crate::specs::Canonical::method_line))]
-pub(crate) fn push_method_line(alloc: Global, text: &mut Vec<u8>, method: &Method) -> Result<(), AllocError>
+pub(crate) fn push_method_line(
+    alloc: Global,
+    text: &mut Vec<u8>,
+    method: &Method,
+) -> Result<(), AllocError>
     ensures { OnOk result (text.new.items ≡ text.old.items ++ ended (method_line method.now)) }
 {
     push_keyword(text, Keyword::Method)?;
@@ -208,11 +229,20 @@ fn push_fields(alloc: Global, text: &mut Vec<u8>, fields: &[Field]) -> Result<()
 fn push_place(text: &mut Vec<u8>, stands: bool, place: usize) -> Result<(), AllocError>
     ensures { OnOk result (text.new.items ≡ text.old.items ++ ended_all (lines_if stands (label_line place))) }
 {
-    if stands { push_label_line(text, place) } else { Ok(()) }
+    if stands {
+        push_label_line(text, place)
+    } else {
+        Ok(())
+    }
 }
 
 /// The instructions, each behind its label.
-fn push_body(alloc: Global, text: &mut Vec<u8>, code: &Code, marks: &[bool]) -> Result<(), AllocError>
+fn push_body(
+    alloc: Global,
+    text: &mut Vec<u8>,
+    code: &Code,
+    marks: &[bool],
+) -> Result<(), AllocError>
     requires { IsMarked (length code.now.instructions + 1) marks.now (code_places code.now) }
     ensures { OnOk result (text.new.items ≡ text.old.items ++ ended_all (body_lines (code_places code.now) 0 code.now.instructions)) }
 {
@@ -236,7 +266,11 @@ fn push_code(alloc: Global, text: &mut Vec<u8>, code: &Code) -> Result<(), Alloc
     push_body(alloc, text, code, marks.as_slice())
 }
 
-fn push_optional_code(alloc: Global, text: &mut Vec<u8>, code: &Option<Code>) -> Result<(), AllocError>
+fn push_optional_code(
+    alloc: Global,
+    text: &mut Vec<u8>,
+    code: &Option<Code>,
+) -> Result<(), AllocError>
     ensures { OnOk result (text.new.items ≡ text.old.items ++ ended_all (optional_code_lines code.now)) }
 {
     match code {

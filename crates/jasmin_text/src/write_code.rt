@@ -83,7 +83,11 @@ fn push_field(alloc: Global, text: &mut Vec<u8>, field: &FieldReference) -> Resu
 }
 
 #[tactic(auto, unfolding(crate::specs::Canonical::method_text))]
-fn push_method(alloc: Global, text: &mut Vec<u8>, method: &MethodReference) -> Result<(), AllocError>
+fn push_method(
+    alloc: Global,
+    text: &mut Vec<u8>,
+    method: &MethodReference,
+) -> Result<(), AllocError>
     ensures { OnOk result (text.new.items ≡ text.old.items ++ method_text method.now) }
 {
     push(text, method.class.as_slice())?;
@@ -92,7 +96,11 @@ fn push_method(alloc: Global, text: &mut Vec<u8>, method: &MethodReference) -> R
     push_method_type(alloc, text, &method.method_type)
 }
 
-fn push_reference(alloc: Global, text: &mut Vec<u8>, reference: &ReferenceType) -> Result<(), AllocError>
+fn push_reference(
+    alloc: Global,
+    text: &mut Vec<u8>,
+    reference: &ReferenceType,
+) -> Result<(), AllocError>
     ensures { OnOk result (text.new.items ≡ text.old.items ++ reference_text reference.now) }
 {
     match reference {
@@ -102,11 +110,19 @@ fn push_reference(alloc: Global, text: &mut Vec<u8>, reference: &ReferenceType) 
 }
 
 #[tactic(auto, unfolding(crate::specs::Canonical::interface_line))]
-fn push_interface_line(alloc: Global, text: &mut Vec<u8>, method: &MethodReference) -> Result<(), AllocError>
+fn push_interface_line(
+    alloc: Global,
+    text: &mut Vec<u8>,
+    method: &MethodReference,
+) -> Result<(), AllocError>
     ensures { OnOk result (text.new.items ≡ text.old.items ++ ended (interface_line method.now)) }
 {
     let parameters = method.method_type.parameters().len();
-    let count = if parameters < 255 { parameters + 1 } else { 255 };
+    let count = if parameters < 255 {
+        parameters + 1
+    } else {
+        255
+    };
     push_keyword(text, Keyword::InvokeInterface)?;
     push_method(alloc, text, method)?;
     push(text, b" ")?;
@@ -170,7 +186,12 @@ fn push_case_lines(text: &mut Vec<u8>, cases: &[(i32, u16)]) -> Result<(), Alloc
 }
 
 #[tactic(auto, unfolding(crate::specs::Canonical::instruction_lines))]
-fn push_table_switch(text: &mut Vec<u8>, low: i32, places: &Sequence<u16>, default: u16) -> Result<(), AllocError>
+fn push_table_switch(
+    text: &mut Vec<u8>,
+    low: i32,
+    places: &Sequence<u16>,
+    default: u16,
+) -> Result<(), AllocError>
     ensures { OnOk result (text.new.items ≡ text.old.items ++ ended_all (instruction_lines (instruction.TableSwitch low places.now default))) }
 {
     push_keyword(text, Keyword::TableSwitch)?;
@@ -181,7 +202,11 @@ fn push_table_switch(text: &mut Vec<u8>, low: i32, places: &Sequence<u16>, defau
 }
 
 #[tactic(auto, unfolding(crate::specs::Canonical::instruction_lines))]
-fn push_lookup_switch(text: &mut Vec<u8>, cases: &Sequence<(i32, u16)>, default: u16) -> Result<(), AllocError>
+fn push_lookup_switch(
+    text: &mut Vec<u8>,
+    cases: &Sequence<(i32, u16)>,
+    default: u16,
+) -> Result<(), AllocError>
     ensures { OnOk result (text.new.items ≡ text.old.items ++ ended_all (instruction_lines (instruction.LookupSwitch cases.now default))) }
 {
     push_keyword(text, Keyword::LookupSwitch)?;
@@ -217,7 +242,12 @@ fn push_constant_line(text: &mut Vec<u8>, constant: &Constant) -> Result<(), All
     push(text, b"\n")
 }
 
-fn push_field_use(alloc: Global, text: &mut Vec<u8>, word: &[u8], field: &FieldReference) -> Result<(), AllocError>
+fn push_field_use(
+    alloc: Global,
+    text: &mut Vec<u8>,
+    word: &[u8],
+    field: &FieldReference,
+) -> Result<(), AllocError>
     ensures { OnOk result (text.new.items ≡ text.old.items ++ ended (word.now ++ 32 ∷ field_text field.now)) }
 {
     push(text, word)?;
@@ -226,7 +256,12 @@ fn push_field_use(alloc: Global, text: &mut Vec<u8>, word: &[u8], field: &FieldR
     push(text, b"\n")
 }
 
-fn push_call(alloc: Global, text: &mut Vec<u8>, word: &[u8], method: &MethodReference) -> Result<(), AllocError>
+fn push_call(
+    alloc: Global,
+    text: &mut Vec<u8>,
+    word: &[u8],
+    method: &MethodReference,
+) -> Result<(), AllocError>
     ensures { OnOk result (text.new.items ≡ text.old.items ++ ended (word.now ++ 32 ∷ method_text method.now)) }
 {
     push(text, word)?;
@@ -235,7 +270,12 @@ fn push_call(alloc: Global, text: &mut Vec<u8>, word: &[u8], method: &MethodRefe
     push(text, b"\n")
 }
 
-fn push_type_use(alloc: Global, text: &mut Vec<u8>, word: &[u8], reference: &ReferenceType) -> Result<(), AllocError>
+fn push_type_use(
+    alloc: Global,
+    text: &mut Vec<u8>,
+    word: &[u8],
+    reference: &ReferenceType,
+) -> Result<(), AllocError>
     ensures { OnOk result (text.new.items ≡ text.old.items ++ ended (word.now ++ 32 ∷ reference_text reference.now)) }
 {
     push(text, word)?;
@@ -262,7 +302,11 @@ fn push_plain_line(text: &mut Vec<u8>, word: &[u8]) -> Result<(), AllocError>
 
 /// The lines of an instruction.
 #[tactic(auto, unfolding(crate::specs::Canonical::instruction_lines))]
-pub(crate) fn push_instruction(alloc: Global, text: &mut Vec<u8>, instruction: &Instruction<u16>) -> Result<(), AllocError>
+pub(crate) fn push_instruction(
+    alloc: Global,
+    text: &mut Vec<u8>,
+    instruction: &Instruction<u16>,
+) -> Result<(), AllocError>
     ensures { OnOk result (text.new.items ≡ text.old.items ++ ended_all (instruction_lines instruction.now)) }
 {
     match instruction {
@@ -271,13 +315,25 @@ pub(crate) fn push_instruction(alloc: Global, text: &mut Vec<u8>, instruction: &
         Instruction::Local(word, local) => push_numbered(text, local_word(*word), *local),
         Instruction::Increment(local, by) => push_increment_line(text, *local, *by),
         Instruction::Jump(jump, place) => push_jump_line(text, jump_word(*jump), *place),
-        Instruction::TableSwitch(low, places, default) => push_table_switch(text, *low, places, *default),
+        Instruction::TableSwitch(low, places, default) => push_table_switch(
+            text, *low, places, *default,
+        ),
         Instruction::LookupSwitch(cases, default) => push_lookup_switch(text, cases, *default),
-        Instruction::Field(access, field) => push_field_use(alloc, text, field_word(*access), field),
+        Instruction::Field(access, field) => push_field_use(
+            alloc,
+            text,
+            field_word(*access),
+            field,
+        ),
         Instruction::Call(call, method) => push_call(alloc, text, call_word(*call), method),
         Instruction::CallInterface(method) => push_interface_line(alloc, text, method),
         Instruction::New(class) => push_keyed(text, Keyword::New, class.as_slice()),
         Instruction::NewArray(base) => push_keyed(text, Keyword::NewArray, base_word(*base)),
-        Instruction::TypeUse(type_use, reference) => push_type_use(alloc, text, type_word(*type_use), reference),
+        Instruction::TypeUse(type_use, reference) => push_type_use(
+            alloc,
+            text,
+            type_word(*type_use),
+            reference,
+        ),
     }
 }

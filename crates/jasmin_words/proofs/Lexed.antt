@@ -1,10 +1,8 @@
 -- What every word of a line is like.
-use Rattle.std.proofs.Common.{◌≡◌, ℕ, zero, suc, Bool, true, false, not, ◌&&◌, cond, eqb, List, [], ◌∷◌, ◌++◌, length, drop, take, Option, Some, None, Result, Ok, Err, refl, sym, arith}
+use Rattle.std.proofs.Common.{◌≡◌, ℕ, zero, suc, Bool, true, false, not, ◌&&◌, cond, eqb, List, [], ◌∷◌, length, drop, take, Option, Some, None, refl}
 use Rattle.std.specs.List.{list_all}
-use Rattle.std.specs.Str.{is_utf8}
 use Rattle.std.proofs.lemmas.Str.{is_utf8-from_IsUtf8, IsUtf8-from_is_utf8}
-use Rattle.jasmin_words.specs.Escapes.{unescaped}
-use Rattle.jasmin_words.specs.Lexing.{Item, Word, LongWord, BadWord, Equals, Colon, Text, BadText, fits, is_blank, is_parting, is_plain, word_len, word_item, word_at, raw_len, string_item, closed_at, string_at, token_at, after_token, words_in, words_from}
+use Rattle.jasmin_words.specs.Lexing.{Item, Word, LongWord, BadWord, Equals, Colon, Text, BadText, fits, is_blank, is_plain, word_len, word_item, word_at, raw_len, string_item, closed_at, string_at, token_at, after_token, words_in, words_from}
 use Rattle.jasmin_words.specs.Spelling.{is_word_byte, IsLexed, AreLexed}
 use Rattle.jasmin_words.proofs.TakenString.{IsOpen, quoted_taken}
 use Rattle.jasmin_words.proofs.Taken.{IsStringItem, string_is, open_text, none_part}
@@ -27,7 +25,7 @@ word_lexed w h =
           let fit : (f : Bool) → fits w ≡ f → IsLexed (cond f (Word w) (LongWord w)) = λ f. elim f as (λ f. fits w ≡ f → IsLexed (cond f (Word w) (LongWord w))) [ true ↦ λ f. (h p, f) | false ↦ λ f. tt ] in
           fit (fits w) refl
       | false ↦ λ p. tt
-      ] in
+    ] in
     go (list_all is_plain w) refl
 
 string_lexed : (closed : Bool) (raw : List ℕ) (i : Item) → IsOpen raw → IsStringItem closed raw i → IsLexed i

@@ -1,6 +1,6 @@
 -- An integer is read exactly where it is one.
-use Rattle.std.proofs.Common.{◌≡◌, ℕ, suc, ◌+◌, ◌*◌, ◌^◌, ◌<◌, ◌≤◌, Bool, true, false, ◌&&◌, cond, eqb, List, [], ◌∷◌, ◌++◌, length, Option, Some, None, refl, sym, ap, subst, ◌∙◌, arith, get_or}
-use Rattle.std.specs.Prelude.{ℤ, pos, negsuc, ◌-ℤ◌, neg_ℤ, FitsSigned, nat_lt, nat_le, IfSome}
+use Rattle.std.proofs.Common.{◌≡◌, ℕ, suc, ◌+◌, ◌*◌, ◌^◌, ◌<◌, ◌≤◌, Bool, true, false, ◌&&◌, cond, eqb, List, [], ◌∷◌, length, Option, Some, None, refl, sym, ap, subst, ◌∙◌, arith}
+use Rattle.std.specs.Prelude.{ℤ, pos, negsuc, neg_ℤ, FitsSigned, nat_lt, nat_le}
 use Rattle.std.specs.Int.{w32}
 use Rattle.std.specs.Char.{digit_value}
 use Rattle.std.specs.Fmt.{signed_decimal, decimal}
@@ -9,7 +9,7 @@ use Rattle.std.proofs.lemmas.Bool.{eqb-true, ltb-true, lt-ltb, le-leb, leb-true}
 use Rattle.std.proofs.lemmas.Fmt.{decimal_is_IsNumeral}
 use Rattle.std.proofs.lemmas.Int.Digits.{digits_value-lt}
 use Rattle.std.proofs.Math.Nat.{le-mul_of_pos_right, pow-le-pow_right}
-use Rattle.jasmin_words.proofs.Results.{HoldsIn, cond_in, guard_in, map_in, in_at}
+use Rattle.jasmin_words.proofs.Results.{HoldsIn, cond_in, guard_in, map_in}
 use Rattle.jasmin_words.specs.Integers.{number_after, magnitude_of, positive, negative, of_bits, pattern, integer_of, IsInteger, decimal as in_decimal, minus, bits}
 
 both : (a b : Bool) → (a && b) ≡ true → (a ≡ true) × (b ≡ true)
@@ -72,15 +72,15 @@ unfolding integer_of
 integer_is [] = tt
 integer_is (a ∷ []) =
     cond_in (IsInteger (a ∷ [])) (eqb a 45) _ _ (λ e. subst (λ (z : ℕ). HoldsIn (IsInteger (z ∷ [])) (negative (magnitude_of 10 []))) (sym (eqb-true a 45 e)) (negative_is [] (magnitude_of 10 []) (magnitude_is 10 [])))
-      (λ _. positive_is (a ∷ []) (magnitude_of 10 (a ∷ [])) (magnitude_is 10 (a ∷ [])))
+    (λ _. positive_is (a ∷ []) (magnitude_of 10 (a ∷ [])) (magnitude_is 10 (a ∷ [])))
 integer_is (a ∷ b ∷ rest) =
     cond_in (IsInteger (a ∷ b ∷ rest)) (eqb a 45) _ _ (λ e. subst (λ (z : ℕ). HoldsIn (IsInteger (z ∷ b ∷ rest)) (negative (magnitude_of 10 (b ∷ rest)))) (sym (eqb-true a 45 e)) (negative_is (b ∷ rest) (magnitude_of 10 (b ∷ rest)) (magnitude_is 10 (b ∷ rest)))) (λ _.
     cond_in (IsInteger (a ∷ b ∷ rest)) (eqb a 48 && eqb b 120) _ _ (λ e.
-      let p = both (eqb a 48) (eqb b 120) e in
-      let same : a ∷ b ∷ rest ≡ 48 ∷ 120 ∷ rest = let p0 : a ≡ 48 = eqb-true a 48 p.0 in let p1 : b ≡ 120 = eqb-true b 120 p.1 in cc in
-      subst (λ (z : List ℕ). HoldsIn (IsInteger z) (cond (nat_le (length rest) 8) (pattern (magnitude_of 16 rest)) None)) (sym same)
-        (guard_in (IsInteger (48 ∷ 120 ∷ rest)) (nat_le (length rest) 8) _ (λ f. pattern_is rest (magnitude_of 16 rest) (leb-true (length rest) 8 f) (magnitude_is 16 rest))))
-      (λ _. positive_is (a ∷ b ∷ rest) (magnitude_of 10 (a ∷ b ∷ rest)) (magnitude_is 10 (a ∷ b ∷ rest))))
+    let p = both (eqb a 48) (eqb b 120) e in
+    let same : a ∷ b ∷ rest ≡ 48 ∷ 120 ∷ rest = let p0 : a ≡ 48 = eqb-true a 48 p.0 in let p1 : b ≡ 120 = eqb-true b 120 p.1 in cc in
+    subst (λ (z : List ℕ). HoldsIn (IsInteger z) (cond (nat_le (length rest) 8) (pattern (magnitude_of 16 rest)) None)) (sym same)
+    (guard_in (IsInteger (48 ∷ 120 ∷ rest)) (nat_le (length rest) 8) _ (λ f. pattern_is rest (magnitude_of 16 rest) (leb-true (length rest) 8 f) (magnitude_is 16 rest))))
+    (λ _. positive_is (a ∷ b ∷ rest) (magnitude_of 10 (a ∷ b ∷ rest)) (magnitude_is 10 (a ∷ b ∷ rest))))
 
 -- ---- an integer is read
 
@@ -89,7 +89,7 @@ digit_is_not n d h off =
     let go : (t : Bool) → eqb d n ≡ t → t ≡ false = λ t. elim t as (λ t. eqb d n ≡ t → t ≡ false) [
       | true ↦ λ e. let same : d ≡ n = eqb-true d n e in let wrong : true ≡ false = sym (lt-ltb (digit_value d) 10 h) ∙ ap (λ (z : ℕ). nat_lt (digit_value z) 10) same ∙ off in wrong
       | false ↦ λ e. refl
-      ] in
+    ] in
     go (eqb d n) refl
 
 positive_again : (ds : List ℕ) → IsNumeral 10 ds → digits_value 10 ds < 2147483648 → positive (magnitude_of 10 ds) ≡ Some (pos (digits_value 10 ds))

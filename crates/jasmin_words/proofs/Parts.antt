@@ -1,5 +1,5 @@
 -- The parts of a string, one after the other.
-use Rattle.std.proofs.Common.{◌≡◌, ℕ, zero, suc, ◌+◌, ◌≤◌, ◌<◌, Bool, true, false, cond, eqb, ◌&&◌, List, [], ◌∷◌, ◌++◌, length, Option, Some, None, Result, Ok, Err, nat_lt, refl, sym, ap, ◌∙◌, append_assoc, arith}
+use Rattle.std.proofs.Common.{◌≡◌, ℕ, zero, suc, ◌≤◌, ◌<◌, Bool, true, false, eqb, ◌&&◌, List, [], ◌∷◌, ◌++◌, length, Option, Some, None, Result, Ok, Err, nat_lt, refl, sym, ap, ◌∙◌, append_assoc, arith}
 use Rattle.std.proofs.lemmas.Bool.{eqb-true}
 use Rattle.std.proofs.lemmas.List.{append-nil}
 use Rattle.std.specs.Char.{digit_value}
@@ -10,7 +10,7 @@ use Rattle.jasmin_words.specs.declared.escape.EscapeFault.{EscapeFault}
 use Rattle.jasmin_words.specs.declared.escape.Part.{Part}
 use Rattle.jasmin_words.specs.Gives.{◌>>=◌, Fails}
 use Rattle.jasmin_words.specs.Escapes.{encoded, hex_at, unit_at, low_at, unicode_at, escape, byte_or_wrong, escape_at, part_at, before, unescaped_in, unescaped}
-use Rattle.jasmin_words.proofs.Results.{Holds, then_holds, bind_holds, guard_holds, refuse_holds, cond_holds, holds_at}
+use Rattle.jasmin_words.proofs.Results.{Holds, bind_holds, guard_holds, refuse_holds, cond_holds, holds_at}
 
 -- at most so many bytes are left
 abbrev Leaves : {A : Type 0} → ℕ → A × List ℕ → Type 0

@@ -1,13 +1,10 @@
 -- A written string is read as what it means.
-use Rattle.std.proofs.Common.{◌≡◌, ℕ, suc, ◌+◌, ◌*◌, ◌<◌, Bool, true, false, not, ◌&&◌, cond, eqb, List, [], ◌∷◌, ◌++◌, length, take, drop, Option, Some, None, Result, Ok, Err, nat_lt, refl, sym, ap, ◌∙◌, append_assoc, arith}
+use Rattle.std.proofs.Common.{◌≡◌, ℕ, suc, ◌+◌, Bool, true, false, eqb, List, [], ◌∷◌, ◌++◌, length, Option, Some, Ok, refl, sym, ap, ◌∙◌, arith}
 use Rattle.std.proofs.lemmas.Bool.{eqb-true}
 use Rattle.std.specs.Char.{digit_value, encode_utf8}
 use Rattle.std.specs.Char.Utf16.{is_high_surrogate, is_low_surrogate, surrogate_pair_char}
-use Rattle.jasmin_words.specs.declared.escape.EscapeFault.{EscapeFault}
-use Rattle.jasmin_words.specs.declared.escape.Part.{Part}
 use Rattle.jasmin_words.specs.declared.escape.Part.TheVariants.{Byte, Char}
-use Rattle.jasmin_words.specs.Gives.{◌>>=◌}
-use Rattle.jasmin_words.specs.Escapes.{encoded, is_hex, hex_at, unit_at, low_at, unicode_at, escape, byte_or_wrong, escape_at, part_at, before, unescaped}
+use Rattle.jasmin_words.specs.Escapes.{is_hex, hex_at, unit_at, low_at, unicode_at, escape, byte_or_wrong, escape_at, part_at, before, unescaped}
 use Rattle.jasmin_words.specs.Lexing.{raw_len}
 use Rattle.jasmin_words.specs.Spelling.{IsUnit, IsQuoted, nothing, plain, escaped, unicode, pair}
 use Rattle.jasmin_words.proofs.Parts.{unescaped-part, unescaped-nil}
@@ -18,7 +15,7 @@ hex_is_not n b off h =
     let go : (t : Bool) → eqb b n ≡ t → t ≡ false = λ t. elim t as (λ t. eqb b n ≡ t → t ≡ false) [
       | true ↦ λ e. let same : b ≡ n = eqb-true b n e in let wrong : true ≡ false = sym h ∙ ap is_hex same ∙ off in wrong
       | false ↦ λ e. refl
-      ] in
+    ] in
     go (eqb b n) refl
 
 raw_digit : (b : ℕ) (s : List ℕ) → is_hex b ≡ true → raw_len false (b ∷ s) ≡ suc (raw_len false s)

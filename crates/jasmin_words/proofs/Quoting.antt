@@ -1,14 +1,14 @@
 -- A string that was written is read again.
-use Rattle.std.proofs.Common.{◌≡◌, ℕ, suc, ◌+◌, ◌*◌, ◌/◌, ◌%◌, ◌<◌, ◌≤◌, Bool, true, false, ◌&&◌, ◌||◌, cond, eqb, List, [], ◌∷◌, ◌++◌, length, Option, Some, None, refl, sym, ap, subst, ◌∙◌, append_assoc, arith, nat_lt}
-use Rattle.std.proofs.lemmas.Bool.{eqb-true, ltb-true}
+use Rattle.std.proofs.Common.{◌≡◌, ℕ, ◌+◌, ◌*◌, ◌/◌, ◌%◌, ◌<◌, Bool, true, false, ◌||◌, cond, eqb, List, [], ◌∷◌, ◌++◌, Some, refl, sym, ap, subst, append_assoc, arith, nat_lt}
+use Rattle.std.proofs.lemmas.Bool.{eqb-true}
 use Rattle.std.proofs.lemmas.Str.{IsUtf8-nil, IsUtf8-append, encode_ascii, is_utf8-from_IsUtf8, IsUtf8-from_is_utf8}
-use Rattle.std.specs.Char.{digit_value, digit_char, encode_utf8}
+use Rattle.std.specs.Char.{digit_value, digit_char}
 use Rattle.std.specs.Char.Utf16.{is_high_surrogate, is_low_surrogate}
 use Rattle.std.specs.Str.{IsUtf8, is_utf8}
 use Rattle.jasmin_words.specs.Escapes.{is_hex, escape}
 use Rattle.jasmin_words.specs.Lexing.{Item, Text, fits, words_of}
 use Rattle.jasmin_words.specs.Quoting.{quoted_byte, quoted_bytes, quoted}
-use Rattle.jasmin_words.specs.Spelling.{IsUnit, IsQuoted, nothing, plain, escaped, unicode, IsSpelled, ends, string}
+use Rattle.jasmin_words.specs.Spelling.{IsQuoted, nothing, plain, escaped, unicode, IsSpelled, ends, string}
 use Rattle.jasmin_words.proofs.Utf8.{cut, byte_utf8}
 use Rattle.jasmin_words.proofs.Spelled.{spelled_again}
 
@@ -90,7 +90,7 @@ bytes_utf8 : (p bs : List ℕ) → IsUtf8 (p ++ bs) → IsUtf8 (p ++ quoted_byte
 bytes_utf8 p [] u = u
 bytes_utf8 p (b ∷ bs) u =
     byte_utf8_again p bs (quoted_bytes bs) b u (λ v. bytes_utf8 [] bs v)
-      (subst IsUtf8 (append_assoc p (b ∷ []) (quoted_bytes bs)) (bytes_utf8 (p ++ b ∷ []) bs (subst IsUtf8 (sym (append_assoc p (b ∷ []) bs)) u)))
+    (subst IsUtf8 (append_assoc p (b ∷ []) (quoted_bytes bs)) (bytes_utf8 (p ++ b ∷ []) bs (subst IsUtf8 (sym (append_assoc p (b ∷ []) bs)) u)))
 
 pub quoted_is_utf8 : (bs : List ℕ) → is_utf8 bs ≡ true → is_utf8 (quoted_bytes bs) ≡ true
 quoted_is_utf8 bs h = is_utf8-from_IsUtf8 (quoted_bytes bs) (bytes_utf8 [] bs (IsUtf8-from_is_utf8 bs h))

@@ -1,11 +1,9 @@
 -- What is spelled by words is read as those words.
-use Rattle.std.proofs.Common.{◌≡◌, ℕ, suc, ◌+◌, Bool, true, false, not, ◌&&◌, ◌||◌, eqb, List, [], ◌∷◌, ◌++◌, length, take, drop, Some, None, Result, Ok, refl, sym, ap, ◌∙◌, arith}
+use Rattle.std.proofs.Common.{◌≡◌, ℕ, suc, ◌+◌, Bool, true, false, not, ◌&&◌, ◌||◌, eqb, List, [], ◌∷◌, ◌++◌, length, Some, None, refl, ap, ◌∙◌, arith}
 use Rattle.std.proofs.lemmas.List.{take_at, drop_at}
 use Rattle.std.specs.List.{list_all}
 use Rattle.std.specs.Str.{is_utf8}
-use Rattle.jasmin_words.specs.declared.escape.EscapeFault.{EscapeFault}
-use Rattle.jasmin_words.specs.Escapes.{unescaped}
-use Rattle.jasmin_words.specs.Lexing.{Item, Word, Equals, Colon, Text, fits, is_blank, is_parting, is_plain, word_len, word_item, word_at, raw_len, resolved_item, string_item, closed_at, string_at, token_at, words_from}
+use Rattle.jasmin_words.specs.Lexing.{Item, Word, Equals, Colon, Text, fits, is_blank, is_parting, is_plain, word_len, word_item, word_at, string_item, string_at, token_at, words_from}
 use Rattle.jasmin_words.specs.Spelling.{IsQuoted, Ends, is_word_byte, IsSpelled, ends, comment, blank, equals, colon, string, word}
 use Rattle.jasmin_words.proofs.Quoted.{raw_length, unescaped_again}
 use Rattle.jasmin_words.proofs.Tokens.{words_from-some, words_from-none, words_from-same}
@@ -78,8 +76,8 @@ parts_none b e =
       | false ↦ elim q as (λ q. (false || q || r || s) ≡ false → (false ≡ false) × (q ≡ false) × (r ≡ false) × (s ≡ false)) [
         | true ↦ λ h. absurd cc
         | false ↦ elim r as (λ r. (false || false || r || s) ≡ false → (false ≡ false) × (false ≡ false) × (r ≡ false) × (s ≡ false)) [ true ↦ λ h. absurd cc | false ↦ λ h. (refl, refl, refl, h) ]
-        ]
-      ] in
+      ]
+    ] in
     go (is_blank b) (eqb b 34) (eqb b 58) (eqb b 61) e
 
 token_word : (fresh : Bool) (b : ℕ) (w rest : List ℕ) → (eqb b 59 && fresh) ≡ false → list_all is_word_byte (b ∷ w) ≡ true → fits (b ∷ w) ≡ true → Ends rest → token_at fresh (b ∷ (w ++ rest)) ≡ Some (Word (b ∷ w), rest)

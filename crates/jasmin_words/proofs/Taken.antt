@@ -1,15 +1,14 @@
 -- What is read without a wrong word is spelled so.
-use Rattle.std.proofs.Common.{◌≡◌, ℕ, zero, suc, ◌+◌, ◌<◌, ◌≤◌, Bool, true, false, not, ◌&&◌, cond, eqb, List, [], ◌∷◌, ◌++◌, length, drop, take, Option, Some, None, Result, Ok, Err, refl, sym, ap, subst, ◌∙◌, arith}
+use Rattle.std.proofs.Common.{◌≡◌, ℕ, zero, suc, ◌+◌, ◌<◌, Bool, true, false, not, ◌&&◌, cond, eqb, List, [], ◌∷◌, ◌++◌, length, drop, take, Option, Some, None, Result, Ok, Err, refl, sym, ap, subst, ◌∙◌, arith}
 use Rattle.std.proofs.lemmas.Bool.{eqb-true}
 use Rattle.std.proofs.lemmas.List.{take-append-drop}
 use Rattle.std.specs.List.{list_all}
 use Rattle.std.specs.Str.{is_utf8}
 use Rattle.jasmin_words.specs.declared.escape.EscapeFault.{EscapeFault}
 use Rattle.jasmin_words.specs.declared.escape.EscapeFault.TheVariants.{Wrong, Cut}
-use Rattle.jasmin_words.specs.declared.fault.FaultKind.TheVariants.{BadByte, BadOperand, Unfinished, LimitExceeded}
 use Rattle.jasmin_words.specs.Escapes.{unescaped}
 use Rattle.jasmin_words.specs.Lexing.{Item, Word, LongWord, BadWord, Equals, Colon, Text, BadText, fits, is_blank, is_parting, is_plain, word_len, word_item, word_at, raw_len, resolved_item, string_item, closed_at, string_at, token_at, after_token, words_in, words_from}
-use Rattle.jasmin_words.specs.Spelling.{IsQuoted, Ends, is_word_byte, IsWord, IsSpelled, ends, comment, blank, equals, colon, string, word, AreWords}
+use Rattle.jasmin_words.specs.Spelling.{Ends, is_word_byte, IsWord, IsSpelled, ends, comment, blank, equals, colon, string, word, AreWords}
 use Rattle.jasmin_words.proofs.Tokens.{token_at-shrinks}
 use Rattle.jasmin_words.proofs.TakenString.{IsOpen, quoted_taken}
 
@@ -25,7 +24,7 @@ open_text e (b ∷ s) =
     let go : (t : Bool) → (not e && eqb b 34) ≡ t → raw_len e (take (cond t 0 (1 + raw_len (not e && eqb b 92) s)) (b ∷ s)) ≡ length (take (cond t 0 (1 + raw_len (not e && eqb b 92) s)) (b ∷ s)) = λ t. elim t as (λ t. (not e && eqb b 34) ≡ t → raw_len e (take (cond t 0 (1 + raw_len (not e && eqb b 92) s)) (b ∷ s)) ≡ length (take (cond t 0 (1 + raw_len (not e && eqb b 92) s)) (b ∷ s))) [
       | true ↦ λ h. refl
       | false ↦ λ h. let ih = open_text (not e && eqb b 92) s in let one : 1 + raw_len (not e && eqb b 92) s ≡ suc (raw_len (not e && eqb b 92) s) = omega arith in rw (one, h) (omega arith)
-      ] in
+    ] in
     go (not e && eqb b 34) refl
 
 -- where the text ends, a quote stands
@@ -39,7 +38,7 @@ closes e (b ∷ s) =
     let go : (t : Bool) → (not e && eqb b 34) ≡ t → EndsQuoted (drop (cond t 0 (1 + raw_len (not e && eqb b 92) s)) (b ∷ s)) = λ t. elim t as (λ t. (not e && eqb b 34) ≡ t → EndsQuoted (drop (cond t 0 (1 + raw_len (not e && eqb b 92) s)) (b ∷ s))) [
       | true ↦ λ h. eqb-true b 34 (second (not e) (eqb b 34) h)
       | false ↦ λ h. let one : 1 + raw_len (not e && eqb b 92) s ≡ suc (raw_len (not e && eqb b 92) s) = omega arith in rw one (closes (not e && eqb b 92) s)
-      ] in
+    ] in
     go (not e && eqb b 34) refl
   where
     second : (a b : Bool) → (a && b) ≡ true → b ≡ true
@@ -102,7 +101,7 @@ string_next : (fresh : Bool) (b : ℕ) (bs : List ℕ) → eqb b 34 ≡ true →
 unfolding string_at
 string_next fresh b bs e =
     subst (λ (l : List ℕ). IsNext fresh l (Some (closed_at (take (raw_len false bs) bs) (drop (raw_len false bs) bs)))) (sym (head_is b 34 bs e))
-      (closed_next fresh bs (take (raw_len false bs) bs) (drop (raw_len false bs) bs) (sym (take-append-drop (raw_len false bs) bs)) (open_text false bs) (closes false bs))
+    (closed_next fresh bs (take (raw_len false bs) bs) (drop (raw_len false bs) bs) (sym (take-append-drop (raw_len false bs) bs)) (open_text false bs) (closes false bs))
 
 -- ---- words
 
@@ -116,7 +115,7 @@ ends_after (b ∷ bs) =
     let go : (t : Bool) → is_parting b ≡ t → Ends (drop (cond t 0 (1 + word_len bs)) (b ∷ bs)) = λ t. elim t as (λ t. is_parting b ≡ t → Ends (drop (cond t 0 (1 + word_len bs)) (b ∷ bs))) [
       | true ↦ λ e. e
       | false ↦ λ e. let one : 1 + word_len bs ≡ suc (word_len bs) = omega arith in rw one (ends_after bs)
-      ] in
+    ] in
     go (is_parting b) refl
 
 -- what stands before the first byte that parts words has none that does
@@ -126,7 +125,7 @@ none_part (b ∷ bs) h =
     let go : (t : Bool) → is_parting b ≡ t → list_all is_plain (take (cond t 0 (1 + word_len bs)) (b ∷ bs)) ≡ true → list_all (λ x. is_plain x && not (is_parting x)) (take (cond t 0 (1 + word_len bs)) (b ∷ bs)) ≡ true = λ t. elim t as (λ t. is_parting b ≡ t → list_all is_plain (take (cond t 0 (1 + word_len bs)) (b ∷ bs)) ≡ true → list_all (λ x. is_plain x && not (is_parting x)) (take (cond t 0 (1 + word_len bs)) (b ∷ bs)) ≡ true) [
       | true ↦ λ e h. refl
       | false ↦ λ e. let one : 1 + word_len bs ≡ suc (word_len bs) = omega arith in rw one (λ h. let p = both (is_plain b) (list_all is_plain (take (word_len bs) bs)) h in rw (p.0, e) (none_part bs p.1))
-      ] in
+    ] in
     go (is_parting b) refl h
 
 -- ---- the words of a line
@@ -153,10 +152,10 @@ word_is fresh line w rest e h n =
           let fit : (f : Bool) → fits w ≡ f → P (cond f (Word w) (LongWord w)) = λ f. elim f as (λ f. fits w ≡ f → P (cond f (Word w) (LongWord w))) [
             | true ↦ λ f words ok q. word w rest e (h p) f n q
             | false ↦ λ f words ok q. absurd ok
-            ] in
+          ] in
           fit (fits w) refl
       | false ↦ λ p words ok q. absurd ok
-      ] in
+    ] in
     go (list_all is_plain w) refl
 
 word_next : (fresh : Bool) (b : ℕ) (s : List ℕ) → (eqb b 59 && fresh) ≡ false → is_parting b ≡ false → IsNext fresh (b ∷ s) (Some (word_at (b ∷ s)))
@@ -165,7 +164,7 @@ word_next fresh b s n p =
     let one : word_len (b ∷ s) ≡ suc (word_len s) = rw p (omega arith) in
     let front : take (word_len (b ∷ s)) (b ∷ s) ≡ b ∷ take (word_len s) s = ap (λ (k : ℕ). take k (b ∷ s)) one in
     word_is fresh (b ∷ s) (take (word_len (b ∷ s)) (b ∷ s)) (drop (word_len (b ∷ s)) (b ∷ s)) (sym (take-append-drop (word_len (b ∷ s)) (b ∷ s)))
-      (λ e. subst (λ (w : List ℕ). IsWord fresh w) (sym front) (n, subst (λ (w : List ℕ). list_all is_word_byte w ≡ true) front (none_part (b ∷ s) e))) (ends_after (b ∷ s))
+    (λ e. subst (λ (w : List ℕ). IsWord fresh w) (sym front) (n, subst (λ (w : List ℕ). list_all is_word_byte w ≡ true) front (none_part (b ∷ s) e))) (ends_after (b ∷ s))
 
 none_of : (b : ℕ) → is_blank b ≡ false → eqb b 61 ≡ false → eqb b 58 ≡ false → eqb b 34 ≡ false → is_parting b ≡ false
 none_of b p q r s = rw (p, s, r, q) refl

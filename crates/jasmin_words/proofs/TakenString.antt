@@ -1,17 +1,15 @@
 -- A string that was read is written so.
-use Rattle.std.proofs.Common.{◌≡◌, ℕ, zero, suc, ◌+◌, ◌*◌, ◌<◌, ◌≤◌, Bool, true, false, not, ◌&&◌, cond, eqb, List, [], ◌∷◌, ◌++◌, length, drop, take, Option, Some, None, Result, Ok, Err, refl, sym, ap, subst, ◌∙◌, append_assoc, arith}
+use Rattle.std.proofs.Common.{◌≡◌, ℕ, zero, suc, Bool, true, false, ◌&&◌, eqb, List, [], ◌∷◌, ◌++◌, length, Option, Some, None, Result, Ok, Err, refl, sym, ap, subst, arith}
 use Rattle.std.proofs.lemmas.Bool.{eqb-true}
-use Rattle.std.specs.Char.{digit_value, encode_utf8}
+use Rattle.std.specs.Char.{digit_value}
 use Rattle.std.specs.Char.Utf16.{is_high_surrogate, is_low_surrogate, surrogate_pair_char}
 use Rattle.jasmin_words.specs.declared.escape.EscapeFault.{EscapeFault}
 use Rattle.jasmin_words.specs.declared.escape.Part.{Part}
 use Rattle.jasmin_words.specs.declared.escape.Part.TheVariants.{Byte, Char}
-use Rattle.jasmin_words.specs.Gives.{◌>>=◌}
 use Rattle.jasmin_words.specs.Escapes.{encoded, is_hex, hex_at, unit_at, low_at, unicode_at, escape, byte_or_wrong, escape_at, part_at, before, unescaped_in, unescaped}
 use Rattle.jasmin_words.specs.Lexing.{raw_len}
 use Rattle.jasmin_words.specs.Spelling.{IsUnit, IsQuoted, nothing, plain, escaped, unicode, pair}
-use Rattle.jasmin_words.proofs.Results.{Holds, then_holds, bind_holds, guard_holds, refuse_holds, cond_holds, holds_at}
-use Rattle.jasmin_words.proofs.Parts.{part_at-shrinks}
+use Rattle.jasmin_words.proofs.Results.{Holds, bind_holds, guard_holds, refuse_holds, cond_holds, holds_at}
 use Rattle.jasmin_words.proofs.Quoted.{raw_digits, raw_escape, raw_plain}
 
 -- no quote closes the text
@@ -49,7 +47,7 @@ plain_front b s q o =
     let go : (t : Bool) → eqb b 34 ≡ t → (front : List ℕ) × (b ∷ s ≡ front ++ s) × IsOpen s × ((text bytes : List ℕ) → IsQuoted text bytes → IsQuoted (front ++ text) (b ∷ bytes)) = λ t. elim t as (λ t. eqb b 34 ≡ t → (front : List ℕ) × (b ∷ s ≡ front ++ s) × IsOpen s × ((text bytes : List ℕ) → IsQuoted text bytes → IsQuoted (front ++ text) (b ∷ bytes))) [
       | true ↦ λ e. let none : raw_len false (b ∷ s) ≡ 0 = rw e refl in absurd (omega arith)
       | false ↦ λ e. let one = raw_plain b s e q in (b ∷ [], refl, omega arith, λ text bytes h. plain e q h)
-      ] in
+    ] in
     go (eqb b 34) refl
 
 escaped_front : (e : ℕ) (s : List ℕ) (o : Option ℕ) → eqb e 117 ≡ false → escape e ≡ o → Holds (IsFront (92 ∷ e ∷ s)) (byte_or_wrong o s)

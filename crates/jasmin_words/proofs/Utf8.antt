@@ -1,8 +1,8 @@
 -- What a UTF-8 text with escapes means is UTF-8.
-use Rattle.std.proofs.Common.{◌≡◌, ℕ, zero, suc, ◌+◌, ◌-◌, ◌*◌, ◌<◌, ◌≤◌, Bool, true, false, not, ◌&&◌, cond, eqb, List, [], ◌∷◌, ◌++◌, length, drop, take, Option, Some, None, refl, sym, ap, subst, ◌∙◌, append_assoc, arith, nat_lt, get_or}
+use Rattle.std.proofs.Common.{◌≡◌, ℕ, ◌+◌, ◌<◌, true, false, eqb, List, [], ◌∷◌, ◌++◌, length, drop, take, Some, refl, sym, ap, subst, ◌∙◌, append_assoc, arith, get_or}
 use Rattle.std.proofs.lemmas.Bool.{eqb-true, ltb-true}
 use Rattle.std.proofs.lemmas.List.{take_at, drop_at, length-append}
-use Rattle.std.proofs.lemmas.Str.{IsUtf8-nil, IsUtf8-append, IsUtf8-take, IsUtf8-drop, IsUtf8-encode, IsCharBoundary-before_ascii, IsCharBoundary-after_ascii, encode_ascii}
+use Rattle.std.proofs.lemmas.Str.{IsUtf8-append, IsUtf8-take, IsUtf8-drop, IsUtf8-encode, IsCharBoundary-before_ascii, IsCharBoundary-after_ascii, encode_ascii}
 use Rattle.std.proofs.Math.Seq.{get_or-append_seam}
 use Rattle.std.proofs.Math.Utf8.{low_scalar}
 use Rattle.std.specs.Char.{digit_value, encode_utf8, IsScalar}
@@ -21,9 +21,10 @@ cut p b t less u =
     let front : take (length p) (p ++ b ∷ t) ≡ p = take_at p (b ∷ t) (length p) refl in
     let grouped : p ++ b ∷ t ≡ (p ++ b ∷ []) ++ t = sym (append_assoc p (b ∷ []) t) in
     let len : length (p ++ b ∷ []) ≡ length p + 1 = length-append p (b ∷ []) in
-    let back : drop (length p + 1) (p ++ b ∷ t) ≡ t = ap (drop (length p + 1)) grouped ∙ drop_at (p ++ b ∷ []) t (length p + 1) len in
-    (subst IsUtf8 front (IsUtf8-take (p ++ b ∷ t) (length p) u (IsCharBoundary-before_ascii (p ++ b ∷ t) (length p) within at)),
-     subst IsUtf8 back (IsUtf8-drop (p ++ b ∷ t) (length p + 1) u (IsCharBoundary-after_ascii (p ++ b ∷ t) (length p) u within at)))
+    let back : drop (length p + 1) (p ++ b ∷ t) ≡ t = ap (drop (length p + 1)) grouped ∙ drop_at (p ++ b ∷ []) t (length p + 1) len in (
+      subst IsUtf8 front (IsUtf8-take (p ++ b ∷ t) (length p) u (IsCharBoundary-before_ascii (p ++ b ∷ t) (length p) within at)),
+      subst IsUtf8 back (IsUtf8-drop (p ++ b ∷ t) (length p + 1) u (IsCharBoundary-after_ascii (p ++ b ∷ t) (length p) u within at)),
+    )
 
 pub unit_scalar : (c : ℕ) → c < 65536 → is_low_surrogate c ≡ false → is_high_surrogate c ≡ false → IsScalar c
 unit_scalar c h l g = grind arith

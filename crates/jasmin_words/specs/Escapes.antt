@@ -1,6 +1,6 @@
 -- The escapes of a string: JLS SE 8 3.10.6, but for the octal ones, and with \u among them as the Jasmin user
 -- guide has it. The bytes of a string are UTF-8.
-use Rattle.std.specs.Prelude.{ℕ, suc, zero, ◌+◌, ◌-◌, ◌*◌, Bool, ◌&&◌, List, [], ◌∷◌, ◌++◌, length, Option, Some, None, Result, Ok, Err, nat_lt, nat_le, ◌==◌, if◌then◌else◌}
+use Rattle.std.specs.Prelude.{ℕ, suc, zero, ◌+◌, ◌*◌, Bool, ◌&&◌, List, [], ◌∷◌, ◌++◌, length, Option, Some, None, Result, Ok, Err, nat_lt, ◌==◌, if◌then◌else◌}
 use Rattle.std.specs.Char.{digit_value, encode_utf8}
 use Rattle.std.specs.Char.Utf16.{is_high_surrogate, is_low_surrogate, surrogate_pair_char}
 use Rattle.jasmin_words.specs.declared.escape.EscapeFault.{EscapeFault}
@@ -39,29 +39,29 @@ unfoldable pub low_at : ℕ → List ℕ → Result (Part × List ℕ) EscapeFau
 low_at high [] = Err Cut
 low_at high (b ∷ []) = if b == 92 then Err Cut else Err Wrong
 low_at high (b ∷ u ∷ rest) =
-  if b == 92 && u == 117
-  then (unit_at rest >>= λ low. if is_low_surrogate low.0 then Ok (Char (surrogate_pair_char high low.0), low.1) else Err Wrong)
-  else Err Wrong
+    if b == 92 && u == 117
+    then (unit_at rest >>= λ low. if is_low_surrogate low.0 then Ok (Char (surrogate_pair_char high low.0), low.1) else Err Wrong)
+    else Err Wrong
 
 -- what follows \u
 unfoldable pub unicode_at : List ℕ → Result (Part × List ℕ) EscapeFault
 unicode_at bytes = unit_at bytes >>= λ unit.
-  if is_low_surrogate unit.0 then Err Wrong
-  else if is_high_surrogate unit.0 then low_at unit.0 unit.1
-  else Ok (Char unit.0, unit.1)
+    if is_low_surrogate unit.0 then Err Wrong
+    else if is_high_surrogate unit.0 then low_at unit.0 unit.1
+    else Ok (Char unit.0, unit.1)
 
 -- what a letter behind a backslash means
 abbrev pub escape : ℕ → Option ℕ
 escape e =
-  if e == 110 then Some 10
-  else if e == 116 then Some 9
-  else if e == 114 then Some 13
-  else if e == 98 then Some 8
-  else if e == 102 then Some 12
-  else if e == 34 then Some 34
-  else if e == 39 then Some 39
-  else if e == 92 then Some 92
-  else None
+    if e == 110 then Some 10
+    else if e == 116 then Some 9
+    else if e == 114 then Some 13
+    else if e == 98 then Some 8
+    else if e == 102 then Some 12
+    else if e == 34 then Some 34
+    else if e == 39 then Some 39
+    else if e == 92 then Some 92
+    else None
 
 abbrev pub byte_or_wrong : Option ℕ → List ℕ → Result (Part × List ℕ) EscapeFault
 byte_or_wrong (Some c) rest = Ok (Byte c, rest)

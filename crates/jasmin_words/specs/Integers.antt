@@ -1,5 +1,5 @@
 -- Integers in words: decimal, or as the pattern of 32 bits.
-use Rattle.std.specs.Prelude.{◌≡◌, ℕ, ◌+◌, ◌*◌, ◌^◌, ◌<◌, ◌≤◌, Bool, ◌&&◌, List, [], ◌∷◌, length, Option, Some, None, ℤ, pos, ◌-ℤ◌, neg_ℤ, nat_lt, nat_le, ◌==◌, if◌then◌else◌}
+use Rattle.std.specs.Prelude.{ℕ, ◌+◌, ◌*◌, ◌<◌, ◌≤◌, ◌&&◌, List, [], ◌∷◌, length, Option, Some, None, ℤ, pos, ◌-ℤ◌, neg_ℤ, nat_lt, nat_le, ◌==◌, if◌then◌else◌}
 use Rattle.std.specs.Char.{digit_value}
 use Rattle.std.specs.Str.Parse.{IsNumeral, digits_value}
 
@@ -34,9 +34,9 @@ unfoldable pub integer_of : List ℕ → Option ℤ
 integer_of [] = None
 integer_of (a ∷ []) = if a == 45 then negative (magnitude_of 10 []) else positive (magnitude_of 10 (a ∷ []))
 integer_of (a ∷ b ∷ rest) =
-  if a == 45 then negative (magnitude_of 10 (b ∷ rest))
-  else if a == 48 && b == 120 then (if nat_le (length rest) 8 then pattern (magnitude_of 16 rest) else None)
-  else positive (magnitude_of 10 (a ∷ b ∷ rest))
+    if a == 45 then negative (magnitude_of 10 (b ∷ rest))
+    else if a == 48 && b == 120 then (if nat_le (length rest) 8 then pattern (magnitude_of 16 rest) else None)
+    else positive (magnitude_of 10 (a ∷ b ∷ rest))
 
 -- An integer is decimal digits, or a minus and decimal digits, within the 32 bits of an int; or it is 0x and
 -- one to eight hexadecimal digits of either case, the pattern of 32 bits. Zeros may lead.

@@ -60,9 +60,9 @@ word_len (b ∷ bs) = if is_parting b then 0 else 1 + word_len bs
 -- a word, by its bytes
 unfoldable pub word_item : List ℕ → Item
 word_item word =
-  if not (list_all is_plain word) then BadWord
-  else if fits word then Word word
-  else LongWord word
+    if not (list_all is_plain word) then BadWord
+    else if fits word then Word word
+    else LongWord word
 
 unfoldable pub word_at : List ℕ → Item × List ℕ
 word_at bytes = (word_item (take (word_len bytes) bytes), drop (word_len bytes) bytes)
@@ -97,12 +97,12 @@ string_at bytes = closed_at (take (raw_len false bytes) bytes) (drop (raw_len fa
 unfoldable pub token_at : Bool → List ℕ → Option (Item × List ℕ)
 token_at fresh [] = None
 token_at fresh (b ∷ bs) =
-  if is_blank b then token_at true bs
-  else if b == 59 && fresh then None
-  else if b == 61 then Some (Equals, bs)
-  else if b == 58 then Some (Colon, bs)
-  else if b == 34 then Some (string_at bs)
-  else Some (word_at (b ∷ bs))
+    if is_blank b then token_at true bs
+    else if b == 59 && fresh then None
+    else if b == 61 then Some (Equals, bs)
+    else if b == 58 then Some (Colon, bs)
+    else if b == 34 then Some (string_at bs)
+    else Some (word_at (b ∷ bs))
 
 -- what comes behind the next word
 abbrev pub after_token : (List ℕ → List Item) → Option (Item × List ℕ) → List Item

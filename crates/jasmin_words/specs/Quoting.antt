@@ -7,13 +7,13 @@ use Rattle.std.specs.Char.{digit_char}
 -- hexadecimal digits; every other byte stands for itself.
 abbrev pub quoted_byte : ℕ → List ℕ
 quoted_byte b =
-  if b == 34 then 92 ∷ 34 ∷ []
-  else if b == 92 then 92 ∷ 92 ∷ []
-  else if b == 10 then 92 ∷ 110 ∷ []
-  else if b == 9 then 92 ∷ 116 ∷ []
-  else if b == 13 then 92 ∷ 114 ∷ []
-  else if nat_lt b 32 || b == 127 then 92 ∷ 117 ∷ 48 ∷ 48 ∷ digit_char (b / 16) ∷ digit_char (b % 16) ∷ []
-  else b ∷ []
+    if b == 34 then 92 ∷ 34 ∷ []
+    else if b == 92 then 92 ∷ 92 ∷ []
+    else if b == 10 then 92 ∷ 110 ∷ []
+    else if b == 9 then 92 ∷ 116 ∷ []
+    else if b == 13 then 92 ∷ 114 ∷ []
+    else if nat_lt b 32 || b == 127 then 92 ∷ 117 ∷ 48 ∷ 48 ∷ digit_char (b / 16) ∷ digit_char (b % 16) ∷ []
+    else b ∷ []
 
 abbrev pub quoted_bytes : List ℕ → List ℕ
 quoted_bytes bytes = flat_map quoted_byte bytes

@@ -1,5 +1,5 @@
 -- How the words of a line are spelled.
-use Rattle.std.specs.Prelude.{◌≡◌, ℕ, Bool, true, false, not, ◌==◌, ◌+◌, ◌*◌, List, [], ◌∷◌, ◌++◌, length, Some, ◌&&◌, nat_lt, nat_le}
+use Rattle.std.specs.Prelude.{◌≡◌, ℕ, Bool, true, false, not, ◌==◌, ◌+◌, ◌*◌, List, [], ◌∷◌, ◌++◌, Some, ◌&&◌}
 use Rattle.std.specs.List.{list_all}
 use Rattle.std.specs.Char.{digit_value, encode_utf8}
 use Rattle.std.specs.Char.Utf16.{is_high_surrogate, is_low_surrogate, surrogate_pair_char}
@@ -10,8 +10,8 @@ use Rattle.jasmin_words.specs.Lexing.{Item, Word, LongWord, BadWord, Equals, Col
 -- four hexadecimal digits name a unit of UTF-16
 abbrev pub IsUnit : ℕ → ℕ → ℕ → ℕ → ℕ → Type 0
 IsUnit a b c d unit =
-  (is_hex a ≡ true) × (is_hex b ≡ true) × (is_hex c ≡ true) × (is_hex d ≡ true)
-  × (unit ≡ ((digit_value a * 16 + digit_value b) * 16 + digit_value c) * 16 + digit_value d)
+    (is_hex a ≡ true) × (is_hex b ≡ true) × (is_hex c ≡ true) × (is_hex d ≡ true)
+    × (unit ≡ ((digit_value a * 16 + digit_value b) * 16 + digit_value c) * 16 + digit_value d)
 
 -- The bytes between the quotes, as they are written, and the bytes that they mean. The document for users has
 -- the escapes; a high and a low surrogate side by side are one character, and no single one may stand.
@@ -20,9 +20,9 @@ pub data IsQuoted : List ℕ → List ℕ → Type 0 where
   plain : {b : ℕ} {text bytes : List ℕ} → (b == 34) ≡ false → (b == 92) ≡ false → IsQuoted text bytes → IsQuoted (b ∷ text) (b ∷ bytes)
   escaped : {e c : ℕ} {text bytes : List ℕ} → (e == 117) ≡ false → escape e ≡ Some c → IsQuoted text bytes → IsQuoted (92 ∷ e ∷ text) (c ∷ bytes)
   unicode : {unit : ℕ} {text all bytes : List ℕ} → (a b c d : ℕ) → IsUnit a b c d unit → is_low_surrogate unit ≡ false → is_high_surrogate unit ≡ false
-    → all ≡ encode_utf8 unit ++ bytes → IsQuoted text bytes → IsQuoted (92 ∷ 117 ∷ a ∷ b ∷ c ∷ d ∷ text) all
+      → all ≡ encode_utf8 unit ++ bytes → IsQuoted text bytes → IsQuoted (92 ∷ 117 ∷ a ∷ b ∷ c ∷ d ∷ text) all
   pair : {high low : ℕ} {text all bytes : List ℕ} → (a b c d e f g h : ℕ) → IsUnit a b c d high → is_high_surrogate high ≡ true → IsUnit e f g h low → is_low_surrogate low ≡ true
-    → all ≡ encode_utf8 (surrogate_pair_char high low) ++ bytes → IsQuoted text bytes → IsQuoted (92 ∷ 117 ∷ a ∷ b ∷ c ∷ d ∷ 92 ∷ 117 ∷ e ∷ f ∷ g ∷ h ∷ text) all
+      → all ≡ encode_utf8 (surrogate_pair_char high low) ++ bytes → IsQuoted text bytes → IsQuoted (92 ∷ 117 ∷ a ∷ b ∷ c ∷ d ∷ 92 ∷ 117 ∷ e ∷ f ∷ g ∷ h ∷ text) all
 
 -- a word ends at the line's end or where a byte parts words
 abbrev pub Ends : List ℕ → Type 0
@@ -47,9 +47,9 @@ pub data IsSpelled : Bool → List ℕ → List Item → Type 0 where
   equals : {fresh : Bool} {rest : List ℕ} {words : List Item} → IsSpelled false rest words → IsSpelled fresh (61 ∷ rest) (Equals ∷ words)
   colon : {fresh : Bool} {rest : List ℕ} {words : List Item} → IsSpelled false rest words → IsSpelled fresh (58 ∷ rest) (Colon ∷ words)
   string : {fresh : Bool} {after bytes : List ℕ} {words : List Item} → (text rest : List ℕ) → after ≡ text ++ 34 ∷ rest → is_utf8 text ≡ true → IsQuoted text bytes → fits bytes ≡ true
-    → IsSpelled false rest words → IsSpelled fresh (34 ∷ after) (Text bytes ∷ words)
+      → IsSpelled false rest words → IsSpelled fresh (34 ∷ after) (Text bytes ∷ words)
   word : {fresh : Bool} {line : List ℕ} {words : List Item} → (w rest : List ℕ) → line ≡ w ++ rest → IsWord fresh w → fits w ≡ true → Ends rest
-    → IsSpelled false rest words → IsSpelled fresh line (Word w ∷ words)
+      → IsSpelled false rest words → IsSpelled fresh line (Word w ∷ words)
 
 -- no word of the line is wrong
 abbrev pub AreWords : List Item → Type 0

@@ -122,5 +122,4 @@ pub fn push_decimal(text: &mut Vec<u8>, number: usize) -> Result<(), AllocError>
 /// An integer that was written is read as itself.
 pub fn integers_are_read_again()
     ensures { (n : ℤ) → FitsSigned w32 n → integer_of (signed_decimal n) ≡ Some n }
-{
-}
+{}

@@ -13,7 +13,11 @@ fn digit(value: u8) -> u8
     requires { value < 16 }
     ensures { result ≡ digit_char value }
 {
-    if value < 10 { b'0' + value } else { b'a' + (value - 10) }
+    if value < 10 {
+        b'0' + value
+    } else {
+        b'a' + (value - 10)
+    }
 }
 
 fn push_quoted_byte(text: &mut Vec<u8>, byte: u8) -> Result<(), AllocError>
@@ -27,7 +31,14 @@ fn push_quoted_byte(text: &mut Vec<u8>, byte: u8) -> Result<(), AllocError>
         b'\r' => text.extend_from_slice(b"\\r"),
         _ => {
             if byte < 32 || byte == 127 {
-                text.extend_from_slice(&[b'\\', b'u', b'0', b'0', digit(byte / 16), digit(byte % 16)])
+                text.extend_from_slice(&[
+                    b'\\',
+                    b'u',
+                    b'0',
+                    b'0',
+                    digit(byte / 16),
+                    digit(byte % 16),
+                ])
             } else {
                 text.extend_from_slice(&[byte])
             }
@@ -51,9 +62,6 @@ pub fn push_quoted(text: &mut Vec<u8>, characters: &[u8]) -> Result<(), AllocErr
 /// A string that was written is read as itself: on a line of its own, and before whatever follows it there.
 pub fn strings_are_read_again()
     ensures alone { (bytes : List ℕ) → is_utf8 bytes ≡ true → fits bytes ≡ true → words_of (quoted bytes) ≡ Text bytes ∷ [] }
-    ensures before {
-        (fresh : Bool) (bytes rest : List ℕ) (words : List Item) → is_utf8 bytes ≡ true → fits bytes ≡ true
-            → IsSpelled false rest words → IsSpelled fresh (quoted bytes ++ rest) (Text bytes ∷ words)
-    }
-{
-}
+    ensures before { (fresh : Bool) (bytes rest : List ℕ) (words : List Item) → is_utf8 bytes ≡ true → fits bytes ≡ true
+        → IsSpelled false rest words → IsSpelled fresh (quoted bytes ++ rest) (Text bytes ∷ words) }
+{}

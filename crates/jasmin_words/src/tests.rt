@@ -213,7 +213,10 @@ fn spells_strings(rt: HostRuntime) -> Result<(), Fail> {
     push_quoted(&mut text, b"a\"\\\n\t\r\x08\x1F\x7F'\xC3\xA9")?;
     let expected = b"\"a\\\"\\\\\\n\\t\\r\\u0008\\u001f\\u007f'\xC3\xA9\"";
     assert!(rt; text.as_slice() == expected.as_slice());
-    assert!(rt; shown(rt.alloc(), text.as_slice())?.as_slice() == b"<a\"\\\n\t\r\x08\x1F\x7F'\xC3\xA9>|".as_slice());
+    assert!(rt;
+        shown(rt.alloc(), text.as_slice())?.as_slice()
+            == b"<a\"\\\n\t\r\x08\x1F\x7F'\xC3\xA9>|".as_slice()
+    );
     Ok(())
 }
 

@@ -1,4 +1,4 @@
-use Rattle.std.proofs.Common.{◌∷◌, [], ℕ, get_or, refl, sym}
+use Rattle.std.proofs.Common.{◌∷◌, [], ℕ, get_or, refl}
 use Rattle.std.specs.Prelude.{ℤ, pos}
 use Rattle.jasmin_text.proofs.Marks.{marked_more, marked_all}
 use Rattle.jasmin_text.proofs.mark.mark_cases.Goals as goal

@@ -1,5 +1,4 @@
-use Rattle.std.proofs.Common.{◌∷◌, [], ℕ, get_or, refl, sym}
-use Rattle.std.specs.Prelude.{ℤ}
+use Rattle.std.proofs.Common.{sym}
 use Rattle.jasmin_text.specs.Canonical.{handler_places}
 use Rattle.jasmin_text.proofs.Marks.{marked_more, marked_all}
 use Rattle.jasmin_text.proofs.mark.mark_handlers.Goals as goal

@@ -17,5 +17,5 @@ pub returns-in-LookupSwitch : goal.returns-in-LookupSwitch
 returns-in-LookupSwitch c =
     let both = then_marked _ _ _ _ _ c.mark_cases.ensures c.mark-in-LookupSwitch.ensures in
     let same : flat_map (λ (k : ℤ × ℕ). k.1 ∷ []) c.as_slice-in-LookupSwitch.result.now ++ c.in-LookupSwitch.default ∷ [] ≡ map (λ (k : ℤ × ℕ). k.1) c.in-LookupSwitch.cases ++ c.in-LookupSwitch.default ∷ [] =
-      ap (λ (z : List ℕ). z ++ c.in-LookupSwitch.default ∷ []) (seconds c.as_slice-in-LookupSwitch.result.now ∙ ap (map (λ (k : ℤ × ℕ). k.1)) c.as_slice-in-LookupSwitch.ensures) in
+    ap (λ (z : List ℕ). z ++ c.in-LookupSwitch.default ∷ []) (seconds c.as_slice-in-LookupSwitch.result.now ∙ ap (map (λ (k : ℤ × ℕ). k.1)) c.as_slice-in-LookupSwitch.ensures) in
     rw c.in-LookupSwitch.is (subst (λ (z : List ℕ). Marks c.args.marks.now.items c.mark-in-LookupSwitch.new.marks.items z) same both)

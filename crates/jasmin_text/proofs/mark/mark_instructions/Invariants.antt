@@ -1,4 +1,4 @@
-use Rattle.std.proofs.Common.{◌++◌, ◌∷◌, [], List, ℕ, take}
+use Rattle.std.proofs.Common.{◌++◌, List, ℕ, take}
 use Rattle.std.specs.List.{flat_map}
 use Rattle.jasmin_text.specs.Canonical.{instruction_places}
 use Rattle.jasmin_text.specs.Marks.{IsMarked}

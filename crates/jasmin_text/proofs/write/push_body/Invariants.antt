@@ -4,5 +4,5 @@ use Rattle.jasmin_text.proofs.write.push_body.Given as goal
 
 abbrev pub invariant-loop-instruction : goal.invariant-loop-instruction
 invariant-loop-instruction l =
-  (l.text.items ++ ended_all (body_lines (code_places l.code) l.place (drop l.instruction-index l.code.instructions)) ≡ l.fn.text.items ++ ended_all (body_lines (code_places l.code) 0 l.code.instructions))
-  × (l.place ≡ l.instruction-index)
+    (l.text.items ++ ended_all (body_lines (code_places l.code) l.place (drop l.instruction-index l.code.instructions)) ≡ l.fn.text.items ++ ended_all (body_lines (code_places l.code) 0 l.code.instructions))
+    × (l.place ≡ l.instruction-index)

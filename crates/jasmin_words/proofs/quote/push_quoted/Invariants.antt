@@ -1,4 +1,4 @@
-use Rattle.std.proofs.Common.{◌≡◌, ◌++◌, ◌∷◌, [], take}
+use Rattle.std.proofs.Common.{◌≡◌, ◌++◌, ◌∷◌, take}
 use Rattle.jasmin_words.specs.Quoting.{quoted_bytes}
 use Rattle.jasmin_words.proofs.quote.push_quoted.Given as goal
 

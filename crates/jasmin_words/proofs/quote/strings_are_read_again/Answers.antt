@@ -1,6 +1,4 @@
-use Rattle.std.proofs.Common.{◌≡◌, List, [], ◌∷◌, ◌++◌, append_assoc, sym, subst}
-use Rattle.jasmin_words.specs.Lexing.{Text}
-use Rattle.jasmin_words.specs.Spelling.{IsSpelled}
+use Rattle.std.proofs.Common.{[], ◌∷◌, append_assoc}
 use Rattle.jasmin_words.specs.Quoting.{quoted_bytes}
 use Rattle.jasmin_words.proofs.Quoting.{quoted_again, quoted_spelled}
 use Rattle.jasmin_words.proofs.quote.strings_are_read_again.Goals as goal

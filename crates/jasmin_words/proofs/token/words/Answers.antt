@@ -1,4 +1,4 @@
-use Rattle.std.proofs.Common.{◌≡◌, true, List, Result, Ok, Err, sym, subst, ◌∙◌}
+use Rattle.std.proofs.Common.{◌≡◌, true, List, Result, Ok, Err, sym, subst}
 use Rattle.std.specs.Prelude.{IfOk}
 use Rattle.jasmin_words.specs.Lexing.{Item, words_of}
 use Rattle.jasmin_words.specs.Spelling.{IsSpelled, AreWords, AreLexed}

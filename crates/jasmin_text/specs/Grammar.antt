@@ -1,0 +1,364 @@
+-- Which lines spell which class: the file form of the Jasmin user guide, with this project's own choices at
+-- their places. The document for users, JASMIN.md, tells the same in words.
+use Rattle.std.specs.Prelude.{◌≡◌, ℕ, ◌+◌, Bool, true, false, not, ◌&&◌, ◌==◌, List, [], ◌∷◌, ◌++◌, length, map, Option, Some, None, is_some, ℤ, pos, ◌+ℤ◌, int_lt, int_le, neg_ℤ, if◌then◌else◌, codes}
+use Rattle.descriptors.specs.ClassName.{IsClassName}
+use Rattle.descriptors.specs.Signature.{Signature}
+use Rattle.descriptors.specs.Spelling.{field_spelling, method_spelling, IsFieldType, IsMethodType}
+use Rattle.descriptors.specs.declared.base.BaseType.{BaseType}
+use Rattle.descriptors.specs.declared.field.FieldType.{FieldType}
+use Rattle.jasmin_words.specs.Lexing.{Item, Word, Equals, Colon, Text, words_of}
+use Rattle.jasmin_words.specs.Integers.{integer_of}
+use Rattle.jasmin_words.specs.Names.{same_bytes, is_label, IsMemberName}
+use Rattle.jasmin_text.specs.InstructionWords.{base_word}
+use Rattle.jasmin_text.specs.Tables.{find_row, access_of}
+use Rattle.jasmin_text.specs.Forms.{form_at, directive_at}
+use Rattle.jasmin_text.specs.Spellable.{IsSpellable}
+use Rattle.jasmin_text.specs.declared.access.Access.{Access}
+use Rattle.jasmin_text.specs.declared.table.AccessWord.{AccessWord}
+use Rattle.jasmin_text.specs.declared.table.AccessWord.TheVariants as word
+use Rattle.jasmin_text.specs.declared.form.Form.{Form}
+use Rattle.jasmin_text.specs.declared.form.Form.TheVariants as form
+use Rattle.jasmin_text.specs.declared.form.Directive.TheVariants as directive
+use Rattle.jasmin_text.specs.declared.class_text.ClassKind.{ClassKind}
+use Rattle.jasmin_text.specs.declared.class_text.ClassKind.TheVariants as kind
+use Rattle.jasmin_text.specs.declared.class_text.Constant.{Constant}
+use Rattle.jasmin_text.specs.declared.class_text.Constant.TheVariants as constant
+use Rattle.jasmin_text.specs.declared.class_text.Field.{Field}
+use Rattle.jasmin_text.specs.declared.class_text.Handler.{Handler}
+use Rattle.jasmin_text.specs.declared.class_text.Code.{Code}
+use Rattle.jasmin_text.specs.declared.class_text.Method.{Method}
+use Rattle.jasmin_text.specs.declared.class_text.ClassParts.{ClassParts}
+use Rattle.jasmin_text.specs.declared.instruction.Instruction.{Instruction}
+use Rattle.jasmin_text.specs.declared.instruction.Instruction.TheVariants as instruction
+use Rattle.jasmin_text.specs.declared.instruction.ReferenceType.TheVariants as reference
+
+-- ---- access words
+
+abbrev pub no_access : Access
+no_access = record { public = false; private = false; protected = false; is_static = false; is_final = false; synchronized = false; volatile = false; transient = false; is_abstract = false }
+
+-- a word more; one that stands already counts once
+abbrev pub with_word : AccessWord → Access → Access
+with_word word.Public a = record a { public = true }
+with_word word.Private a = record a { private = true }
+with_word word.Protected a = record a { protected = true }
+with_word word.Static a = record a { is_static = true }
+with_word word.Final a = record a { is_final = true }
+with_word word.Synchronized a = record a { synchronized = true }
+with_word word.Volatile a = record a { volatile = true }
+with_word word.Transient a = record a { transient = true }
+with_word word.Abstract a = record a { is_abstract = true }
+with_word word.Dropped a = a
+with_word word.LeftOut a = a
+
+-- native is left out
+abbrev pub is_taken_in : AccessWord → Bool
+is_taken_in word.LeftOut = false
+is_taken_in other = true
+
+-- access words, in any order; own choice: any of them may stand before any name, and some say nothing
+pub data IsAccess : List Item → Access → Type 0 where
+  none : IsAccess [] no_access
+  more : {w : List ℕ} {a : AccessWord} {rest : List Item} {access : Access} → access_of w ≡ Some a → is_taken_in a ≡ true → IsAccess rest access → IsAccess (Word w ∷ rest) (with_word a access)
+
+-- behind .class the word interface, which is no access word elsewhere, makes an interface
+pub data IsClassAccess : List Item → ClassKind → Access → Type 0 where
+  none : IsClassAccess [] kind.Class no_access
+  more : {w : List ℕ} {a : AccessWord} {rest : List Item} {k : ClassKind} {access : Access} → access_of w ≡ Some a → is_taken_in a ≡ true → IsClassAccess rest k access → IsClassAccess (Word w ∷ rest) k (with_word a access)
+  interface : {rest : List Item} {k : ClassKind} {access : Access} → IsClassAccess rest k access → IsClassAccess (Word (codes "interface") ∷ rest) kind.Interface access
+
+-- ---- operands
+
+-- an int of this range
+pub record IsIntIn (low high : ℤ) (w : List ℕ) (n : ℤ) : Type 0 where
+  pub value : integer_of w ≡ Some n
+  pub from : int_le low n ≡ true
+  pub to : int_le n high ≡ true
+
+-- the number of a local, or a limit, or a count
+abbrev pub IsNumberIn : ℕ → ℕ → List ℕ → ℕ → Type 0
+IsNumberIn low high w n = IsIntIn (pos low) (pos high) w (pos n)
+
+-- A class, a slash, and the name of a member. The name has no slash, so it is behind the last one.
+pub record IsMemberWord (w class name : List ℕ) : Type 0 where
+  pub parts : w ≡ class ++ 47 ∷ name
+  pub class_name : IsClassName class
+  pub member_name : IsMemberName name
+
+pub record IsMethodWord (w class name : List ℕ) (type : Signature) : Type 0 where
+  pub parts : w ≡ class ++ 47 ∷ name ++ method_spelling type
+  pub class_name : IsClassName class
+  pub member_name : IsMemberName name
+  pub method_type : IsMethodType type
+
+pub record IsDescriptor (w : List ℕ) (type : FieldType) : Type 0 where
+  pub spelling : w ≡ field_spelling type
+  pub field_type : IsFieldType type
+
+abbrev pub byte_low : ℤ
+byte_low = neg_ℤ (pos 128)
+
+abbrev pub short_low : ℤ
+short_low = neg_ℤ (pos 32768)
+
+-- The operands of an instruction, by what its word asks for, with labels as targets. Switches have lines of
+-- their own. Own choice: several forms of one instruction are read as one.
+pub data IsOperands : Form → List Item → Instruction (List ℕ) → Type 0 where
+  plain : {p : _} → IsOperands (form.Plain p) [] (instruction.Plain p)
+  number : {n : ℤ} → IsOperands (form.Number n) [] (instruction.Constant (constant.Int n))
+  byte : {w : List ℕ} {n : ℤ} → IsIntIn byte_low (pos 127) w n → IsOperands form.Byte (Word w ∷ []) (instruction.Constant (constant.Int n))
+  short : {w : List ℕ} {n : ℤ} → IsIntIn short_low (pos 32767) w n → IsOperands form.Short (Word w ∷ []) (instruction.Constant (constant.Int n))
+  int : {w : List ℕ} {n : ℤ} → integer_of w ≡ Some n → IsOperands form.Constant (Word w ∷ []) (instruction.Constant (constant.Int n))
+  text : {t : List ℕ} → IsOperands form.Constant (Text t ∷ []) (instruction.Constant (constant.Text t))
+  local : {l : _} {w : List ℕ} {n : ℕ} → IsNumberIn 0 65535 w n → IsOperands (form.Local l) (Word w ∷ []) (instruction.Local l n)
+  local_at : {l : _} {n : ℕ} → IsOperands (form.LocalAt l n) [] (instruction.Local l n)
+  increment : {v w : List ℕ} {n : ℕ} {by : ℤ} → IsNumberIn 0 65535 v n → IsIntIn short_low (pos 32767) w by → IsOperands form.Increment (Word v ∷ Word w ∷ []) (instruction.Increment n by)
+  jump : {j : _} {l : List ℕ} → is_label l ≡ true → IsOperands (form.Jump j) (Word l ∷ []) (instruction.Jump j l)
+  field : {f : _} {v w class name : List ℕ} {type : FieldType} → IsMemberWord v class name → IsDescriptor w type → IsOperands (form.Field f) (Word v ∷ Word w ∷ []) (instruction.Field f (record { class = class; name = name; field_type = type }))
+  call : {c : _} {w class name : List ℕ} {type : Signature} → IsMethodWord w class name type → IsOperands (form.Call c) (Word w ∷ []) (instruction.Call c (record { class = class; name = name; method_type = type }))
+  interface : {w class name : List ℕ} {type : Signature} → IsMethodWord w class name type → IsOperands form.CallInterface (Word w ∷ []) (instruction.CallInterface (record { class = class; name = name; method_type = type }))
+  -- the count has no effect
+  counted : {w v class name : List ℕ} {type : Signature} {n : ℕ} → IsMethodWord w class name type → IsNumberIn 1 255 v n → IsOperands form.CallInterface (Word w ∷ Word v ∷ []) (instruction.CallInterface (record { class = class; name = name; method_type = type }))
+  new : {name : List ℕ} → IsClassName name → IsOperands form.New (Word name ∷ []) (instruction.New name)
+  new_array : {b : BaseType} → IsOperands form.NewArray (Word (base_word b) ∷ []) (instruction.NewArray b)
+  class : {t : _} {name : List ℕ} → IsClassName name → IsOperands (form.TypeUse t) (Word name ∷ []) (instruction.TypeUse t (reference.Class name))
+  -- the descriptor of an array stands for a class here alone
+  array : {t : _} {w : List ℕ} {type : FieldType} → IsDescriptor w type → (type.dimensions == 0) ≡ false → IsOperands (form.TypeUse t) (Word w ∷ []) (instruction.TypeUse t (reference.Array type))
+
+-- ---- lines
+
+-- What a line says. A line with a label before an instruction says two things.
+pub data Row : Type 0 where
+  ClassRow : ClassKind → Access → List ℕ → Row
+  SuperRow : List ℕ → Row
+  ImplementsRow : List ℕ → Row
+  FieldRow : Field → Row
+  MethodRow : Access → List ℕ → Signature → Row
+  EndRow : Row
+  StackRow : ℕ → Row
+  LocalsRow : ℕ → Row
+  CatchRow : Option (List ℕ) → List ℕ → List ℕ → List ℕ → Row
+  LabelRow : List ℕ → Row
+  InstructionRow : Instruction (List ℕ) → Row
+  TableRow : ℤ → Option ℤ → Row
+  LookupRow : Row
+  TargetRow : List ℕ → Row
+  CaseRow : ℤ → List ℕ → Row
+  DefaultRow : List ℕ → Row
+
+abbrev pub begins_with_word : List Item → Bool
+begins_with_word (Word w ∷ rest) = true
+begins_with_word other = false
+
+-- what a field's line has behind its descriptor; one signature is skipped
+pub data IsValue : List Item → Option Constant → Type 0 where
+  none : IsValue [] None
+  int : {w : List ℕ} {n : ℤ} → integer_of w ≡ Some n → IsValue (Equals ∷ Word w ∷ []) (Some (constant.Int n))
+  text : {t : List ℕ} → IsValue (Equals ∷ Text t ∷ []) (Some (constant.Text t))
+  signature : {t : List ℕ} {items : List Item} {value : Option Constant} → IsValue items value → begins_with_word items ≡ false → IsValue (Word (codes "signature") ∷ Text t ∷ items) value
+
+-- the class that a row of a handler table catches; the word all always stands for every class
+pub data IsCaught : List ℕ → Option (List ℕ) → Type 0 where
+  all : IsCaught (codes "all") None
+  class : {name : List ℕ} → same_bytes name (codes "all") ≡ false → IsClassName name → IsCaught name (Some name)
+
+-- an instruction's line
+pub data IsInstructionLine : List Item → Row → Type 0 where
+  simple : {w : List ℕ} {f : Form} {operands : List Item} {i : Instruction (List ℕ)} → form_at w ≡ Some f → IsOperands f operands i → IsInstructionLine (Word w ∷ operands) (InstructionRow i)
+  table : {w v : List ℕ} {low : ℤ} → form_at w ≡ Some form.TableSwitch → integer_of v ≡ Some low → IsInstructionLine (Word w ∷ Word v ∷ []) (TableRow low None)
+  table_to : {w u v : List ℕ} {low high : ℤ} → form_at w ≡ Some form.TableSwitch → integer_of u ≡ Some low → integer_of v ≡ Some high → IsInstructionLine (Word w ∷ Word u ∷ Word v ∷ []) (TableRow low (Some high))
+  lookup : {w : List ℕ} → form_at w ≡ Some form.LookupSwitch → IsInstructionLine (Word w ∷ []) LookupRow
+
+-- a line, by its words
+pub data IsRow : List Item → List Row → Type 0 where
+  blank : IsRow [] []
+  -- nothing behind the first word is looked at
+  skipped : {w : List ℕ} {rest : List Item} → directive_at w ≡ Some directive.Skipped → IsRow (Word w ∷ rest) []
+  class : {items : List Item} {k : ClassKind} {a : Access} {name : List ℕ} → (access : List Item) → items ≡ access ++ Word name ∷ [] → IsClassAccess access k a → IsClassName name
+      → IsRow (Word (codes ".class") ∷ items) (ClassRow k a name ∷ [])
+  interface : {items : List Item} {a : Access} {name : List ℕ} → (access : List Item) → items ≡ access ++ Word name ∷ [] → IsAccess access a → IsClassName name
+      → IsRow (Word (codes ".interface") ∷ items) (ClassRow kind.Interface a name ∷ [])
+  super : {name : List ℕ} → IsClassName name → IsRow (Word (codes ".super") ∷ Word name ∷ []) (SuperRow name ∷ [])
+  implements : {name : List ℕ} → IsClassName name → IsRow (Word (codes ".implements") ∷ Word name ∷ []) (ImplementsRow name ∷ [])
+  field : {items : List Item} {a : Access} {name : List ℕ} {type : FieldType} {value : Option Constant} → (access rest : List Item) (w : List ℕ) → items ≡ access ++ Word name ∷ Word w ∷ rest
+      → IsAccess access a → IsMemberName name → IsDescriptor w type → IsValue rest value
+      → IsRow (Word (codes ".field") ∷ items) (FieldRow (record { access = a; name = name; field_type = type; value = value }) ∷ [])
+  method : {items : List Item} {a : Access} {name : List ℕ} {type : Signature} → (access : List Item) (w : List ℕ) → items ≡ access ++ Word w ∷ [] → w ≡ name ++ method_spelling type
+      → IsAccess access a → IsMemberName name → IsMethodType type → IsRow (Word (codes ".method") ∷ items) (MethodRow a name type ∷ [])
+  end : IsRow (Word (codes ".end") ∷ Word (codes "method") ∷ []) (EndRow ∷ [])
+  stack : {w : List ℕ} {n : ℕ} → IsNumberIn 0 1024 w n → IsRow (Word (codes ".limit") ∷ Word (codes "stack") ∷ Word w ∷ []) (StackRow n ∷ [])
+  locals : {w : List ℕ} {n : ℕ} → IsNumberIn 0 1024 w n → IsRow (Word (codes ".limit") ∷ Word (codes "locals") ∷ Word w ∷ []) (LocalsRow n ∷ [])
+  catch : {w from to using : List ℕ} {class : Option (List ℕ)} → IsCaught w class → is_label from ≡ true → is_label to ≡ true → is_label using ≡ true
+      → IsRow (Word (codes ".catch") ∷ Word w ∷ Word (codes "from") ∷ Word from ∷ Word (codes "to") ∷ Word to ∷ Word (codes "using") ∷ Word using ∷ []) (CatchRow class from to using ∷ [])
+  label : {l : List ℕ} → is_label l ≡ true → IsRow (Word l ∷ Colon ∷ []) (LabelRow l ∷ [])
+  labelled : {l : List ℕ} {items : List Item} {row : Row} → is_label l ≡ true → IsInstructionLine items row → IsRow (Word l ∷ Colon ∷ items) (LabelRow l ∷ row ∷ [])
+  operation : {items : List Item} {row : Row} → IsInstructionLine items row → IsRow items (row ∷ [])
+  target : {l : List ℕ} → is_label l ≡ true → IsRow (Word l ∷ []) (TargetRow l ∷ [])
+  case : {w l : List ℕ} {key : ℤ} → integer_of w ≡ Some key → is_label l ≡ true → IsRow (Word w ∷ Colon ∷ Word l ∷ []) (CaseRow key l ∷ [])
+  default : {l : List ℕ} → is_label l ≡ true → IsRow (Word (codes "default") ∷ Colon ∷ Word l ∷ []) (DefaultRow l ∷ [])
+
+-- lines one after the other
+pub data AreRows : List (List ℕ) → List Row → Type 0 where
+  none : AreRows [] []
+  more : {line : List ℕ} {lines : List (List ℕ)} {all : List Row} → (rows rest : List Row) → IsRow (words_of line) rows → AreRows lines rest → all ≡ rows ++ rest → AreRows (line ∷ lines) all
+
+-- ---- bodies
+
+-- A row of the handler table, by labels.
+pub record Catch : Type 0 where
+  pub class : Option (List ℕ)
+  pub from : List ℕ
+  pub to : List ℕ
+  pub handler : List ℕ
+
+-- What stands in a method, with labels as targets.
+pub record Body : Type 0 where
+  pub stacks : List ℕ
+  pub locals : List ℕ
+  pub labels : List (List ℕ × ℕ)
+  pub catches : List Catch
+  pub instructions : List (Instruction (List ℕ))
+
+abbrev pub empty_body : Body
+empty_body = record { stacks = []; locals = []; labels = []; catches = []; instructions = [] }
+
+-- the last key of a tableswitch, where it is given, fits the number of labels; own choice: no label is needed
+abbrev pub FitsHigh : ℤ → Option ℤ → ℕ → Type 0
+FitsHigh low None count = Unit {0}
+FitsHigh low (Some high) count = high +ℤ pos 1 ≡ low +ℤ pos count
+
+abbrev pub case_row : ℤ × List ℕ → Row
+case_row c = CaseRow c.0 c.1
+
+-- a case at its place among those with rising keys
+abbrev pub with_case : {L : Type 0} → ℤ × L → List (ℤ × L) → List (ℤ × L)
+with_case c [] = c ∷ []
+with_case c (d ∷ ds) = if int_lt c.0 d.0 then c ∷ d ∷ ds else d ∷ with_case c ds
+
+-- the keys may stand in any order
+abbrev pub sorted : {L : Type 0} → List (ℤ × L) → List (ℤ × L)
+sorted [] = []
+sorted (c ∷ cs) = with_case c (sorted cs)
+
+-- what stands in a method from a place on
+pub data IsBody : ℕ → List Row → Body → Type 0 where
+  none : {place : ℕ} → IsBody place [] empty_body
+  stack : {place n : ℕ} {rows : List Row} {b : Body} → IsBody place rows b → IsBody place (StackRow n ∷ rows) (record b { stacks = n ∷ b.stacks })
+  locals : {place n : ℕ} {rows : List Row} {b : Body} → IsBody place rows b → IsBody place (LocalsRow n ∷ rows) (record b { locals = n ∷ b.locals })
+  catch : {place : ℕ} {class : Option (List ℕ)} {from to using : List ℕ} {rows : List Row} {b : Body} → IsBody place rows b
+      → IsBody place (CatchRow class from to using ∷ rows) (record b { catches = record { class = class; from = from; to = to; handler = using } ∷ b.catches })
+  label : {place : ℕ} {l : List ℕ} {rows : List Row} {b : Body} → IsBody place rows b → IsBody place (LabelRow l ∷ rows) (record b { labels = (l, place) ∷ b.labels })
+  operation : {place : ℕ} {i : Instruction (List ℕ)} {rows : List Row} {b : Body} → IsBody (place + 1) rows b → IsBody place (InstructionRow i ∷ rows) (record b { instructions = i ∷ b.instructions })
+  table : {place : ℕ} {low : ℤ} {high : Option ℤ} {rows : List Row} {b : Body} → (labels : List (List ℕ)) (default : List ℕ) (rest : List Row) → rows ≡ map TargetRow labels ++ DefaultRow default ∷ rest
+      → FitsHigh low high (length labels) → IsBody (place + 1) rest b → IsBody place (TableRow low high ∷ rows) (record b { instructions = instruction.TableSwitch low labels default ∷ b.instructions })
+  lookup : {place : ℕ} {rows : List Row} {b : Body} → (cases : List (ℤ × List ℕ)) (default : List ℕ) (rest : List Row) → rows ≡ map case_row cases ++ DefaultRow default ∷ rest
+      → IsBody (place + 1) rest b → IsBody place (LookupRow ∷ rows) (record b { instructions = instruction.LookupSwitch (sorted cases) default ∷ b.instructions })
+
+-- the place of a label
+abbrev pub place_of : List (List ℕ × ℕ) → List ℕ → Option ℕ
+place_of labels l = find_row l labels
+
+-- no label stands twice in a method
+abbrev pub are_distinct : List (List ℕ × ℕ) → Bool
+are_distinct [] = true
+are_distinct (l ∷ ls) = not (is_some (place_of ls l.0)) && are_distinct ls
+
+-- the places of labels
+pub data ArePlaces (labels : List (List ℕ × ℕ)) : List (List ℕ) → List ℕ → Type 0 where
+  none : ArePlaces labels [] []
+  more : {l : List ℕ} {place : ℕ} {ls : List (List ℕ)} {places : List ℕ} → place_of labels l ≡ Some place → ArePlaces labels ls places → ArePlaces labels (l ∷ ls) (place ∷ places)
+
+pub data AreCases (labels : List (List ℕ × ℕ)) : List (ℤ × List ℕ) → List (ℤ × ℕ) → Type 0 where
+  none : AreCases labels [] []
+  more : {key : ℤ} {l : List ℕ} {place : ℕ} {cs : List (ℤ × List ℕ)} {ds : List (ℤ × ℕ)} → place_of labels l ≡ Some place → AreCases labels cs ds → AreCases labels ((key, l) ∷ cs) ((key, place) ∷ ds)
+
+-- an instruction with places for its labels
+pub data IsPlaced (labels : List (List ℕ × ℕ)) : Instruction (List ℕ) → Instruction ℕ → Type 0 where
+  plain : {p : _} → IsPlaced labels (instruction.Plain p) (instruction.Plain p)
+  pushes : {c : Constant} → IsPlaced labels (instruction.Constant c) (instruction.Constant c)
+  local : {l : _} {n : ℕ} → IsPlaced labels (instruction.Local l n) (instruction.Local l n)
+  increment : {n : ℕ} {by : ℤ} → IsPlaced labels (instruction.Increment n by) (instruction.Increment n by)
+  jump : {j : _} {l : List ℕ} {place : ℕ} → place_of labels l ≡ Some place → IsPlaced labels (instruction.Jump j l) (instruction.Jump j place)
+  table : {low : ℤ} {ls : List (List ℕ)} {d : List ℕ} {places : List ℕ} {place : ℕ} → ArePlaces labels ls places → place_of labels d ≡ Some place → IsPlaced labels (instruction.TableSwitch low ls d) (instruction.TableSwitch low places place)
+  lookup : {cs : List (ℤ × List ℕ)} {d : List ℕ} {cases : List (ℤ × ℕ)} {place : ℕ} → AreCases labels cs cases → place_of labels d ≡ Some place → IsPlaced labels (instruction.LookupSwitch cs d) (instruction.LookupSwitch cases place)
+  field : {f : _} {r : _} → IsPlaced labels (instruction.Field f r) (instruction.Field f r)
+  call : {c : _} {r : _} → IsPlaced labels (instruction.Call c r) (instruction.Call c r)
+  interface : {r : _} → IsPlaced labels (instruction.CallInterface r) (instruction.CallInterface r)
+  new : {name : List ℕ} → IsPlaced labels (instruction.New name) (instruction.New name)
+  new_array : {b : BaseType} → IsPlaced labels (instruction.NewArray b) (instruction.NewArray b)
+  type_use : {t : _} {r : _} → IsPlaced labels (instruction.TypeUse t r) (instruction.TypeUse t r)
+
+pub data ArePlaced (labels : List (List ℕ × ℕ)) : List (Instruction (List ℕ)) → List (Instruction ℕ) → Type 0 where
+  none : ArePlaced labels [] []
+  more : {i : Instruction (List ℕ)} {j : Instruction ℕ} {is : List (Instruction (List ℕ))} {js : List (Instruction ℕ)} → IsPlaced labels i j → ArePlaced labels is js → ArePlaced labels (i ∷ is) (j ∷ js)
+
+pub record IsPlacedRow (labels : List (List ℕ × ℕ)) (c : Catch) (h : Handler) : Type 0 where
+  pub class : h.class ≡ c.class
+  pub from : place_of labels c.from ≡ Some h.from
+  pub to : place_of labels c.to ≡ Some h.to
+  pub handler : place_of labels c.handler ≡ Some h.handler
+
+pub data AreHandlers (labels : List (List ℕ × ℕ)) : List Catch → List Handler → Type 0 where
+  none : AreHandlers labels [] []
+  more : {c : Catch} {h : Handler} {cs : List Catch} {hs : List Handler} → IsPlacedRow labels c h → AreHandlers labels cs hs → AreHandlers labels (c ∷ cs) (h ∷ hs)
+
+-- the last number, and where there is none the most: own choice
+abbrev pub last_limit : List ℕ → ℕ
+last_limit [] = 1024
+last_limit (n ∷ []) = n
+last_limit (n ∷ m ∷ ns) = last_limit (m ∷ ns)
+
+pub record IsCodeOf (b : Body) (code : Code) : Type 0 where
+  pub stack : code.stack ≡ last_limit b.stacks
+  pub locals : code.locals ≡ last_limit b.locals
+  pub distinct : are_distinct b.labels ≡ true
+  pub handlers : AreHandlers b.labels b.catches code.handlers
+  pub instructions : ArePlaced b.labels b.instructions code.instructions
+
+-- own choice: under abstract only limits may stand, and they say nothing
+pub record IsNoBody (b : Body) : Type 0 where
+  pub labels : b.labels ≡ []
+  pub catches : b.catches ≡ []
+  pub instructions : b.instructions ≡ []
+
+abbrev pub IsCodeOrNone : Body → Option Code → Type 0
+IsCodeOrNone b None = IsNoBody b
+IsCodeOrNone b (Some code) = IsCodeOf b code
+
+-- ---- the class
+
+-- superclass and interfaces, before the first field or method; at most one superclass
+pub data IsHeader : List Row → List (List ℕ) → List (List ℕ) → Type 0 where
+  none : IsHeader [] [] []
+  super : {name : List ℕ} {rows : List Row} {interfaces : List (List ℕ)} → IsHeader rows [] interfaces → IsHeader (SuperRow name ∷ rows) (name ∷ []) interfaces
+  implements : {name : List ℕ} {rows : List Row} {supers interfaces : List (List ℕ)} → IsHeader rows supers interfaces → IsHeader (ImplementsRow name ∷ rows) supers (name ∷ interfaces)
+
+-- fields and methods, mixed
+pub data AreMembers : List Row → List Field → List Method → Type 0 where
+  none : AreMembers [] [] []
+  field : {f : Field} {rows : List Row} {fields : List Field} {methods : List Method} → AreMembers rows fields methods → AreMembers (FieldRow f ∷ rows) (f ∷ fields) methods
+  method : {a : Access} {name : List ℕ} {type : Signature} {rows : List Row} {code : Option Code} {fields : List Field} {methods : List Method} → (body rest : List Row) (b : Body) → rows ≡ body ++ EndRow ∷ rest
+      → IsBody 0 body b → IsCodeOrNone b code → AreMembers rest fields methods
+      → AreMembers (MethodRow a name type ∷ rows) fields (record { access = a; name = name; method_type = type; code = code } ∷ methods)
+
+-- absent, the superclass is java/lang/Object
+abbrev pub superclass_of : List (List ℕ) → List ℕ
+superclass_of [] = codes "java/lang/Object"
+superclass_of (name ∷ names) = name
+
+-- the rows of a class
+pub record IsClass (rows : List Row) (c : ClassParts) : Type 0 where
+  pub header : List Row
+  pub members : List Row
+  pub supers : List (List ℕ)
+  pub parts : rows ≡ ClassRow c.kind c.access c.name ∷ (header ++ members)
+  pub heads : IsHeader header supers c.interfaces
+  pub superclass : c.superclass ≡ superclass_of supers
+  pub are_members : AreMembers members c.fields c.methods
+  pub spellable : IsSpellable c
+
+-- The lines spell the class: each line says its rows, and the rows are those of the class.
+pub record Spells (lines : List (List ℕ)) (c : ClassParts) : Type 0 where
+  pub rows : List Row
+  pub are_rows : AreRows lines rows
+  pub is_class : IsClass rows c

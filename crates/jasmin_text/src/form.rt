@@ -1,0 +1,357 @@
+//! The words that begin a line, with what they ask for.
+
+ghost use Rattle.std.specs.Prelude.{◌≡◌, Some};
+ghost use Rattle.jasmin_text.specs.Forms.{form_at, directive_at, is_left_out};
+ghost use Rattle.jasmin_text.specs.InstructionWords.{plain_word, local_word, jump_word, field_word, call_word, type_word};
+ghost use Rattle.jasmin_text.specs.declared.form.Form.TheVariants as form;
+ghost use Rattle.jasmin_text.specs.declared.instruction.Plain.{Plain};
+ghost use Rattle.jasmin_text.specs.declared.instruction.Local.{Local};
+ghost use Rattle.jasmin_text.specs.declared.instruction.Jump.{Jump};
+ghost use Rattle.jasmin_text.specs.declared.instruction.FieldAccess.{FieldAccess};
+ghost use Rattle.jasmin_text.specs.declared.instruction.Call.{Call};
+ghost use Rattle.jasmin_text.specs.declared.instruction.TypeUse.{TypeUse};
+
+use crate::instruction::{Call, FieldAccess, Jump, Local, Plain, TypeUse};
+use crate::table::{find, stands_in};
+
+/// What an instruction's word asks for behind it.
+#[derive(Clone, Copy, Debug, PartialEq, Eq)]
+pub enum Form {
+    /// No operand.
+    Plain(Plain),
+    /// No operand: it pushes this int.
+    Number(i32),
+    /// An int from -128 to 127, which it pushes.
+    Byte,
+    /// An int from -32,768 to 32,767, which it pushes.
+    Short,
+    /// An int or a string, which it pushes.
+    Constant,
+    /// The number of a local.
+    Local(Local),
+    /// No operand: it takes this local.
+    LocalAt(Local, u16),
+    /// The number of a local, and an int from -32,768 to 32,767.
+    Increment,
+    /// A label.
+    Jump(Jump),
+    /// The first key and perhaps the last; then lines of labels.
+    TableSwitch,
+    /// Nothing; then lines of keys and labels.
+    LookupSwitch,
+    /// A class, a slash and a name; a descriptor.
+    Field(FieldAccess),
+    /// A class, a slash, a name and a descriptor in one word.
+    Call(Call),
+    /// The same, and perhaps a count from 1 to 255.
+    CallInterface,
+    /// A class.
+    New,
+    /// The word of a base type.
+    NewArray,
+    /// A class or the descriptor of an array.
+    TypeUse(TypeUse),
+}
+
+/// Each word that begins an instruction, with what it asks for.
+pub const FORMS: [(&[u8], Form); 112] = [
+    (b"nop", Form::Plain(Plain::Nop)),
+    (b"aconst_null", Form::Plain(Plain::AConstNull)),
+    (b"pop", Form::Plain(Plain::Pop)),
+    (b"pop2", Form::Plain(Plain::Pop2)),
+    (b"dup", Form::Plain(Plain::Dup)),
+    (b"dup_x1", Form::Plain(Plain::DupX1)),
+    (b"dup_x2", Form::Plain(Plain::DupX2)),
+    (b"dup2", Form::Plain(Plain::Dup2)),
+    (b"dup2_x1", Form::Plain(Plain::Dup2X1)),
+    (b"dup2_x2", Form::Plain(Plain::Dup2X2)),
+    (b"swap", Form::Plain(Plain::Swap)),
+    (b"iadd", Form::Plain(Plain::IAdd)),
+    (b"isub", Form::Plain(Plain::ISub)),
+    (b"imul", Form::Plain(Plain::IMul)),
+    (b"ineg", Form::Plain(Plain::INeg)),
+    (b"iand", Form::Plain(Plain::IAnd)),
+    (b"ior", Form::Plain(Plain::IOr)),
+    (b"ixor", Form::Plain(Plain::IXor)),
+    (b"idiv", Form::Plain(Plain::IDiv)),
+    (b"irem", Form::Plain(Plain::IRem)),
+    (b"ishl", Form::Plain(Plain::IShl)),
+    (b"ishr", Form::Plain(Plain::IShr)),
+    (b"iushr", Form::Plain(Plain::IUshr)),
+    (b"i2b", Form::Plain(Plain::I2B)),
+    (b"i2c", Form::Plain(Plain::I2C)),
+    (b"i2s", Form::Plain(Plain::I2S)),
+    (b"ireturn", Form::Plain(Plain::IReturn)),
+    (b"areturn", Form::Plain(Plain::AReturn)),
+    (b"return", Form::Plain(Plain::Return)),
+    (b"arraylength", Form::Plain(Plain::ArrayLength)),
+    (b"iaload", Form::Plain(Plain::IALoad)),
+    (b"baload", Form::Plain(Plain::BALoad)),
+    (b"caload", Form::Plain(Plain::CALoad)),
+    (b"saload", Form::Plain(Plain::SALoad)),
+    (b"aaload", Form::Plain(Plain::AALoad)),
+    (b"iastore", Form::Plain(Plain::IAStore)),
+    (b"bastore", Form::Plain(Plain::BAStore)),
+    (b"castore", Form::Plain(Plain::CAStore)),
+    (b"sastore", Form::Plain(Plain::SAStore)),
+    (b"aastore", Form::Plain(Plain::AAStore)),
+    (b"athrow", Form::Plain(Plain::AThrow)),
+    (b"monitorenter", Form::Plain(Plain::MonitorEnter)),
+    (b"monitorexit", Form::Plain(Plain::MonitorExit)),
+    (b"int2byte", Form::Plain(Plain::I2B)),
+    (b"int2char", Form::Plain(Plain::I2C)),
+    (b"int2short", Form::Plain(Plain::I2S)),
+    (b"iconst_m1", Form::Number(-1)),
+    (b"iconst_0", Form::Number(0)),
+    (b"iconst_1", Form::Number(1)),
+    (b"iconst_2", Form::Number(2)),
+    (b"iconst_3", Form::Number(3)),
+    (b"iconst_4", Form::Number(4)),
+    (b"iconst_5", Form::Number(5)),
+    (b"bipush", Form::Byte),
+    (b"sipush", Form::Short),
+    (b"ldc", Form::Constant),
+    (b"ldc_w", Form::Constant),
+    (b"iload", Form::Local(Local::ILoad)),
+    (b"aload", Form::Local(Local::ALoad)),
+    (b"istore", Form::Local(Local::IStore)),
+    (b"astore", Form::Local(Local::AStore)),
+    (b"iload_0", Form::LocalAt(Local::ILoad, 0)),
+    (b"iload_1", Form::LocalAt(Local::ILoad, 1)),
+    (b"iload_2", Form::LocalAt(Local::ILoad, 2)),
+    (b"iload_3", Form::LocalAt(Local::ILoad, 3)),
+    (b"aload_0", Form::LocalAt(Local::ALoad, 0)),
+    (b"aload_1", Form::LocalAt(Local::ALoad, 1)),
+    (b"aload_2", Form::LocalAt(Local::ALoad, 2)),
+    (b"aload_3", Form::LocalAt(Local::ALoad, 3)),
+    (b"istore_0", Form::LocalAt(Local::IStore, 0)),
+    (b"istore_1", Form::LocalAt(Local::IStore, 1)),
+    (b"istore_2", Form::LocalAt(Local::IStore, 2)),
+    (b"istore_3", Form::LocalAt(Local::IStore, 3)),
+    (b"astore_0", Form::LocalAt(Local::AStore, 0)),
+    (b"astore_1", Form::LocalAt(Local::AStore, 1)),
+    (b"astore_2", Form::LocalAt(Local::AStore, 2)),
+    (b"astore_3", Form::LocalAt(Local::AStore, 3)),
+    (b"iinc", Form::Increment),
+    (b"ifeq", Form::Jump(Jump::IfEq)),
+    (b"ifne", Form::Jump(Jump::IfNe)),
+    (b"iflt", Form::Jump(Jump::IfLt)),
+    (b"ifge", Form::Jump(Jump::IfGe)),
+    (b"ifgt", Form::Jump(Jump::IfGt)),
+    (b"ifle", Form::Jump(Jump::IfLe)),
+    (b"if_icmpeq", Form::Jump(Jump::IfICmpEq)),
+    (b"if_icmpne", Form::Jump(Jump::IfICmpNe)),
+    (b"if_icmplt", Form::Jump(Jump::IfICmpLt)),
+    (b"if_icmpge", Form::Jump(Jump::IfICmpGe)),
+    (b"if_icmpgt", Form::Jump(Jump::IfICmpGt)),
+    (b"if_icmple", Form::Jump(Jump::IfICmpLe)),
+    (b"if_acmpeq", Form::Jump(Jump::IfACmpEq)),
+    (b"if_acmpne", Form::Jump(Jump::IfACmpNe)),
+    (b"ifnull", Form::Jump(Jump::IfNull)),
+    (b"ifnonnull", Form::Jump(Jump::IfNonNull)),
+    (b"goto", Form::Jump(Jump::Goto)),
+    (b"goto_w", Form::Jump(Jump::Goto)),
+    (b"tableswitch", Form::TableSwitch),
+    (b"lookupswitch", Form::LookupSwitch),
+    (b"getstatic", Form::Field(FieldAccess::GetStatic)),
+    (b"putstatic", Form::Field(FieldAccess::PutStatic)),
+    (b"getfield", Form::Field(FieldAccess::GetField)),
+    (b"putfield", Form::Field(FieldAccess::PutField)),
+    (b"invokestatic", Form::Call(Call::InvokeStatic)),
+    (b"invokevirtual", Form::Call(Call::InvokeVirtual)),
+    (b"invokespecial", Form::Call(Call::InvokeSpecial)),
+    (b"invokenonvirtual", Form::Call(Call::InvokeSpecial)),
+    (b"invokeinterface", Form::CallInterface),
+    (b"new", Form::New),
+    (b"newarray", Form::NewArray),
+    (b"anewarray", Form::TypeUse(TypeUse::ANewArray)),
+    (b"checkcast", Form::TypeUse(TypeUse::CheckCast)),
+    (b"instanceof", Form::TypeUse(TypeUse::InstanceOf)),
+];
+
+/// The words of instructions that are left out.
+pub const LEFT_OUT: [&[u8]; 95] = [
+    b"jsr",
+    b"jsr_w",
+    b"ret",
+    b"wide",
+    b"multianewarray",
+    b"invokedynamic",
+    b"breakpoint",
+    b"ldc2_w",
+    b"lconst_0",
+    b"lconst_1",
+    b"fconst_0",
+    b"fconst_1",
+    b"fconst_2",
+    b"dconst_0",
+    b"dconst_1",
+    b"lload",
+    b"fload",
+    b"dload",
+    b"lload_0",
+    b"lload_1",
+    b"lload_2",
+    b"lload_3",
+    b"fload_0",
+    b"fload_1",
+    b"fload_2",
+    b"fload_3",
+    b"dload_0",
+    b"dload_1",
+    b"dload_2",
+    b"dload_3",
+    b"laload",
+    b"faload",
+    b"daload",
+    b"lstore",
+    b"fstore",
+    b"dstore",
+    b"lstore_0",
+    b"lstore_1",
+    b"lstore_2",
+    b"lstore_3",
+    b"fstore_0",
+    b"fstore_1",
+    b"fstore_2",
+    b"fstore_3",
+    b"dstore_0",
+    b"dstore_1",
+    b"dstore_2",
+    b"dstore_3",
+    b"lastore",
+    b"fastore",
+    b"dastore",
+    b"ladd",
+    b"fadd",
+    b"dadd",
+    b"lsub",
+    b"fsub",
+    b"dsub",
+    b"lmul",
+    b"fmul",
+    b"dmul",
+    b"ldiv",
+    b"fdiv",
+    b"ddiv",
+    b"lrem",
+    b"frem",
+    b"drem",
+    b"lneg",
+    b"fneg",
+    b"dneg",
+    b"lshl",
+    b"lshr",
+    b"lushr",
+    b"land",
+    b"lor",
+    b"lxor",
+    b"i2l",
+    b"i2f",
+    b"i2d",
+    b"l2i",
+    b"l2f",
+    b"l2d",
+    b"f2i",
+    b"f2l",
+    b"f2d",
+    b"d2i",
+    b"d2l",
+    b"d2f",
+    b"lcmp",
+    b"fcmpl",
+    b"fcmpg",
+    b"dcmpl",
+    b"dcmpg",
+    b"lreturn",
+    b"freturn",
+    b"dreturn",
+];
+
+/// What the word asks for, if it begins an instruction.
+#[tactic(auto, unfolding(crate::specs::Forms::form_at, crate::specs::Forms::forms))]
+pub fn form_of(word: &[u8]) -> Option<Form>
+    ensures { result ≡ form_at word.now }
+{
+    find(word, &FORMS)
+}
+
+/// Whether the word begins an instruction that is left out.
+#[tactic(auto, unfolding(crate::specs::Forms::is_left_out, crate::specs::Forms::left_out_words))]
+pub fn left_out(word: &[u8]) -> bool
+    ensures { result ≡ is_left_out word.now }
+{
+    stands_in(word, &LEFT_OUT)
+}
+
+/// What a line that begins with a dot says.
+#[derive(Clone, Copy, Debug, PartialEq, Eq)]
+pub enum Directive {
+    /// `.class`
+    Class,
+    /// `.interface`
+    Interface,
+    /// `.super`
+    Super,
+    /// `.implements`
+    Implements,
+    /// `.field`
+    Field,
+    /// `.method`
+    Method,
+    /// `.end`
+    End,
+    /// `.limit`
+    Limit,
+    /// `.catch`
+    Catch,
+    /// A line that is skipped whole.
+    Skipped,
+    /// A line that is left out.
+    LeftOut,
+}
+
+/// Each directive.
+pub const DIRECTIVES: [(&[u8], Directive); 23] = [
+    (b".class", Directive::Class),
+    (b".interface", Directive::Interface),
+    (b".super", Directive::Super),
+    (b".implements", Directive::Implements),
+    (b".field", Directive::Field),
+    (b".method", Directive::Method),
+    (b".end", Directive::End),
+    (b".limit", Directive::Limit),
+    (b".catch", Directive::Catch),
+    (b".bytecode", Directive::Skipped),
+    (b".source", Directive::Skipped),
+    (b".signature", Directive::Skipped),
+    (b".deprecated", Directive::Skipped),
+    (b".debug", Directive::Skipped),
+    (b".line", Directive::Skipped),
+    (b".var", Directive::Skipped),
+    (b".throws", Directive::Skipped),
+    (b".inner", Directive::LeftOut),
+    (b".enclosing", Directive::LeftOut),
+    (b".annotation", Directive::LeftOut),
+    (b".stack", Directive::LeftOut),
+    (b".set", Directive::LeftOut),
+    (b".attribute", Directive::LeftOut),
+];
+
+/// What the word says, if it is a directive.
+#[tactic(auto, unfolding(crate::specs::Forms::directive_at, crate::specs::Forms::directives))]
+pub fn directive_of(word: &[u8]) -> Option<Directive>
+    ensures { result ≡ directive_at word.now }
+{
+    find(word, &DIRECTIVES)
+}
+
+/// The word that the canonical spelling writes for an instruction is read as that instruction's.
+pub fn instruction_words_are_read_again()
+    ensures plain { (p : Plain) → form_at (plain_word p) ≡ Some (form.Plain p) }
+    ensures local { (l : Local) → form_at (local_word l) ≡ Some (form.Local l) }
+    ensures jump { (j : Jump) → form_at (jump_word j) ≡ Some (form.Jump j) }
+    ensures field { (f : FieldAccess) → form_at (field_word f) ≡ Some (form.Field f) }
+    ensures call { (c : Call) → form_at (call_word c) ≡ Some (form.Call c) }
+    ensures types { (t : TypeUse) → form_at (type_word t) ≡ Some (form.TypeUse t) }
+{}
