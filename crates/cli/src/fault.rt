@@ -18,6 +18,8 @@ pub enum Fault<'a> {
     Jasmin { file: &'a str, fault: ReadFault },
     /// The classes can't be linked.
     Link(LinkFault),
+    /// There are several classes, of which none can be run yet.
+    Classes,
     /// A main class is unknown, there is none, or there are too many.
     Mains,
     /// Want of memory.
@@ -44,7 +46,8 @@ impl Fault<'_> {
         ensures { result ≤ 3 }
     {
         match self {
-            Fault::Files | Fault::Jasmin { .. } | Fault::Link(_) | Fault::Mains => 2,
+            Fault::Classes | Fault::Files | Fault::Jasmin { .. } | Fault::Link(_) | Fault::Mains =>
+                2,
             Fault::Io(_) | Fault::Memory | Fault::Output => 3,
         }
     }
@@ -52,6 +55,7 @@ impl Fault<'_> {
     /// Writes the one line that tells of the fault.
     pub fn tell<W: io::Write>(&self, err: &mut W) -> io::Result<()> {
         match self {
+            Fault::Classes => writeln!(err, "cli: classes"),
             Fault::Files => writeln!(err, "cli: files"),
             Fault::Io(name) => writeln!(err, "io: {name}"),
             Fault::Jasmin { file, fault } => {

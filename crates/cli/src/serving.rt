@@ -1,6 +1,7 @@
 //! The program's body.
 
-ghost use Rattle.std.specs.Prelude.{◌≤◌, ◌<◌, IfOk, IfSome, length};
+ghost use Rattle.std.specs.Prelude.{◌≡◌, ◌≤◌, ◌<◌, [], true, IfOk, IfSome, length};
+ghost use Rattle.init_order.specs.Needs.{needs as needs_of};
 ghost use Rattle.cli.specs.Served.{IsLegalRun};
 
 use crate::fault::Fault;
@@ -10,8 +11,9 @@ use crate::ordered::run_ordered;
 use crate::words::{Asked, Run, parse};
 use clap::error::ErrorKind;
 use hierarchy::{ClassId, Program, link};
-use jasmin_text::ClassText;
-use std::alloc::Global;
+use init_order::needs;
+use jasmin_text::ClassParts;
+use std::alloc::{AllocError, Global};
 use std::io;
 use trace::{Report, write_trace};
 
@@ -28,6 +30,15 @@ fn main_of(program: &Program, mains: Option<&str>) -> Option<ClassId>
     }
 }
 
+/// Whether the program has no other class, and the class needs none: so far only such a class is run.
+fn runs_alone(alloc: Global, program: &Program, main: ClassId) -> Result<bool, AllocError>
+    ensures one_class { IfOk result (λ yes. yes ≡ true → length program.now.classes ≡ 1) }
+    ensures alone { IfOk result (λ yes. yes ≡ true → needs_of program.now main ≡ []) }
+{
+    let needed = needs(alloc, program, main)?;
+    Ok(program.len() == 1 && needed.is_empty())
+}
+
 /// A program and what its run was.
 #[derive(Drop)]
 struct Ran {
@@ -38,7 +49,7 @@ struct Ran {
 /// Links the classes and runs their main class.
 fn run_texts<'a>(
     alloc: Global,
-    texts: Vec<ClassText>,
+    texts: Vec<ClassParts>,
     mains: Option<&str>,
 ) -> Result<Ran, Fault<'a>>
     ensures { IfOk result (λ ran. IsLegalRun ran.program ran.report) }
@@ -50,6 +61,9 @@ fn run_texts<'a>(
     let Some(main) = main_of(&program, mains) else {
         return Err(Fault::Mains);
     };
+    if !runs_alone(alloc, &program, main)? {
+        return Err(Fault::Classes);
+    }
     let report = run_ordered(alloc, &program, main)?;
     Ok(Ran { program, report })
 }

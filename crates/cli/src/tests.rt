@@ -124,14 +124,14 @@ fn first_path(rt: HostRuntime) {
 
 #[test]
 fn what_is_needed(rt: HostRuntime) {
-    let told = run_words(rt.alloc(), &["jinit", "needs", "Solo.j"]);
+    let told = run_words(rt.alloc(), &["jinit", "needs", "Sub.j", "Solo.j"]);
     assert_eq!(rt; told.status, 0);
-    assert!(rt; told.out.as_slice() == b"Solo:\n".as_slice());
+    assert!(rt; told.out.as_slice() == b"Sub: Solo\nSolo:\n".as_slice());
     assert!(rt; told.err.is_empty() && told.trace.is_empty());
 }
 
 /// The words, and the line and the status that answer them.
-const FAULTS: [(&[&str], &[u8], u8); 18] = [
+const FAULTS: [(&[&str], &[u8], u8); 21] = [
     (&["jinit", "needs", "Solo.j", "None.j"], b"io: None.j\n", 3),
     (&["jinit", "needs", "Sub.j"], b"link: H2 Sub\n", 2),
     (&["jinit", "run", "Solo.j"], b"cli: mains\n", 2),
@@ -199,8 +199,23 @@ const FAULTS: [(&[&str], &[u8], u8); 18] = [
         2,
     ),
     (
-        &["jinit", "run", "--mains", "Solo", "Under.j", "Solo.j"],
-        b"link: H8 Solo\n",
+        &["jinit", "run", "--mains", "Solo", "Solo.j", "Under.j"],
+        b"link: H6 java/lang/Under\n",
+        2,
+    ),
+    (
+        &["jinit", "run", "--mains", "Sub", "Solo.j", "Sub.j"],
+        b"cli: classes\n",
+        2,
+    ),
+    (
+        &["jinit", "run", "--mains", "Other", "Solo.j", "Sub.j"],
+        b"cli: mains\n",
+        2,
+    ),
+    (
+        &["jinit", "needs", "Solo.j", "Solo.j"],
+        b"link: H1 Solo\n",
         2,
     ),
     (

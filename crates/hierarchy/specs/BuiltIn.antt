@@ -1,10 +1,10 @@
 -- The built-in classes: their numbers, names and superclasses.
-use Rattle.std.specs.Prelude.{ℕ, ◌+◌, List, [], ◌∷◌, Option, Some, None, map, if◌then◌else◌}
+use Rattle.std.specs.Prelude.{ℕ, ◌+◌, ◌==◌, nat_lt, Bool, ◌||◌, List, [], ◌∷◌, Option, Some, None, map, slice_get, if◌then◌else◌}
 use Rattle.std.specs.Borrow.{Bor}
 use Rattle.std.specs.Str.{bytes_eq}
 use Rattle.hierarchy.specs.declared.built_in.BuiltIn.{BuiltIn}
 use Rattle.hierarchy.specs.declared.built_in.BuiltIn.TheVariants.{Object, System, String, PrintStream, Throwable, Exception, Error, RuntimeException, ArithmeticException, NullPointerException, IndexOutOfBoundsException, NegativeArraySizeException, ClassCastException, ArrayStoreException, IllegalMonitorStateException, IllegalArgumentException, IllegalStateException, UnsupportedOperationException, ArrayIndexOutOfBoundsException, LinkageError, VirtualMachineError, NoClassDefFoundError, ExceptionInInitializerError, IncompatibleClassChangeError, VerifyError, NoSuchFieldError, NoSuchMethodError, AbstractMethodError, InstantiationError, OutOfMemoryError, StackOverflowError, InternalError}
-use Rattle.hierarchy.specs.declared.built_in.TheConstants.{BUILT_IN_NAMES}
+use Rattle.hierarchy.specs.declared.built_in.TheConstants.{BUILT_IN_NAMES, BUILT_INS}
 
 -- the place of a class among the built-in ones
 abbrev pub number_of : BuiltIn → ℕ
@@ -91,3 +91,19 @@ place_from k (other ∷ others) name = if bytes_eq other name then Some k else p
 -- the place of the first of these names that is the one
 abbrev pub place_of : List (List ℕ) → List ℕ → Option ℕ
 place_of names name = place_from 0 names name
+
+-- the built-in classes, in the order of the numbers
+unfoldable pub built_ins : List BuiltIn
+built_ins = BUILT_INS
+
+abbrev pub built_in_at : Option ℕ → Option BuiltIn
+built_in_at None = None
+built_in_at (Some k) = slice_get built_ins k
+
+-- the built-in class of that name
+abbrev pub built_in_named : List ℕ → Option BuiltIn
+built_in_named name = built_in_at (place_of built_in_names name)
+
+-- java/lang/Object and the throwables, which stand behind the first four
+abbrev pub may_be_superclass : BuiltIn → Bool
+may_be_superclass b = number_of b == 0 || nat_lt 3 (number_of b)

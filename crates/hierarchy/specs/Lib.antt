@@ -1,4 +1,13 @@
 pub mod BuiltIn
+pub mod ClassLists
+pub mod FirstFault
+pub mod Hierarchy
 pub mod LinkedProgram
 pub mod Linking
+pub mod Members
+pub mod Quoted
+pub mod Searched
 pub mod Subclasses
+pub mod Superinterfaces
+pub mod Supertypes
+pub mod Texts

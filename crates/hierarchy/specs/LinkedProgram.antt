@@ -1,5 +1,5 @@
 -- A program: its linked classes in file order (JVMS SE 8 5.4), and the built-in ones behind them.
-use Rattle.std.specs.Prelude.{ℕ, ◌+◌, ◌-◌, List, Option, Some, None, length, slice_get, position}
+use Rattle.std.specs.Prelude.{ℕ, ◌+◌, ◌-◌, List, Option, Some, None, map, length, slice_get, position}
 use Rattle.std.specs.Option.{option_map, option_or}
 use Rattle.std.specs.Str.{bytes_eq}
 use Rattle.hierarchy.specs.declared.class.Class.{Class}
@@ -31,6 +31,10 @@ class_name None other = other
 -- the name of a class, a file's or a built-in one
 abbrev pub name_at : LinkedProgram → ClassId → Option (List ℕ)
 name_at p c = class_name (class_at p c) (slice_get built_in_names (c.number - length p.classes))
+
+-- the names in file order
+abbrev pub class_names : List Class → List (List ℕ)
+class_names classes = map (λ c. c.name) classes
 
 -- the place of a name among the files' classes
 abbrev pub place_in : List Class → List ℕ → Option ℕ

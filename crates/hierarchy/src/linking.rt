@@ -1,142 +1,208 @@
 //! Class texts linked to a program.
 
-ghost use Rattle.std.specs.Prelude.{◌≡◌, ◌⊎◌, IfOk, IfErr, None, Some, IfNone, IfSome};
-ghost use Rattle.hierarchy.specs.Linking.{class_of, link_fault, fault_of, linked_from, is_reserved};
-ghost use Rattle.hierarchy.specs.declared.linking.LinkFaultKind.TheVariants as kinds;
+ghost use Rattle.std.specs.Prelude.{◌≡◌, ◌⊎◌, ℕ, ◌+◌, ◌<◌, ◌≤◌, Some, None, Ok, Err, IfOk, IfErr, length, slice_get, vec_len};
+ghost use Rattle.hierarchy.specs.LinkedProgram.{linked, class_names};
+ghost use Rattle.hierarchy.specs.Hierarchy.{IsAcyclic, IsInRange};
+ghost use Rattle.hierarchy.specs.Searched.{HasSupertypes};
+ghost use Rattle.hierarchy.specs.Superinterfaces.{IsTable, superinterfaces as superinterfaces_of};
+ghost use Rattle.hierarchy.specs.Linking.{names_of, kinds_of, classes_of, classes_from, IsFirst, IsRepeated};
+ghost use Rattle.hierarchy.specs.FirstFault.{HasNames, IsNameFault, HasNoCycle, HasDistinctMembers, FitsHeap, IsClassFault, IsFirstFault, LinksTo, IsMemory, name_in_text, name_in_class};
+ghost use Rattle.hierarchy.specs.declared.fault.LinkFaultKind.TheVariants as because;
 
-use crate::built_in::BuiltIn;
-use crate::class::{Class, ClassId};
+use crate::assembly::linked_classes;
+use crate::class::Class;
+use crate::class_set::ClassSet;
+use crate::fault::{LinkFault, LinkFaultKind};
+use crate::members::first_repeating;
+use crate::naming::{first_repeated, first_reserved, kinds};
+use crate::order::all_superinterfaces;
 use crate::program::Program;
+use crate::quoted::first_beyond_heap;
+use crate::supertypes::{SearchResult, search};
+use crate::texts::Texts;
 use descriptors::ClassName;
-use jasmin_text::{ClassParts, ClassText};
-use sequence::Sequence;
+use jasmin_text::{ClassKind, ClassParts};
 use std::alloc::Global;
-use std::fmt;
 
-/// Why class texts can't be linked (JVMS SE 8 5.3.5, 5.4).
-///
-/// `Display` writes the code by which the program names the kind, `H1` to `H9`.
-#[derive(Clone, Copy, Debug, PartialEq, Eq)]
-pub enum LinkFaultKind {
-    /// H1: two classes have one name.
-    RepeatedName,
-    /// H2: the superclass, or a superinterface, is unknown.
-    UnknownSupertype,
-    /// H3: the class is its own supertype.
-    Cycle,
-    /// H4: the superclass is an interface, or an interface's superclass isn't java/lang/Object.
-    SuperclassKind,
-    /// H5: a superinterface is a class.
-    InterfaceKind,
-    /// H6: the name lies under java/.
-    ReservedName,
-    /// H7: a member twice.
-    RepeatedMember,
-    /// H8: too many classes, or more quoted texts than the heap holds.
-    TooMany,
-    /// H9: want of memory.
-    NoMemory,
+/// A fault of the class at a place.
+#[derive(Clone, Copy)]
+struct FaultAt {
+    kind: LinkFaultKind,
+    place: usize,
 }
 
-impl LinkFaultKind {
-    /// The number behind the `H` of the code.
-    fn number(self) -> u8 {
-        self as u8 + 1
-    }
+impl FaultAt {
+    /// Want of memory, told of the first class.
+    const NO_MEMORY: FaultAt = FaultAt {
+        kind: LinkFaultKind::NoMemory,
+        place: 0,
+    };
 }
 
-impl fmt::Display for LinkFaultKind {
-    fn fmt<W: fmt::Write>(&self, f: &mut fmt::Formatter<W>) -> fmt::Result {
-        let number = self.number();
-        write!(f, "H{number}")
-    }
+/// The classes' own names and kinds, in file order.
+#[derive(Drop)]
+struct Directory {
+    names: Texts,
+    kinds: Vec<ClassKind>,
 }
 
-/// Why classes can't be linked, and the name of the class whose file is at fault. Where memory ran out the
-/// class is one of those that were handed in.
-#[derive(Debug, Drop)]
-pub struct LinkFault {
-    pub kind: LinkFaultKind,
-    pub class: ClassName,
+/// What a program keeps beside its classes.
+#[derive(Drop)]
+struct Tables {
+    supertypes: Vec<ClassSet>,
+    superinterfaces: Vec<ClassSet>,
 }
 
-/// Whether a user's class may not have this name.
-fn is_under_java(name: &[u8]) -> bool
-    ensures { result ≡ is_reserved name.now }
+/// The names and kinds of classes whose own names are without a fault.
+fn directory_of(alloc: Global, texts: &[ClassParts]) -> Result<Directory, FaultAt>
+    requires { 0 < length texts.now }
+    ensures good { IfOk result (λ made. HasNames texts.now) }
+    ensures names { IfOk result (λ made. made.names ≡ names_of texts.now) }
+    ensures kinds { IfOk result (λ made. made.kinds.items ≡ kinds_of texts.now) }
+    ensures within { IfErr result (λ at. at.place < length texts.now) }
+    ensures fault { IfErr result (λ at. (at.kind ≡ because.NoMemory) ⊎ IsNameFault texts.now at.kind at.place) }
 {
-    name.starts_with(b"java/")
+    if texts.len() > 1024 {
+        return Err(FaultAt {
+            kind: LinkFaultKind::TooMany,
+            place: 1024,
+        });
+    }
+    if let Some(place) = first_reserved(texts) {
+        return Err(FaultAt {
+            kind: LinkFaultKind::ReservedName,
+            place,
+        });
+    }
+    let mut names = Texts::new(alloc);
+    let Ok(repeated) = first_repeated(alloc, texts, &mut names) else {
+        return Err(FaultAt::NO_MEMORY);
+    };
+    if let Some(place) = repeated {
+        return Err(FaultAt {
+            kind: LinkFaultKind::RepeatedName,
+            place,
+        });
+    }
+    match kinds(alloc, texts) {
+        Ok(kinds) => Ok(Directory { names, kinds }),
+        Err(_) => Err(FaultAt::NO_MEMORY),
+    }
 }
 
-/// What is wrong with a class that is linked alone.
-fn fault_in(text: &ClassText) -> Option<LinkFaultKind>
-    ensures { result ≡ fault_of text.now }
+/// What is kept beside classes that are without a fault.
+fn tables_of(alloc: Global, classes: &[Class]) -> Result<Tables, FaultAt>
+    requires some { 0 < length classes.now }
+    requires few { length classes.now ≤ 1024 }
+    requires in_range { IsInRange (linked classes.now) }
+    ensures acyclic { IfOk result (λ made. IsAcyclic (linked classes.now)) }
+    ensures supertypes { IfOk result (λ made. HasSupertypes (linked classes.now) (length classes.now) made.supertypes.items) }
+    ensures superinterfaces { IfOk result (λ made. IsTable (superinterfaces_of (linked classes.now)) (length classes.now) made.superinterfaces.items) }
+    ensures members { IfOk result (λ made. HasDistinctMembers classes.now) }
+    ensures heap { IfOk result (λ made. FitsHeap classes.now) }
+    ensures within { IfErr result (λ at. at.place < length classes.now) }
+    ensures fault { IfErr result (λ at. (at.kind ≡ because.NoMemory) ⊎ IsClassFault classes.now at.kind at.place) }
 {
-    let parts = text.parts();
-    if is_under_java(parts.name.as_slice()) {
-        return Some(LinkFaultKind::ReservedName);
+    let supertypes = match search(alloc, classes) {
+        Ok(SearchResult::Supertypes(all)) => all,
+        Ok(SearchResult::Cycle(place)) => {
+            return Err(FaultAt {
+                kind: LinkFaultKind::Cycle,
+                place,
+            });
+        }
+        Err(_) => return Err(FaultAt::NO_MEMORY),
+    };
+    if let Some(place) = first_repeating(classes) {
+        return Err(FaultAt {
+            kind: LinkFaultKind::RepeatedMember,
+            place,
+        });
     }
-    if parts.superclass.as_slice() != b"java/lang/Object".as_slice() {
-        return Some(LinkFaultKind::UnknownSupertype);
+    let Ok(beyond) = first_beyond_heap(alloc, classes) else {
+        return Err(FaultAt::NO_MEMORY);
+    };
+    if let Some(place) = beyond {
+        return Err(FaultAt {
+            kind: LinkFaultKind::TooMany,
+            place,
+        });
     }
-    None
+    match all_superinterfaces(alloc, classes) {
+        Ok(superinterfaces) => Ok(Tables {
+            supertypes,
+            superinterfaces,
+        }),
+        Err(_) => Err(FaultAt::NO_MEMORY),
+    }
 }
 
-/// The linked class of a text whose superclass is java/lang/Object. Takes no memory.
-fn linked_class(alloc: Global, text: ClassText) -> Class
-    ensures { result ≡ class_of text }
-{
-    let ClassParts {
-        kind,
-        access: _,
-        name,
-        superclass: _,
-        interfaces: _,
-        fields: _,
-        methods: _,
-    } = text.into_parts();
-    Class {
-        name,
-        kind,
-        superclass: ClassId {
-            number: 1 + BuiltIn::Object.number(),
-        },
-        interfaces: Sequence::new(alloc),
-        declares_default: false,
-    }
-}
-
-/// Links the classes of all files, in order, to a program, or tells the first fault and its class.
-///
-/// Today a program has at most one class, whose superclass is java/lang/Object: a second class is
-/// [`LinkFaultKind::TooMany`] and another superclass [`LinkFaultKind::UnknownSupertype`].
-pub fn link(alloc: Global, texts: Vec<ClassText>) -> Result<Program, LinkFault>
-    ensures good { IfOk result (λ program. link_fault texts.items ≡ None) }
-    ensures program { IfOk result (λ program. program ≡ linked_from texts.items) }
-    ensures fault { IfErr result (λ fault. (fault.kind ≡ kinds.NoMemory) ⊎ (link_fault texts.items ≡ Some fault)) }
+/// The name of the class at that place.
+fn name_of_text(texts: Vec<ClassParts>, place: usize) -> ClassName
+    requires { place < vec_len texts }
+    ensures { name_in_text (slice_get texts.items place) ≡ Some result }
 {
     let mut texts = texts;
-    let mut classes = Vec::new(alloc);
-    if texts.len() > 1 {
-        let second = texts.remove(1);
-        return Err(LinkFault {
-            kind: LinkFaultKind::TooMany,
-            class: second.into_parts().name,
-        });
+    texts.swap_remove(place).name
+}
+
+/// The name of the class at that place.
+fn name_of_class(classes: Vec<Class>, place: usize) -> ClassName
+    requires { place < vec_len classes }
+    ensures { name_in_class (slice_get classes.items place) ≡ Some result }
+{
+    let mut classes = classes;
+    classes.swap_remove(place).name
+}
+
+/// The program of classes whose supertypes' names are resolved.
+fn program_of(alloc: Global, names: Texts, classes: Vec<Class>) -> Result<Program, LinkFault>
+    requires some { 0 < vec_len classes }
+    requires few { vec_len classes ≤ 1024 }
+    requires in_range { IsInRange (linked classes.items) }
+    requires names { names ≡ class_names classes.items }
+    ensures program { IfOk result (λ program. program ≡ linked classes.items) }
+    ensures cycles { IfOk result (λ program. HasNoCycle classes.items) }
+    ensures members { IfOk result (λ program. HasDistinctMembers classes.items) }
+    ensures heap { IfOk result (λ program. FitsHeap classes.items) }
+    ensures fault { IfErr result (λ f. IsMemory f ⊎ ((i : ℕ) × IsClassFault classes.items f.kind i × (name_in_class (slice_get classes.items i) ≡ Some f.class))) }
+{
+    match tables_of(alloc, &classes) {
+        Ok(tables) => Ok(Program::new(classes, names, tables.supertypes, tables.superinterfaces)),
+        Err(at) => Err(LinkFault {
+            kind: at.kind,
+            class: name_of_class(classes, at.place),
+        }),
     }
-    let Some(text) = texts.pop() else {
-        return Ok(Program::new(classes));
-    };
-    if let Some(kind) = fault_in(&text) {
-        return Err(LinkFault {
-            kind,
-            class: text.into_parts().name,
-        });
+}
+
+/// Links the classes of all files, in order, to a program, or tells the first fault and its class
+/// (JVMS SE 8 5.3.5, 5.4).
+///
+/// The passes, each over the classes in file order: over 1,024 classes; a name under java/; a name twice;
+/// then of each class its superclass and its superinterfaces in order, of one name first whether it is known
+/// and then whether it is of the right kind; then cycles, told of the first class that itself stands on one;
+/// then a member twice; then the heap's share, which is one cell for each of three ready objects and one for
+/// each distinct quoted text of a static field or of `ldc`, of 1,000,000 cells.
+///
+/// Want of memory is [`LinkFaultKind::NoMemory`], may come before any fault, and leaves its class open.
+pub fn link(alloc: Global, texts: Vec<ClassParts>) -> Result<Program, LinkFault>
+    ensures linked { IfOk result (LinksTo texts.items) }
+    ensures fault { IfErr result (λ f. IsMemory f ⊎ IsFirstFault texts.items f) }
+{
+    if texts.as_slice().is_empty() {
+        return Ok(Program::empty(alloc));
     }
-    match classes.push(linked_class(alloc, text)) {
-        Ok(()) => Ok(Program::new(classes)),
-        Err(refused) => Err(LinkFault {
-            kind: LinkFaultKind::NoMemory,
-            class: refused.value.name,
+    match directory_of(alloc, &texts) {
+        Ok(Directory { names, kinds }) => {
+            match linked_classes(alloc, &names, &kinds, texts) {
+                Ok(classes) => program_of(alloc, names, classes),
+                Err(fault) => Err(fault),
+            }
+        }
+        Err(at) => Err(LinkFault {
+            kind: at.kind,
+            class: name_of_text(texts, at.place),
         }),
     }
 }

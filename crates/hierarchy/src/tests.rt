@@ -1,147 +1,359 @@
-//! One class linked.
+//! Linking, by tables.
 
-use crate::{BuiltIn, Class, ClassId, LinkFaultKind, Program, link};
-use descriptors::ClassName;
-use jasmin_text::{Access, ClassKind, ClassParts, ClassText};
+use crate::{BuiltIn, ClassId, LinkFaultKind, Program, link};
+use descriptors::{ClassName, parse_field, parse_method};
+use jasmin_text::{Access, ClassKind, ClassParts, Field, Method};
+use jasmin_words::name::MemberName;
 use sequence::Sequence;
-use std::alloc::{AllocError, Global};
+use std::alloc::Global;
 use std::test::Fail;
 
-/// A class of that name and superclass, with nothing else.
-fn text(alloc: Global, name: &[u8], superclass: &[u8]) -> Result<Option<ClassText>, AllocError> {
-    let Some(name) = ClassName::parse(alloc, name)? else {
-        return Ok(None);
-    };
-    let Some(superclass) = ClassName::parse(alloc, superclass)? else {
-        return Ok(None);
-    };
-    ClassText::new(
-        alloc,
-        ClassParts {
-            kind: ClassKind::Class,
-            access: Access::NONE,
-            name,
-            superclass,
-            interfaces: Sequence::new(alloc),
-            fields: Sequence::new(alloc),
-            methods: Sequence::new(alloc),
-        },
-    )
+/// A class of a table: its kind, its name, its superclass and its superinterfaces.
+type Row = (
+    ClassKind,
+    &'static [u8],
+    &'static [u8],
+    &'static [&'static [u8]],
+);
+
+const C: ClassKind = ClassKind::Class;
+
+const I: ClassKind = ClassKind::Interface;
+
+const OBJECT: &[u8] = b"java/lang/Object";
+
+fn name(alloc: Global, bytes: &[u8]) -> Result<ClassName, Fail> {
+    Ok(ClassName::parse(alloc, bytes)?.ok_or("no name")?)
 }
 
-#[test]
-fn links_one_class(rt: HostRuntime) -> Result<(), Fail> {
-    let alloc = rt.alloc();
-    let solo = text(alloc, b"a/Solo", b"java/lang/Object")?.expect(&rt, "a class text");
-    let Ok(program) = link(alloc, vec![in alloc; solo]?) else {
-        assert!(rt; false);
-        return Ok(());
-    };
-    assert_eq!(rt; program.len(), 1);
-    assert_eq!(rt; program.class_named(b"a/Solo"), Some(ClassId { number: 0 }));
-    assert_eq!(rt;
-        program.class_named(b"java/lang/Object"),
-        Some(ClassId { number: 1 })
-    );
-    assert_eq!(rt;
-        program.class_named(b"java/lang/InternalError"),
-        Some(ClassId { number: 32 })
-    );
-    assert_eq!(rt; program.class_named(b"Solo"), None);
-    assert_eq!(rt; program.built_in(BuiltIn::Object), ClassId { number: 1 });
-    assert_eq!(rt;
-        program.built_in(BuiltIn::InternalError),
-        ClassId { number: 32 }
-    );
-    assert!(rt; program.name(ClassId { number: 0 }) == Some(b"a/Solo".as_slice()));
-    assert!(rt; program.name(ClassId { number: 4 }) == Some(b"java/io/PrintStream".as_slice()));
-    assert!(rt; program.name(ClassId { number: 33 }).is_none());
-    assert!(rt; program.class(ClassId { number: 1 }).is_none());
-    match program.class(ClassId { number: 0 }) {
-        Some(class) => {
-            assert_eq!(rt; class.kind, ClassKind::Class);
-            assert_eq!(rt; class.superclass, ClassId { number: 1 });
-            assert!(rt; class.interfaces.is_empty() && !class.declares_default);
-        }
-        None => assert!(rt; false),
+fn parts(alloc: Global, row: Row) -> Result<ClassParts, Fail> {
+    let (kind, own, superclass, supers) = row;
+    let mut interfaces = Sequence::new(alloc);
+    for interface in supers {
+        interfaces.push(name(alloc, interface)?)?;
     }
-    Ok(())
+    Ok(ClassParts {
+        kind,
+        access: Access::NONE,
+        name: name(alloc, own)?,
+        superclass: name(alloc, superclass)?,
+        interfaces,
+        fields: Sequence::new(alloc),
+        methods: Sequence::new(alloc),
+    })
 }
 
-/// Names and superclasses of two classes, how many of them there are, and the fault and the name that it tells.
-const FAULTS: [(&[u8], &[u8], bool, LinkFaultKind, &[u8]); 5] = [
+fn texts(alloc: Global, rows: &[Row]) -> Result<Vec<ClassParts>, Fail> {
+    let mut all = Vec::new(alloc);
+    for row in rows {
+        all.push(parts(alloc, *row)?)?;
+    }
+    Ok(all)
+}
+
+fn linked(alloc: Global, rows: &[Row]) -> Result<Program, Fail> {
+    match link(alloc, texts(alloc, rows)?) {
+        Ok(program) => Ok(program),
+        Err(_) => Err(Fail::from("a fault")),
+    }
+}
+
+/// Classes, and the fault and the class that are told.
+const FAULTS: &[(&[Row], LinkFaultKind, &[u8])] = &[
+    // A name under java/ comes before any name twice and before supertypes.
     (
+        &[(C, b"java/A", OBJECT, &[])],
+        LinkFaultKind::ReservedName,
         b"java/A",
+    ),
+    (
+        &[(C, b"java/A", b"Gone", &[])],
+        LinkFaultKind::ReservedName,
+        b"java/A",
+    ),
+    (
+        &[
+            (C, b"A", OBJECT, &[]),
+            (C, b"A", OBJECT, &[]),
+            (C, b"java/lang/Object", OBJECT, &[]),
+        ],
+        LinkFaultKind::ReservedName,
         b"java/lang/Object",
-        false,
-        LinkFaultKind::ReservedName,
-        b"java/A",
     ),
+    // A name twice comes before supertypes.
     (
-        b"java/A",
-        b"B",
-        false,
-        LinkFaultKind::ReservedName,
-        b"java/A",
-    ),
-    (
+        &[(C, b"A", OBJECT, &[]), (I, b"A", OBJECT, &[])],
+        LinkFaultKind::RepeatedName,
         b"A",
-        b"java/lang/Error",
-        false,
+    ),
+    (
+        &[
+            (C, b"B", b"Gone", &[]),
+            (C, b"A", OBJECT, &[]),
+            (C, b"A", OBJECT, &[]),
+        ],
+        LinkFaultKind::RepeatedName,
+        b"A",
+    ),
+    // The superclass is known.
+    (
+        &[(C, b"A", b"Gone", &[])],
         LinkFaultKind::UnknownSupertype,
         b"A",
     ),
-    (b"A", b"A", false, LinkFaultKind::UnknownSupertype, b"A"),
     (
-        b"java/A",
-        b"java/lang/Object",
-        true,
-        LinkFaultKind::TooMany,
-        b"Second",
+        &[(C, b"A", b"java/lang/String", &[])],
+        LinkFaultKind::UnknownSupertype,
+        b"A",
+    ),
+    (
+        &[(C, b"A", b"java/lang/System", &[])],
+        LinkFaultKind::UnknownSupertype,
+        b"A",
+    ),
+    (
+        &[(C, b"A", b"java/io/PrintStream", &[])],
+        LinkFaultKind::UnknownSupertype,
+        b"A",
+    ),
+    (
+        &[(C, b"A", b"java/lang/Thread", &[])],
+        LinkFaultKind::UnknownSupertype,
+        b"A",
+    ),
+    (
+        &[(I, b"A", b"java/lang/String", &[])],
+        LinkFaultKind::UnknownSupertype,
+        b"A",
+    ),
+    // A superclass is a class; an interface's is java/lang/Object.
+    (
+        &[(I, b"A", OBJECT, &[]), (C, b"B", b"A", &[])],
+        LinkFaultKind::SuperclassKind,
+        b"B",
+    ),
+    (
+        &[(C, b"A", OBJECT, &[]), (I, b"B", b"A", &[])],
+        LinkFaultKind::SuperclassKind,
+        b"B",
+    ),
+    (
+        &[(I, b"A", b"java/lang/Error", &[])],
+        LinkFaultKind::SuperclassKind,
+        b"A",
+    ),
+    // A superinterface is known, and an interface.
+    (
+        &[(C, b"A", OBJECT, &[b"Gone"])],
+        LinkFaultKind::UnknownSupertype,
+        b"A",
+    ),
+    (
+        &[(C, b"A", OBJECT, &[b"B"]), (C, b"B", OBJECT, &[])],
+        LinkFaultKind::InterfaceKind,
+        b"A",
+    ),
+    (
+        &[(C, b"A", OBJECT, &[OBJECT])],
+        LinkFaultKind::InterfaceKind,
+        b"A",
+    ),
+    (
+        &[(C, b"A", OBJECT, &[b"java/lang/Error"])],
+        LinkFaultKind::InterfaceKind,
+        b"A",
+    ),
+    (
+        &[(C, b"A", OBJECT, &[b"java/lang/Thread"])],
+        LinkFaultKind::UnknownSupertype,
+        b"A",
+    ),
+    // The superclass comes before the superinterfaces, and these in order; file order comes first.
+    (
+        &[(C, b"A", b"Gone", &[b"A"])],
+        LinkFaultKind::UnknownSupertype,
+        b"A",
+    ),
+    (
+        &[(C, b"A", OBJECT, &[b"A", b"Gone"])],
+        LinkFaultKind::InterfaceKind,
+        b"A",
+    ),
+    (
+        &[(C, b"A", OBJECT, &[b"Gone", b"A"])],
+        LinkFaultKind::UnknownSupertype,
+        b"A",
+    ),
+    (
+        &[(C, b"A", OBJECT, &[b"A"]), (C, b"B", b"Gone", &[])],
+        LinkFaultKind::InterfaceKind,
+        b"A",
+    ),
+    // Cycles come after all names of supertypes, and are told of the first class on one.
+    (&[(C, b"A", b"A", &[])], LinkFaultKind::Cycle, b"A"),
+    (
+        &[(C, b"A", b"B", &[]), (C, b"B", b"A", &[])],
+        LinkFaultKind::Cycle,
+        b"A",
+    ),
+    (&[(I, b"A", OBJECT, &[b"A"])], LinkFaultKind::Cycle, b"A"),
+    (
+        &[
+            (C, b"A", b"B", &[]),
+            (C, b"B", b"C", &[]),
+            (C, b"C", b"B", &[]),
+        ],
+        LinkFaultKind::Cycle,
+        b"B",
+    ),
+    (
+        &[(C, b"A", b"A", &[]), (C, b"B", b"Gone", &[])],
+        LinkFaultKind::UnknownSupertype,
+        b"B",
+    ),
+    (
+        &[
+            (I, b"K", OBJECT, &[b"J"]),
+            (C, b"A", OBJECT, &[b"K"]),
+            (I, b"J", OBJECT, &[b"K"]),
+        ],
+        LinkFaultKind::Cycle,
+        b"K",
     ),
 ];
 
 #[test]
 fn tells_the_first_fault(rt: HostRuntime) -> Result<(), Fail> {
     let alloc = rt.alloc();
-    for (name, superclass, two, kind, class) in FAULTS {
-        let mut texts = vec![in alloc; text(alloc, name, superclass)?.expect(&rt, "a class text")]?;
-        if two {
-            texts.push(text(alloc, b"Second", b"java/lang/Object")?.expect(&rt, "a class text"))?;
-        }
-        match link(alloc, texts) {
-            Ok(_) => assert!(rt; false, "at {name:?}"),
+    for (rows, kind, class) in FAULTS {
+        match link(alloc, texts(alloc, rows)?) {
+            Ok(_) => assert!(rt; false, "at {class:?}"),
             Err(fault) => {
-                assert_eq!(rt; fault.kind, kind, "at {name:?}");
-                assert!(rt; fault.class.as_slice() == class, "at {name:?}");
+                assert_eq!(rt; fault.kind, *kind, "at {class:?}");
+                assert!(rt; fault.class.as_slice() == *class, "at {class:?}");
             }
         }
     }
-    let first = format!(in alloc; "{}", LinkFaultKind::RepeatedName)?;
-    let last = format!(in alloc; "{}", LinkFaultKind::NoMemory)?;
-    assert!(rt; first.as_str() == "H1" && last.as_str() == "H9");
     Ok(())
 }
 
 #[test]
-fn given_classes(rt: HostRuntime) -> Result<(), Fail> {
+fn cyclic_superclasses(rt: HostRuntime) -> Result<(), Fail> {
+    let rows: [Row; 2] = [(C, b"A", b"B", &[]), (C, b"B", b"A", &[])];
+    match link(rt.alloc(), texts(rt.alloc(), &rows)?) {
+        Ok(_) => assert!(rt; false),
+        Err(fault) => {
+            let text = format!(in rt.alloc(); "{}", fault.kind)?;
+            assert!(rt; text.as_str() == "H3" && fault.class.as_slice() == b"A".as_slice());
+        }
+    }
+    Ok(())
+}
+
+#[test]
+fn links_nothing(rt: HostRuntime) -> Result<(), Fail> {
+    let program = linked(rt.alloc(), &[])?;
+    assert_eq!(rt; program.len(), 0);
+    assert_eq!(rt; program.class_named(OBJECT), Some(ClassId { number: 0 }));
+    Ok(())
+}
+
+#[test]
+fn finds_classes(rt: HostRuntime) -> Result<(), Fail> {
+    let rows: [Row; 3] = [
+        (I, b"K", OBJECT, &[]),
+        (C, b"a/B", b"java/lang/Error", &[b"K"]),
+        (C, b"C", b"a/B", &[]),
+    ];
+    let program = linked(rt.alloc(), &rows)?;
+    assert_eq!(rt; program.len(), 3);
+    let b = ClassId { number: 1 };
+    let c = ClassId { number: 2 };
+    let k = ClassId { number: 0 };
+    assert_eq!(rt; program.class_named(b"a/B"), Some(b));
+    assert_eq!(rt; program.class_named(b"B"), None);
+    let object = program.built_in(BuiltIn::Object);
+    let error = program.built_in(BuiltIn::Error);
+    assert_eq!(rt; program.class_named(b"java/lang/Error"), Some(error));
+    assert!(rt; program.name(error) == Some(b"java/lang/Error".as_slice()));
+    assert!(rt; program.name(k) == Some(b"K".as_slice()));
+    match program.class(b) {
+        Some(class) => {
+            assert_eq!(rt; class.superclass, error);
+            assert!(rt; class.interfaces.as_slice() == [k].as_slice());
+        }
+        None => assert!(rt; false),
+    }
+    let yes = [
+        (c, c),
+        (c, b),
+        (c, k),
+        (c, error),
+        (c, object),
+        (k, object),
+        (error, object),
+    ];
+    for (id, other) in yes {
+        assert!(rt; program.is_subtype(id, other));
+    }
+    let vm = program.built_in(BuiltIn::VirtualMachineError);
+    for (id, other) in [
+        (b, c),
+        (k, b),
+        (error, b),
+        (object, error),
+        (b, vm),
+        (k, error),
+    ] {
+        assert!(rt; !program.is_subtype(id, other));
+    }
+    assert!(rt; program.superinterfaces(b) == [k].as_slice());
+    assert!(rt; program.superinterfaces(c).is_empty());
+    Ok(())
+}
+
+fn field(alloc: Global, own: &[u8], descriptor: &[u8]) -> Result<Field, Fail> {
+    let Ok(field_type) = parse_field(alloc, descriptor) else {
+        return Err(Fail::from("no descriptor"));
+    };
+    Ok(Field {
+        access: Access::NONE,
+        name: MemberName::parse(alloc, own)?.ok_or("no name")?,
+        field_type,
+        value: None,
+    })
+}
+
+fn method(alloc: Global, own: &[u8], descriptor: &[u8]) -> Result<Method, Fail> {
+    let Ok(method_type) = parse_method(alloc, descriptor) else {
+        return Err(Fail::from("no descriptor"));
+    };
+    Ok(Method {
+        access: Access::NONE,
+        name: MemberName::parse(alloc, own)?.ok_or("no name")?,
+        method_type,
+        code: None,
+    })
+}
+
+#[test]
+fn refuses_a_member_twice(rt: HostRuntime) -> Result<(), Fail> {
     let alloc = rt.alloc();
-    let Some(name) = ClassName::parse(alloc, b"Given")? else {
-        assert!(rt; false);
-        return Ok(());
-    };
-    let given = Class {
-        name,
-        kind: ClassKind::Class,
-        superclass: ClassId { number: 1 },
-        interfaces: Sequence::new(alloc),
-        declares_default: false,
-    };
-    let Some(program) = Program::of_classes(vec![in alloc; given]?) else {
-        assert!(rt; false);
-        return Ok(());
-    };
-    assert_eq!(rt; program.len(), 1);
-    assert_eq!(rt; program.class_named(b"Given"), Some(ClassId { number: 0 }));
+    let mut good = parts(alloc, (C, b"A", OBJECT, &[]))?;
+    good.fields.push(field(alloc, b"x", b"I")?)?;
+    good.fields.push(field(alloc, b"x", b"Z")?)?;
+    good.methods.push(method(alloc, b"x", b"()I")?)?;
+    good.methods.push(method(alloc, b"x", b"()V")?)?;
+    let mut bad = parts(alloc, (C, b"B", OBJECT, &[]))?;
+    bad.methods.push(method(alloc, b"x", b"(LA;)V")?)?;
+    bad.methods.push(method(alloc, b"y", b"(LA;)V")?)?;
+    bad.methods.push(method(alloc, b"x", b"(LA;)V")?)?;
+    match link(alloc, vec![in alloc; good, bad]?) {
+        Ok(_) => assert!(rt; false),
+        Err(fault) => {
+            assert_eq!(rt; fault.kind, LinkFaultKind::RepeatedMember);
+            assert!(rt; fault.class.as_slice() == b"B".as_slice());
+        }
+    }
     Ok(())
 }

@@ -5,7 +5,7 @@ use crate::{
 };
 use descriptors::ClassName;
 use hierarchy::{BuiltIn, ClassId, Program, link};
-use jasmin_text::{Access, ClassKind, ClassParts, ClassText};
+use jasmin_text::{Access, ClassKind, ClassParts};
 use sequence::{Sequence, Text};
 use std::alloc::{AllocError, Global};
 use std::test::Fail;
@@ -15,25 +15,22 @@ const CLASS: ClassId = ClassId { number: 0 };
 const ERROR: ClassId = ClassId { number: 7 };
 
 /// A class of that name and superclass, with nothing else.
-fn text(alloc: Global, name: &[u8], superclass: &[u8]) -> Result<Option<ClassText>, AllocError> {
+fn text(alloc: Global, name: &[u8], superclass: &[u8]) -> Result<Option<ClassParts>, AllocError> {
     let Some(name) = ClassName::parse(alloc, name)? else {
         return Ok(None);
     };
     let Some(superclass) = ClassName::parse(alloc, superclass)? else {
         return Ok(None);
     };
-    ClassText::new(
-        alloc,
-        ClassParts {
-            kind: ClassKind::Class,
-            access: Access::NONE,
-            name,
-            superclass,
-            interfaces: Sequence::new(alloc),
-            fields: Sequence::new(alloc),
-            methods: Sequence::new(alloc),
-        },
-    )
+    Ok(Some(ClassParts {
+        kind: ClassKind::Class,
+        access: Access::NONE,
+        name,
+        superclass,
+        interfaces: Sequence::new(alloc),
+        fields: Sequence::new(alloc),
+        methods: Sequence::new(alloc),
+    }))
 }
 
 fn solo(alloc: Global) -> Result<Option<Program>, AllocError> {

@@ -1,1 +1,1 @@
-pub mod Enumerations
+pub mod NeedsByKind

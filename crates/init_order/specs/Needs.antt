@@ -1,19 +1,14 @@
 -- What the initialization of a class needs first (JVMS SE 8 5.5 step 7, JLS SE 8 12.4.2 step 7).
-use Rattle.std.specs.Prelude.{ℕ, zero, suc, Bool, false, nat_lt, ◌==◌, List, [], ◌∷◌, ◌++◌, Option, Some, None, length, if◌then◌else◌}
-use Rattle.std.specs.List.{flat_map, list_any}
+pub use Rattle.hierarchy.specs.ClassLists.{is_among, add_new}
+pub use Rattle.hierarchy.specs.Hierarchy.{interfaces_in, interfaces_of}
+pub use Rattle.hierarchy.specs.Superinterfaces.{enumeration_within, enumeration}
+use Rattle.std.specs.Prelude.{ℕ, Bool, false, nat_lt, List, [], ◌∷◌, ◌++◌, Option, Some, None, length, if◌then◌else◌}
+use Rattle.std.specs.List.{flat_map}
 use Rattle.jasmin_text.specs.declared.class_text.ClassKind.{ClassKind}
 use Rattle.jasmin_text.specs.declared.class_text.ClassKind.TheVariants as kind
 use Rattle.hierarchy.specs.declared.class.Class.{Class}
 use Rattle.hierarchy.specs.declared.class.ClassId.{ClassId}
 use Rattle.hierarchy.specs.LinkedProgram.{LinkedProgram, class_at}
-
-abbrev pub interfaces_in : Option Class → List ClassId
-interfaces_in None = []
-interfaces_in (Some class) = class.interfaces
-
--- the direct superinterfaces, in order
-abbrev pub interfaces_of : LinkedProgram → ClassId → List ClassId
-interfaces_of p c = interfaces_in (class_at p c)
 
 abbrev pub declares_default_in : Option Class → Bool
 declares_default_in None = false
@@ -26,34 +21,23 @@ declares_default p c = declares_default_in (class_at p c)
 abbrev pub is_in_file : LinkedProgram → ClassId → Bool
 is_in_file p c = nat_lt c.number (length p.classes)
 
-abbrev pub enumeration_within : ℕ → LinkedProgram → ClassId → List ClassId
-enumeration_within zero p i = []
-enumeration_within (suc depth) p i = flat_map (enumeration_within depth p) (interfaces_of p i) ++ i ∷ []
-
--- The enumeration of an interface: that of each direct superinterface in order, then the interface itself.
--- No way up is longer than there are classes, where no class is its own supertype.
-unfoldable pub enumeration : LinkedProgram → ClassId → List ClassId
-enumeration p i = enumeration_within (suc (length p.classes)) p i
-
-abbrev pub is_among : ClassId → List ClassId → Bool
-is_among c found = list_any (λ d. d.number == c.number) found
-
--- c at the end unless it is there already
-abbrev pub add_new : List ClassId → ClassId → List ClassId
-add_new found c = if is_among c found then found else found ++ c ∷ []
+-- the superclass, if it is in a file
+abbrev pub superclass_first : LinkedProgram → ClassId → List ClassId
+superclass_first p superclass = if is_in_file p superclass then superclass ∷ [] else []
 
 -- each that passes, once: of repeats the first stands
 abbrev pub add_all : (ClassId → Bool) → List ClassId → List ClassId → List ClassId
 add_all passes found [] = found
 add_all passes found (c ∷ cs) = add_all passes (if passes c then add_new found c else found) cs
 
--- the superclass, if it is in a file
-abbrev pub superclass_first : LinkedProgram → ClassId → List ClassId
-superclass_first p superclass = if is_in_file p superclass then superclass ∷ [] else []
+-- the superclass, then the enumeration of the superinterfaces, of those that declare a non-abstract, non-static
+-- method
+abbrev pub needs_of_class : LinkedProgram → ClassId → List ClassId → List ClassId
+needs_of_class p superclass interfaces = add_all (declares_default p) (superclass_first p superclass) (flat_map (enumeration p) interfaces)
 
 abbrev pub needs_by : LinkedProgram → Class → ClassKind → List ClassId
 needs_by p class kind.Interface = []
-needs_by p class kind.Class = add_all (declares_default p) (superclass_first p class.superclass) (flat_map (enumeration p) class.interfaces)
+needs_by p class kind.Class = needs_of_class p class.superclass class.interfaces
 
 abbrev pub needs_in : LinkedProgram → Option Class → List ClassId
 needs_in p None = []

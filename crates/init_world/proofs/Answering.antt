@@ -1,40 +1,36 @@
 -- What each turn of a world comes to.
-use Rattle.std.proofs.Common.{◌≡◌, ◌≢◌, ℕ, ◌<◌, List, [], ◌∷◌, ◌++◌, Option, Some, None, Bool, true, false, ◌==◌, eq-eqb, length, refl, sym, ap, subst, ◌∙◌}
+use Rattle.std.proofs.Common.{◌≡◌, ◌≢◌, ℕ, ◌<◌, List, [], ◌∷◌, ◌++◌, None, Bool, true, false, ◌==◌, eq-eqb, length, refl, sym, ap, subst, ◌∙◌}
 use Rattle.std.specs.Prelude.{slice_index_or, slice_set}
 use Rattle.std.proofs.lemmas.List.{length-set}
 use Rattle.hierarchy.specs.declared.class.ClassId.{ClassId}
-use Rattle.hierarchy.specs.LinkedProgram.{LinkedProgram, id}
+use Rattle.hierarchy.specs.LinkedProgram.{LinkedProgram}
 use Rattle.init_core.specs.declared.event.Decision.{Decision}
 use Rattle.init_core.specs.declared.event.Decision.TheVariants as decision
 use Rattle.init_core.specs.declared.event.Event.{Event}
 use Rattle.init_core.specs.declared.event.Kind.TheVariants as kind
 use Rattle.init_core.specs.declared.event.Label.TheVariants.{InProgress}
 use Rattle.init_core.specs.declared.procedure.Answer.TheVariants as answer
-use Rattle.init_core.specs.declared.procedure.Completed.{Completed}
 use Rattle.init_core.specs.declared.procedure.Ending.{Ending}
 use Rattle.init_core.specs.declared.procedure.Ending.TheVariants as ending
 use Rattle.init_core.specs.declared.procedure.Frame.{Frame}
 use Rattle.init_core.specs.declared.procedure.Next.TheVariants as next
-use Rattle.init_core.specs.declared.procedure.Outcome.{Outcome}
-use Rattle.init_core.specs.declared.procedure.Outcome.TheVariants.{Normal, Abrupt, Ended}
 use Rattle.init_core.specs.declared.procedure.Phase.TheVariants.{Looking, Needing, Running, EndingBy}
 use Rattle.init_core.specs.declared.procedure.Phase.{Phase}
 use Rattle.std.specs.List.{AllByRecursion}
-use Rattle.init_core.specs.Advance.{next_of, decided, after_end, after_word, after_decision, started, is_running, IsAtBody}
+use Rattle.init_core.specs.Advance.{next_of, decided, after_end, after_word, after_decision, started, is_running}
 use Rattle.init_core.specs.Decisions.{event, kind_of, Decides, entered}
 use Rattle.init_core.specs.History.{History}
-use Rattle.init_core.specs.Interleaving.{of_thread, of_class}
+use Rattle.init_core.specs.Interleaving.{of_thread}
 use Rattle.init_core.specs.Label.{label_of}
 use Rattle.init_core.specs.Leads.{frame, standing, kind_of_ending, outcome_of, LeadsTo}
 use Rattle.init_core.specs.Standing.{Standing}
 use Rattle.init_core.proofs.Bodies.{answer_leads, run_leads}
-use Rattle.init_world.specs.declared.world.Turn.{Turn}
 use Rattle.init_world.specs.declared.world.Turn.TheVariants as turn
 use Rattle.init_world.specs.Consistent.{StandsAfter, IsRecordOf, IsConsistent, IsSoundFrame}
 use Rattle.init_world.specs.OpenClasses.{label_at, is_waiting, is_run_kind}
-use Rattle.init_world.specs.Turns.{TurnsTo, looks, still_waits, runs, in_body, ends, is_normal, is_abrupt}
-use Rattle.init_world.specs.WorldState.{idle, kept}
-use Rattle.init_world.proofs.Consistency.{thread_same, thread_stands, stepped, records_more, records_run}
+use Rattle.init_world.specs.Turns.{TurnsTo, looks, still_waits, runs, ends}
+use Rattle.init_world.specs.WorldState.{idle}
+use Rattle.init_world.proofs.Consistency.{thread_stands, stepped, records_more, records_run}
 use Rattle.init_world.proofs.Kept.{kept_label}
 use Rattle.init_world.proofs.Sound.{Agrees}
 use Rattle.init_world.proofs.Steps.{Emits, runs as runs_step, closes}
@@ -120,7 +116,7 @@ module _ (p : LinkedProgram) (threads : List Standing) (records : List History) 
   made m k new step i no_run ok leads class more =
       let more_c : new.events ≡ r.events ++ event t c k ∷ [] = rw class_is_c at more in
       stepped p threads records (slice_set records c.number new) events t s m c k scene.within scene.at step i ok leads (length-set records c.number new ∙ scene.consistent.count)
-        (records_more records events t c k r new no_run scene.among scene.kept_at class more_c scene.consistent.each_record) scene.consistent
+      (records_more records events t c k r new no_run scene.among scene.kept_at class more_c scene.consistent.each_record) scene.consistent
 
   -- a look that makes an event
   pub looked : (d : Decision) (m : Standing) (new : History) → next_of s.frames ≡ next.Look c → d ≢ decision.Wait false → (d ≡ decision.Wait true → is_waiting r.class s.frames ≡ false) → Decides (label_of r.events) t d → m ≡ decided p s.frames d →

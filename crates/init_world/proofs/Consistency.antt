@@ -1,7 +1,7 @@
 -- A world stays consistent.
 use Rattle.std.proofs.Common.{◌≡◌, ◌≢◌, ℕ, ◌<◌, ◌≤◌, List, [], ◌∷◌, ◌++◌, Option, Some, None, Bool, true, false, ◌==◌, eq-eqb, length, refl, sym, ap, subst, append-nil, append_assoc, ◌∙◌, arith, ◌⊎◌, inl, inr}
 use Rattle.std.specs.Prelude.{slice_index_or, slice_set, replicate}
-use Rattle.std.proofs.lemmas.Bool.{eqb-true, ne_eqb}
+use Rattle.std.proofs.lemmas.Bool.{ne_eqb}
 use Rattle.std.proofs.lemmas.Bool.Decides.{eqb_tells}
 use Rattle.std.proofs.lemmas.List.{get_or-set_same, get_or-set_other, length-set, get_or_default, get_or-replicate, length-replicate}
 use Rattle.std.proofs.lemmas.List.Elements.{filter-append}
@@ -24,8 +24,8 @@ use Rattle.init_core.specs.ProcedureWord.{no_items}
 use Rattle.init_core.specs.Standing.{Standing}
 use Rattle.init_core.proofs.Labels.{label_after, lawful_push}
 use Rattle.init_world.specs.Consistent.{StandsAfter, IsRecordOf, IsConsistent}
-use Rattle.init_world.specs.OpenClasses.{label_at, HasNotRun, is_run, is_run_kind}
-use Rattle.init_world.specs.WorldState.{idle, kept, is_kept, after_body_of}
+use Rattle.init_world.specs.OpenClasses.{is_run, is_run_kind}
+use Rattle.init_world.specs.WorldState.{idle, is_kept, after_body_of}
 use Rattle.init_world.proofs.Kept.{kept_more, kept_same, kept_one, kept_label}
 use Rattle.init_world.proofs.Sound.{Agrees, PreparedHasNotRun, one_more, no_more, class_is, prepared_next}
 use Rattle.init_world.proofs.Steps.{Emits}
@@ -110,8 +110,8 @@ records_more records events t c k old new no_run within at class more each =
     let r : IsRecordOf c.number old events = subst (λ (x : History). IsRecordOf c.number x events) (sym at) (each c.number old within) in
     let q : is_kept c (event t c k) ≡ true = kept_one c (event t c k) k refl no_run ∙ eq-eqb c.number c.number refl in
     set_record records (events ++ event t c k ∷ []) c.number new within
-      (record { of_class_n = class ∙ r.of_class_n; keeps = more ∙ (ap (λ (l : List Event). l ++ event t c k ∷ []) r.keeps ∙ sym (kept_more c events (event t c k) q)) })
-      (λ m other below apart. record_elsewhere m (slice_index_or records m other) events t c k (kept_elsewhere m t c k (λ e. apart (sym e))) (each m other below))
+    (record { of_class_n = class ∙ r.of_class_n; keeps = more ∙ (ap (λ (l : List Event). l ++ event t c k ∷ []) r.keeps ∙ sym (kept_more c events (event t c k) q)) })
+    (λ m other below apart. record_elsewhere m (slice_index_or records m other) events t c k (kept_elsewhere m t c k (λ e. apart (sym e))) (each m other below))
 
 -- or none does
 pub records_run : (records : List History) (events : List Event) (t : ℕ) (c : ClassId) → ((n : ℕ) (other : History) → n < length records → IsRecordOf n (slice_index_or records n other) events) →

@@ -1,10 +1,9 @@
 -- A look at a class, and the step that ends one, told to the procedure.
-use Rattle.std.proofs.Common.{◌≡◌, ◌≢◌, ℕ, List, [], ◌∷◌, Option, Some, None, Bool, true, false, ◌==◌, eq-eqb, refl, sym, ◌∙◌}
+use Rattle.std.proofs.Common.{◌≡◌, ℕ, List, [], ◌∷◌, Option, true, false, ◌==◌, eq-eqb, refl, sym, ◌∙◌}
 use Rattle.hierarchy.specs.declared.class.ClassId.{ClassId}
 use Rattle.hierarchy.specs.LinkedProgram.{LinkedProgram}
 use Rattle.init_core.specs.declared.event.Decision.{Decision}
 use Rattle.init_core.specs.declared.event.Decision.TheVariants as decision
-use Rattle.init_core.specs.declared.event.Label.{Label}
 use Rattle.init_core.specs.declared.event.Label.TheVariants as label
 use Rattle.init_core.specs.declared.procedure.Answer.TheVariants as answer
 use Rattle.init_core.specs.declared.procedure.Completed.{Completed}
@@ -12,7 +11,7 @@ use Rattle.init_core.specs.declared.procedure.Frame.{Frame}
 use Rattle.init_core.specs.declared.procedure.Next.TheVariants as next
 use Rattle.init_core.specs.declared.procedure.Phase.{Phase}
 use Rattle.init_core.specs.declared.procedure.Phase.TheVariants.{Looking, Needing, Running, EndingBy}
-use Rattle.init_core.specs.Advance.{next_of, decided, after_end, advanced, Fits, FitsIn, IsAtEnd}
+use Rattle.init_core.specs.Advance.{next_of, decided, advanced, Fits, FitsIn, IsAtEnd}
 use Rattle.init_core.specs.Decisions.{Decides}
 use Rattle.init_core.specs.Leads.{frame, standing}
 use Rattle.init_core.specs.Standing.{Standing}

@@ -13,3 +13,4 @@ pub mod Consistency
 pub mod Deciding
 pub mod Answering
 pub mod Turns
+pub mod Requesting

@@ -24,7 +24,7 @@ use Rattle.init_core.specs.ProcedureWord.{IsUse, printed}
 use Rattle.init_core.specs.Leads.{frame, kind_of_ending, outcome_of}
 use Rattle.init_core.specs.Advance.{after_word, after_in, after_needs, IsAtBody}
 use Rattle.init_world.proofs.Steps.{Answers, by_recurring, by_initialized, by_erroneous, Silent, asks, leaves, lacks, body_returns, body_throws, body_is_left, body_gives_up, Emits, waits, answers, opens, runs, accesses, writes, closes}
-use Rattle.init_world.specs.OpenClasses.{label_at, IsUnderWay, IsOpen, HasNotRun, is_run, Below, OpenClass, OpenClasses, Any}
+use Rattle.init_world.specs.OpenClasses.{IsUnderWay, IsOpen, HasNotRun, Below, OpenClass, OpenClasses, Any}
 use Rattle.init_world.proofs.Sound.{Agrees, Spares, Keeps, keeps, label_next, PreparedHasNotRun, one_more, IsMove}
 
 module _ (p : LinkedProgram) (t : ℕ) where
@@ -87,7 +87,7 @@ module _ (p : LinkedProgram) (t : ℕ) where
   back_in h P c r (EndingBy k m) b fs o at below = absurd (let e : Some c ≡ None = at.2 in cc)
 
   -- a body doesn't look at what is open within it
-  any_child : (h : List Event) (P : ClassId → Type 0) (a b : Option ClassId) (fs : List Frame) → IsAtBody fs → OpenClasses p t h P a fs → OpenClasses p t h P b fs
+  pub any_child : (h : List Event) (P : ClassId → Type 0) (a b : Option ClassId) (fs : List Frame) → IsAtBody fs → OpenClasses p t h P a fs → OpenClasses p t h P b fs
   any_child h P a b [] x s = tt
   any_child h P a b (f ∷ fs) x s = by_body h P a b f.phase f.class fs x s.0 s.1
 

@@ -1,19 +1,15 @@
 -- One thread of a world, step by step.
-use Rattle.std.proofs.Common.{◌≡◌, ◌≢◌, ℕ, ◌<◌, List, [], ◌∷◌, ◌++◌, Option, Some, None, Bool, true, false, ◌==◌, eq-eqb, length, filter, refl, sym, ap, subst, append-nil, append_assoc, ◌∙◌}
+use Rattle.std.proofs.Common.{◌≡◌, ℕ, List, [], ◌∷◌, ◌++◌, Option, None, Bool, true, false, ◌==◌, eq-eqb, refl, sym, ap, subst, append-nil, ◌∙◌}
 use Rattle.std.specs.Prelude.{if◌then◌else◌}
-use Rattle.std.proofs.lemmas.Bool.{eqb-true, ne_eqb}
+use Rattle.std.proofs.lemmas.Bool.{ne_eqb}
 use Rattle.std.proofs.lemmas.List.Elements.{filter-append}
-use Rattle.std.specs.List.{AllByRecursion, list_any}
+use Rattle.std.specs.List.{AllByRecursion}
 use Rattle.hierarchy.specs.declared.class.ClassId.{ClassId}
-use Rattle.hierarchy.specs.declared.built_in.BuiltIn.TheVariants.{NoClassDefFoundError}
-use Rattle.hierarchy.specs.LinkedProgram.{LinkedProgram, built_in}
+use Rattle.hierarchy.specs.LinkedProgram.{LinkedProgram}
 use Rattle.init_order.specs.Needs.{needs}
-use Rattle.init_core.specs.declared.event.Decision.{Decision}
-use Rattle.init_core.specs.declared.event.Decision.TheVariants as decision
 use Rattle.init_core.specs.declared.event.Event.{Event}
 use Rattle.init_core.specs.declared.event.Kind.{Kind}
 use Rattle.init_core.specs.declared.event.Kind.TheVariants as kind
-use Rattle.init_core.specs.declared.procedure.Completed.{Completed}
 use Rattle.init_core.specs.declared.procedure.Ending.{Ending}
 use Rattle.init_core.specs.declared.procedure.Ending.TheVariants as ending
 use Rattle.init_core.specs.declared.procedure.Frame.{Frame}
@@ -21,14 +17,14 @@ use Rattle.init_core.specs.declared.procedure.Outcome.{Outcome}
 use Rattle.init_core.specs.declared.procedure.Outcome.TheVariants.{Normal, Abrupt, Ended}
 use Rattle.init_core.specs.declared.procedure.Phase.{Phase}
 use Rattle.init_core.specs.declared.procedure.Phase.TheVariants.{Looking, Needing, Running, EndingBy}
-use Rattle.init_core.specs.Advance.{after_word, after_in, after_needs, after_decision}
-use Rattle.init_core.specs.Decisions.{event, kind_of, waits, is_wait}
+use Rattle.init_core.specs.Advance.{after_word, after_in, after_needs}
+use Rattle.init_core.specs.Decisions.{event, waits, is_wait}
 use Rattle.init_core.specs.Interleaving.{of_thread}
-use Rattle.init_core.specs.Leads.{frame, standing, kind_of_ending, outcome_of, Before, outermost, needed, used, Leads, idle, looking, not_run, running, ending_by, LeadsTo, BeforeRequest}
-use Rattle.init_core.specs.ProcedureWord.{Items, GoesOn, IsUse}
+use Rattle.init_core.specs.Leads.{frame, kind_of_ending, outcome_of, Before, outermost, needed, used, idle, looking, not_run, running, ending_by, LeadsTo}
+use Rattle.init_core.specs.ProcedureWord.{GoesOn, IsUse}
 use Rattle.init_core.specs.Standing.{Standing}
 use Rattle.init_world.specs.Consistent.{StandsAfter, IsSoundFrame, IsUnended}
-use Rattle.init_world.specs.OpenClasses.{OpenClass, OpenClasses, Any, Below, is_waiting}
+use Rattle.init_world.specs.OpenClasses.{OpenClass, OpenClasses, Any, is_waiting}
 use Rattle.init_world.specs.WorldState.{kept, is_kept}
 use Rattle.init_world.proofs.InFiles.{InFiles, needs_in_files, all_behind}
 use Rattle.init_world.proofs.Kept.{kept_more, kept_same, waits_more}

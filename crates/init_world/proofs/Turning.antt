@@ -1,39 +1,35 @@
 -- The calls of a world, one thread at a time.
-use Rattle.std.proofs.Common.{◌≡◌, ◌≢◌, ℕ, ◌<◌, List, [], ◌∷◌, ◌++◌, Option, Some, None, Bool, true, false, length, refl, sym, ap, subst, append-nil, ◌∙◌}
+use Rattle.std.proofs.Common.{◌≡◌, ◌≢◌, ℕ, List, [], ◌∷◌, ◌++◌, Option, Some, None, Bool, true, false, refl, subst, append-nil}
 use Rattle.std.specs.List.{AllByRecursion}
 use Rattle.hierarchy.specs.declared.class.ClassId.{ClassId}
 use Rattle.hierarchy.specs.LinkedProgram.{LinkedProgram}
-use Rattle.hierarchy.specs.Subclasses.{IsError}
 use Rattle.init_core.specs.declared.event.Decision.{Decision}
 use Rattle.init_core.specs.declared.event.Decision.TheVariants as decision
 use Rattle.init_core.specs.declared.event.Event.{Event}
-use Rattle.init_core.specs.declared.event.Kind.TheVariants as kind
-use Rattle.init_core.specs.declared.procedure.Answer.{Answer}
 use Rattle.init_core.specs.declared.procedure.Answer.TheVariants as answer
 use Rattle.init_core.specs.declared.procedure.Completed.{Completed}
 use Rattle.init_core.specs.declared.procedure.Ending.{Ending}
-use Rattle.init_core.specs.declared.procedure.Ending.TheVariants as ending
 use Rattle.init_core.specs.declared.procedure.Frame.{Frame}
 use Rattle.init_core.specs.declared.procedure.Next.TheVariants as next
 use Rattle.init_core.specs.declared.procedure.Outcome.{Outcome}
 use Rattle.init_core.specs.declared.procedure.Outcome.TheVariants.{Normal, Abrupt, Ended}
 use Rattle.init_core.specs.declared.procedure.Phase.{Phase}
 use Rattle.init_core.specs.declared.procedure.Phase.TheVariants.{Looking, Needing, Running, EndingBy}
-use Rattle.init_core.specs.Advance.{next_of, decided, after_decision, after_end, after_body, advanced, events_of, asked, started, is_running, Fits, FitsBody, IsAtBody, IsAtEnd}
-use Rattle.init_core.specs.Decisions.{event, kind_of, Decides, entered, waits}
+use Rattle.init_core.specs.Advance.{next_of, after_decision, after_body, advanced, is_running, FitsBody, IsAtBody}
+use Rattle.init_core.specs.Decisions.{event, kind_of, Decides, entered}
 use Rattle.init_core.specs.Interleaving.{of_thread}
-use Rattle.init_core.specs.Leads.{frame, standing, kind_of_ending, outcome_of, LeadsTo, idle as leads_idle, looking, not_run, running, ending_by}
+use Rattle.init_core.specs.Leads.{frame, standing, LeadsTo, looking, not_run, ending_by}
 use Rattle.init_core.specs.ProcedureWord.{completed, given_up, GoesOn}
 use Rattle.init_core.specs.Standing.{Standing}
-use Rattle.init_core.proofs.Bodies.{answer_leads, run_leads}
+use Rattle.init_core.proofs.Bodies.{answer_leads}
 use Rattle.init_world.specs.declared.world.Turn.{Turn}
 use Rattle.init_world.specs.declared.world.Turn.TheVariants as turn
 use Rattle.init_world.specs.Consistent.{StandsAfter, IsSoundFrame}
-use Rattle.init_world.specs.OpenClasses.{label_at, IsUnderWay, is_waiting}
-use Rattle.init_world.specs.Turns.{TurnsTo, looks, still_waits, runs, in_body, ends, is_normal, is_abrupt}
-use Rattle.init_world.specs.WorldState.{kept, idle, after_body_of}
+use Rattle.init_world.specs.OpenClasses.{label_at}
+use Rattle.init_world.specs.Turns.{TurnsTo, is_normal, is_abrupt}
+use Rattle.init_world.specs.WorldState.{after_body_of}
 use Rattle.init_world.proofs.Sound.{Agrees}
-use Rattle.init_world.proofs.Steps.{Answers, by_recurring, by_initialized, by_erroneous, Emits, waits as waits_step, answers, opens, runs as runs_step, closes}
+use Rattle.init_world.proofs.Steps.{by_recurring, by_initialized, by_erroneous, Emits, waits as waits_step, answers, opens}
 use Rattle.init_world.proofs.Threads.{IsStep}
 
 -- what a look needs: the innermost procedure looks at c

@@ -1,5 +1,5 @@
 -- Each turn, as the world's calls make it.
-use Rattle.std.proofs.Common.{◌≡◌, ◌≢◌, ℕ, ◌<◌, List, [], ◌∷◌, ◌++◌, Option, Some, None, Bool, true, false, length, refl, sym, ap, subst, append-nil, ◌∙◌}
+use Rattle.std.proofs.Common.{◌≡◌, ◌≢◌, ℕ, ◌<◌, List, [], ◌∷◌, ◌++◌, Option, Some, None, true, false, length, refl, sym, ap, append-nil, ◌∙◌}
 use Rattle.std.specs.Prelude.{slice_index_or, slice_set}
 use Rattle.std.proofs.lemmas.List.{set-get_or}
 use Rattle.hierarchy.specs.declared.class.ClassId.{ClassId}
@@ -29,7 +29,7 @@ use Rattle.init_world.specs.declared.world.Turn.TheVariants as turn
 use Rattle.init_world.specs.Consistent.{IsConsistent}
 use Rattle.init_world.specs.OpenClasses.{is_waiting}
 use Rattle.init_world.specs.Turns.{TurnsTo, IsTurn, in_body, is_normal, is_abrupt}
-use Rattle.init_world.specs.WorldState.{WorldState, idle, moved, thread_at}
+use Rattle.init_world.specs.WorldState.{WorldState, idle}
 use Rattle.init_world.proofs.Consistency.{thread_same}
 use Rattle.init_world.proofs.Answering.{Scene, look_has_record, end_has_record, looked, looked_again, under_way, ended, ran}
 

@@ -193,7 +193,7 @@ module _ (p : LinkedProgram) (t : ℕ) where
   follows c fs f clean h [] laws x r = tt
   follows c fs f clean h (y ∷ ys) laws x r =
       let later : (u : Runs p t (standing (frame c (Looking true) ∷ fs) None) (of_thread t ys) f) → FollowsWait p t c (of_thread t ys) =
-          λ u. follows c fs f clean (h ++ y ∷ []) ys (laws_next p h y ys laws) (taken_step h y c (agrees p h y ys laws) x) u in
+      λ u. follows c fs f clean (h ++ y ∷ []) ys (laws_next p h y ys laws) (taken_step h y c (agrees p h y ys laws) x) u in
       by_thread c fs f clean h y ys (agrees p h y ys laws) x (y.thread == t) refl later r
 
   clean_at : (h : List Event) (P : ClassId → Type 0) (c b : ClassId) (phase : Phase) → OpenClass p t h P (Some c) phase b → NotEnding phase
@@ -237,4 +237,4 @@ module _ (p : LinkedProgram) where
       let laws : Laws p before (event t c kind.Waits ∷ after) = laws_past [] before (event t c kind.Waits ∷ after) legal2.classes in
       let ok : Agrees before (event t c kind.Waits) = agrees p before (event t c kind.Waits) after laws in
       follows p t c w.0 g.e w.2 (before ++ event t c kind.Waits ∷ []) after (laws_next p before (event t c kind.Waits) after laws)
-        (taken_step p t before (event t c kind.Waits) c ok (taken_others p t (label_at before c) (ok c refl))) r
+      (taken_step p t before (event t c kind.Waits) c ok (taken_others p t (label_at before c) (ok c refl))) r

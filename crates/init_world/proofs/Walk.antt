@@ -104,7 +104,7 @@ module _ (p : LinkedProgram) where
   walk h [] after x laws g st = rw (append-nil h) (next_of h x after (st x.thread))
   walk h (y ∷ before) after x laws g st =
       let r : Goes_on p x.thread ((h ++ y ∷ []) ++ before) x (of_thread x.thread after) =
-          walk (h ++ y ∷ []) before after x (laws_next h y (before ++ x ∷ after) laws) (prepared_step h y (agrees h y (before ++ x ∷ after) laws) g) (λ t. stand_by h y (before ++ x ∷ after) laws g st t (y.thread == t) refl) in
+      walk (h ++ y ∷ []) before after x (laws_next h y (before ++ x ∷ after) laws) (prepared_step h y (agrees h y (before ++ x ∷ after) laws) g) (λ t. stand_by h y (before ++ x ∷ after) laws g st t (y.thread == t) refl) in
       simp append_assoc at r
 
   thread_runs : (t : ℕ) {m : ClassId} {w : List Event} → ThreadWord p t m w → (e : Standing) × Runs p t (standing [] None) w e

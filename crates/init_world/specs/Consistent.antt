@@ -1,12 +1,12 @@
 -- What a world keeps true of its fields.
-use Rattle.std.specs.Prelude.{◌≡◌, ℕ, ◌<◌, ◌≤◌, length, List, [], ◌∷◌, Option, None, Bool, true, false, ◌==◌, slice_index_or}
+use Rattle.std.specs.Prelude.{◌≡◌, ℕ, ◌<◌, ◌≤◌, length, List, [], None, true, slice_index_or}
 use Rattle.std.specs.List.{AllByRecursion}
 use Rattle.hierarchy.specs.declared.class.ClassId.{ClassId}
 use Rattle.hierarchy.specs.LinkedProgram.{LinkedProgram, id}
 use Rattle.init_core.specs.declared.event.Event.{Event}
 use Rattle.init_core.specs.declared.procedure.Frame.{Frame}
 use Rattle.init_core.specs.declared.procedure.Phase.{Phase}
-use Rattle.init_core.specs.declared.procedure.Phase.TheVariants.{Looking, Needing, Running, EndingBy}
+use Rattle.init_core.specs.declared.procedure.Phase.TheVariants.{EndingBy}
 use Rattle.init_core.specs.Decisions.{waits}
 use Rattle.init_core.specs.History.{History}
 use Rattle.init_core.specs.Interleaving.{of_thread, of_class}

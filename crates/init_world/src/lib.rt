@@ -1,4 +1,16 @@
-//! All threads together.
+//! All threads together, and what is safe in everything that they can do.
+//!
+//! [`safety`] is the safety law: it does nothing, and its contract is that every legal interleaving of every
+//! program is safe. The legal interleaving is defined in `init_core`, the safe one in `specs/Safe.antt`.
+//!
+//! A [`World`] is all threads of a program on one host thread, without their code. Its caller names the next
+//! thread to move, and plays the part of the code: it requests classes by [`World::request`], lets a thread go
+//! on by [`World::turn`], and tells how an initializer ended by [`World::body_ended`]. Whatever the order, the
+//! events of each thread do the twelve steps (JLS SE 8 12.4.2) and the history of each class is lawful;
+//! [`World::events`] says so.
+//!
+//! The crate's tests compare `World` with a plain judge of interleavings, written from the definitions, on every
+//! schedule of small programs up to a depth.
 #![tactic(auto)]
 
 ghost use Rattle.std.specs.Prelude.{List};
@@ -9,9 +21,16 @@ ghost use Rattle.init_core.specs.Interleaving.{IsLegal, BeginsLegal};
 ghost use Rattle.init_world.specs.Safe.{IsSafe, IsSafeSoFar};
 
 #[cfg(test)]
+mod comparing;
+mod parts;
+#[cfg(test)]
+mod schedules;
+#[cfg(test)]
 mod tests;
 #[cfg(test)]
 mod twin;
+#[cfg(test)]
+mod twin_labels;
 pub mod world;
 
 pub use world::{Turn, World};
@@ -27,5 +46,4 @@ pub use world::{Turn, World};
 pub fn safety()
     ensures whole { (p : LinkedProgram) (mains : List ClassId) (events : List Event) → IsLegal p mains events → IsSafe p events }
     ensures fronts { (p : LinkedProgram) (mains : List ClassId) (events : List Event) → BeginsLegal p mains events → IsSafeSoFar p events }
-{
-}
+{}

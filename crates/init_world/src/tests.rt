@@ -1,85 +1,230 @@
-ghost use Rattle.std.specs.Prelude.{◌≡◌, ◌<◌, length, IfOk};
-
-use crate::twin::{begins_thread_word, may_follow, part_of, Act, Made, Small};
-use crate::world::{Turn, World};
-use hierarchy::{BuiltIn, Class, ClassId, Program};
-use init_core::{Event, Kind};
-use jasmin_text::ClassKind;
-use sequence::{Sequence, Text};
+use crate::comparing::{Case, OBJECT, Shape, class_of, compared};
+use crate::safety;
+use crate::schedules::{Action, Choice, list_of, replayed};
+use crate::twin::{Act, Made, Small};
+use hierarchy::{BuiltIn, ClassId, link};
+use init_core::Label;
+use jasmin_text::{ClassKind, ClassParts};
 use std::alloc::{AllocError, Global};
+use std::process::Abort;
 use std::test::Fail;
 
-/// What a thread does next, where it can.
-#[derive(Clone, Copy, Debug)]
-enum Action {
-    Goes,
-    Requests(usize),
-    Returns,
-    Throws,
+fn class(
+    alloc: Global,
+    number: usize,
+    superclass: usize,
+    interfaces: &[usize],
+) -> Result<ClassParts, Fail> {
+    let shape = Shape {
+        number,
+        superclass,
+        kind: ClassKind::Class,
+        declares_default: false,
+    };
+    class_of(alloc, shape, interfaces)
 }
 
-#[derive(Clone, Copy, Debug)]
-struct Choice {
-    thread: usize,
-    action: Action,
+fn interface(alloc: Global, number: usize, declares_default: bool) -> Result<ClassParts, Fail> {
+    let shape = Shape {
+        number,
+        superclass: OBJECT,
+        kind: ClassKind::Interface,
+        declares_default,
+    };
+    class_of(alloc, shape, &[])
 }
 
-/// Two threads, and how the procedure for the main class of each ended, once it has.
-#[derive(Drop)]
-struct Run {
-    world: World,
-    returned: [Option<bool>; 2],
-}
-
-/// A turn, and whether it made an event.
-fn goes(alloc: Global, program: &Program, world: &mut World, thread: usize) -> Result<bool, AllocError>
-    requires program { program.now ≡ world.old.program }
-    requires thread { thread < length world.old.threads }
-    ensures program { world.new.program ≡ world.old.program }
-    ensures threads { length world.new.threads ≡ length world.old.threads }
-{
-    if !world.has_begun(thread) {
-        return Ok(false);
+/// A program of these classes, and what each needs, as read from JVMS SE 8 5.5 by hand.
+fn case_of(
+    alloc: Global,
+    classes: Vec<ClassParts>,
+    needs: &[&[usize]],
+    mains: [usize; 2],
+) -> Result<Option<Case>, AllocError> {
+    let mut lists = Vec::new(alloc);
+    for list in needs {
+        lists.push(Vec::from_slice(alloc, *list)?)?;
     }
-    let turn = world.turn(alloc, program, thread)?;
-    Ok(turn == Turn::Event)
+    Ok(match link(alloc, classes) {
+        Ok(program) => {
+            let refused = program.built_in(BuiltIn::NoClassDefFoundError).number;
+            Some(Case {
+                program,
+                small: Small {
+                    needs: lists,
+                    refused,
+                },
+                mains,
+            })
+        }
+        Err(_) => None,
+    })
 }
 
-fn requests(alloc: Global, program: &Program, world: &mut World, thread: usize, class: usize) -> Result<bool, AllocError>
-    requires program { program.now ≡ world.old.program }
-    requires thread { thread < length world.old.threads }
-    ensures program { world.new.program ≡ world.old.program }
-    ensures threads { length world.new.threads ≡ length world.old.threads }
-{
-    if class >= program.len() || !world.may_request(thread) {
-        return Ok(false);
-    }
-    world.request(thread, ClassId { number: class })?;
-    goes(alloc, program, world, thread)
+/// World and the twin agree on each list of fewer events than `depth` that two threads can make, and on each event
+/// that may follow it: so on all beginnings of legal interleavings of `depth` events. There are `least` such
+/// lists at least.
+fn agrees(
+    rt: &impl Abort,
+    alloc: Global,
+    case: Option<Case>,
+    depth: usize,
+    least: usize,
+) -> Result<(), Fail> {
+    let Some(case) = case else {
+        assert!(rt; false);
+        return Ok(());
+    };
+    let (lists, differ) = compared(alloc, &case, depth)?;
+    assert!(rt; lists >= least, "only {lists} lists");
+    assert_eq!(rt; differ, 0);
+    Ok(())
 }
 
-fn returns(alloc: Global, program: &Program, world: &mut World, thread: usize) -> Result<bool, AllocError>
-    requires program { program.now ≡ world.old.program }
-    requires thread { thread < length world.old.threads }
-    ensures program { world.new.program ≡ world.old.program }
-    ensures threads { length world.new.threads ≡ length world.old.threads }
-{
-    if !world.is_running(thread) {
-        return Ok(false);
-    }
-    world.body_ended(thread, None);
-    goes(alloc, program, world, thread)
+#[test]
+fn agrees_on_one_class(rt: HostRuntime) -> Result<(), Fail> {
+    let alloc = rt.alloc();
+    let mut classes = Vec::new(alloc);
+    classes.push(class(alloc, 0, OBJECT, &[])?)?;
+    let case = case_of(alloc, classes, &[&[]], [0, 0])?;
+    agrees(&rt, alloc, case, 8, 200)
 }
 
-fn throws(alloc: Global, program: &Program, world: &mut World, thread: usize) -> Result<bool, AllocError>
-    requires program { program.now ≡ world.old.program }
-    requires thread { thread < length world.old.threads }
-    ensures program { world.new.program ≡ world.old.program }
-    ensures threads { length world.new.threads ≡ length world.old.threads }
-{
-    if !world.is_running(thread) {
-        return Ok(false);
+#[test]
+fn agrees_on_two_classes(rt: HostRuntime) -> Result<(), Fail> {
+    let alloc = rt.alloc();
+    let mut classes = Vec::new(alloc);
+    classes.push(class(alloc, 0, OBJECT, &[])?)?;
+    classes.push(class(alloc, 1, OBJECT, &[])?)?;
+    let case = case_of(alloc, classes, &[&[], &[]], [0, 1])?;
+    agrees(&rt, alloc, case, 7, 200)
+}
+
+#[test]
+fn agrees_on_a_superclass(rt: HostRuntime) -> Result<(), Fail> {
+    let alloc = rt.alloc();
+    let mut classes = Vec::new(alloc);
+    classes.push(class(alloc, 0, OBJECT, &[])?)?;
+    classes.push(class(alloc, 1, 0, &[])?)?;
+    let case = case_of(alloc, classes, &[&[], &[0]], [1, 0])?;
+    agrees(&rt, alloc, case, 7, 200)
+}
+
+#[test]
+fn agrees_on_an_interface_with_a_default(rt: HostRuntime) -> Result<(), Fail> {
+    let alloc = rt.alloc();
+    let mut classes = Vec::new(alloc);
+    classes.push(interface(alloc, 0, true)?)?;
+    classes.push(class(alloc, 1, OBJECT, &[0])?)?;
+    let case = case_of(alloc, classes, &[&[], &[0]], [1, 1])?;
+    agrees(&rt, alloc, case, 7, 200)
+}
+
+#[test]
+fn agrees_on_an_interface_without_a_default(rt: HostRuntime) -> Result<(), Fail> {
+    let alloc = rt.alloc();
+    let mut classes = Vec::new(alloc);
+    classes.push(interface(alloc, 0, false)?)?;
+    classes.push(class(alloc, 1, OBJECT, &[0])?)?;
+    let case = case_of(alloc, classes, &[&[], &[]], [1, 0])?;
+    agrees(&rt, alloc, case, 7, 200)
+}
+
+#[test]
+fn agrees_on_a_default_seen_twice(rt: HostRuntime) -> Result<(), Fail> {
+    let alloc = rt.alloc();
+    let mut classes = Vec::new(alloc);
+    classes.push(interface(alloc, 0, true)?)?;
+    classes.push(class(alloc, 1, OBJECT, &[0])?)?;
+    classes.push(class(alloc, 2, 1, &[0])?)?;
+    let case = case_of(alloc, classes, &[&[], &[0], &[1, 0]], [2, 1])?;
+    agrees(&rt, alloc, case, 8, 200)
+}
+
+/// Two threads on one class A, turned in the order 0, 0, 1, 0, 1.
+#[test]
+fn two_threads_one_class(rt: HostRuntime) -> Result<(), Fail> {
+    let alloc = rt.alloc();
+    let mut classes = Vec::new(alloc);
+    classes.push(class(alloc, 0, OBJECT, &[])?)?;
+    let Ok(program) = link(alloc, classes) else {
+        assert!(rt; false);
+        return Ok(());
+    };
+    let choices = [
+        Choice {
+            thread: 0,
+            action: Action::Requests(0),
+        },
+        Choice {
+            thread: 0,
+            action: Action::Goes,
+        },
+        Choice {
+            thread: 1,
+            action: Action::Requests(0),
+        },
+        Choice {
+            thread: 0,
+            action: Action::Returns,
+        },
+        Choice {
+            thread: 1,
+            action: Action::Goes,
+        },
+    ];
+    let run = replayed(alloc, &program, &[0, 0], &choices)?;
+    let list = list_of(alloc, run.world.events())?;
+    let expected = [
+        Made {
+            thread: 0,
+            class: 0,
+            act: Act::Begins,
+        },
+        Made {
+            thread: 0,
+            class: 0,
+            act: Act::Runs,
+        },
+        Made {
+            thread: 1,
+            class: 0,
+            act: Act::Waits,
+        },
+        Made {
+            thread: 0,
+            class: 0,
+            act: Act::Completes,
+        },
+        Made {
+            thread: 1,
+            class: 0,
+            act: Act::FindsInitialized,
+        },
+    ];
+    assert!(rt; list.as_slice() == expected.as_slice());
+    assert!(rt; program.len() == 1);
+    let record = run.world.record(ClassId { number: 0 });
+    assert!(rt; record.label() == Label::Initialized);
+    assert_eq!(rt; record.history().len(), 4);
+    safety();
+    Ok(())
+}
+
+/// The comparison finds a twin that is told to need too little, and one that needs too much.
+#[test]
+fn notices_other_needs(rt: HostRuntime) -> Result<(), Fail> {
+    let alloc = rt.alloc();
+    for (superclass, needs) in [(0, [[].as_slice(), &[]]), (OBJECT, [[].as_slice(), &[0]])] {
+        let mut classes = Vec::new(alloc);
+        classes.push(class(alloc, 0, OBJECT, &[])?)?;
+        classes.push(class(alloc, 1, superclass, &[])?)?;
+        let Some(case) = case_of(alloc, classes, needs.as_slice(), [1, 0])? else {
+            assert!(rt; false);
+            return Ok(());
+        };
+        let (_, differ) = compared(alloc, &case, 3)?;
+        assert!(rt; differ > 0);
     }
-    world.body_ended(thread, Some(program.built_in(BuiltIn::Error)));
-    goes(alloc, program, world, thread)
+    Ok(())
 }

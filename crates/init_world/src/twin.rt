@@ -128,7 +128,12 @@ struct Place {
     from: usize,
 }
 
-fn add_word(found: &mut Found, place: Place, to: usize, completion: Completion) -> Result<(), AllocError> {
+fn add_word(
+    found: &mut Found,
+    place: Place,
+    to: usize,
+    completion: Completion,
+) -> Result<(), AllocError> {
     found.words.push(Word {
         class: place.class,
         from: place.from,
@@ -147,14 +152,29 @@ fn add_beginning(found: &mut Found, place: Place) -> Result<(), AllocError> {
 }
 
 /// Behind the body's items: the end of the list, step 10 or step 12.
-fn find_ends(list: &[Made], found: &mut Found, place: Place, places: &[usize]) -> Result<(), AllocError> {
+fn find_ends(
+    list: &[Made],
+    found: &mut Found,
+    place: Place,
+    places: &[usize],
+) -> Result<(), AllocError> {
     for at in places {
         if *at == list.len() || found.any_begins_at(*at) {
             add_beginning(found, place)?;
         }
         match act_at(list, *at, place.class) {
-            Some(Act::Completes) => add_word(found, place, at.saturating_add(1), Completion::Normal)?,
-            Some(Act::Fails(thrown)) => add_word(found, place, at.saturating_add(1), Completion::Abrupt(thrown))?,
+            Some(Act::Completes) => add_word(
+                found,
+                place,
+                at.saturating_add(1),
+                Completion::Normal,
+            )?,
+            Some(Act::Fails(thrown)) => add_word(
+                found,
+                place,
+                at.saturating_add(1),
+                Completion::Abrupt(thrown),
+            )?,
             _ => (),
         }
     }
@@ -162,7 +182,13 @@ fn find_ends(list: &[Made], found: &mut Found, place: Place, places: &[usize]) -
 }
 
 /// Behind what is needed: the end of the list, or step 9 and a body.
-fn find_bodies(alloc: Global, list: &[Made], found: &mut Found, place: Place, places: &[usize]) -> Result<(), AllocError> {
+fn find_bodies(
+    alloc: Global,
+    list: &[Made],
+    found: &mut Found,
+    place: Place,
+    places: &[usize],
+) -> Result<(), AllocError> {
     for at in places {
         if *at == list.len() {
             add_beginning(found, place)?;
@@ -176,18 +202,37 @@ fn find_bodies(alloc: Global, list: &[Made], found: &mut Found, place: Place, pl
 }
 
 /// Behind an abrupt word of a needed class: the end of the list, or step 7.
-fn find_failure(list: &[Made], found: &mut Found, place: Place, at: usize, thrown: usize) -> Result<(), AllocError> {
+fn find_failure(
+    list: &[Made],
+    found: &mut Found,
+    place: Place,
+    at: usize,
+    thrown: usize,
+) -> Result<(), AllocError> {
     if at == list.len() {
         add_beginning(found, place)?;
     }
     if act_at(list, at, place.class) == Some(Act::SuperFails(thrown)) {
-        add_word(found, place, at.saturating_add(1), Completion::Abrupt(thrown))?;
+        add_word(
+            found,
+            place,
+            at.saturating_add(1),
+            Completion::Abrupt(thrown),
+        )?;
     }
     Ok(())
 }
 
 /// The places behind the words of a needed class from this place.
-fn behind_need(alloc: Global, list: &[Made], found: &mut Found, place: Place, need: usize, at: usize, behind: &mut Vec<usize>) -> Result<(), AllocError> {
+fn behind_need(
+    alloc: Global,
+    list: &[Made],
+    found: &mut Found,
+    place: Place,
+    need: usize,
+    at: usize,
+    behind: &mut Vec<usize>,
+) -> Result<(), AllocError> {
     if found.begins_at(need, at) {
         add_beginning(found, place)?;
     }
@@ -201,7 +246,14 @@ fn behind_need(alloc: Global, list: &[Made], found: &mut Found, place: Place, ne
     Ok(())
 }
 
-fn behind_needs(alloc: Global, list: &[Made], found: &mut Found, place: Place, need: usize, places: &[usize]) -> Result<Vec<usize>, AllocError> {
+fn behind_needs(
+    alloc: Global,
+    list: &[Made],
+    found: &mut Found,
+    place: Place,
+    need: usize,
+    places: &[usize],
+) -> Result<Vec<usize>, AllocError> {
     let mut behind = Vec::new(alloc);
     for at in places {
         behind_need(alloc, list, found, place, need, *at, &mut behind)?;
@@ -210,7 +262,14 @@ fn behind_needs(alloc: Global, list: &[Made], found: &mut Found, place: Place, n
 }
 
 /// Behind step 6: the words of the needed classes, in order, then step 9.
-fn find_begun(alloc: Global, needs: &[usize], list: &[Made], found: &mut Found, place: Place, start: usize) -> Result<(), AllocError> {
+fn find_begun(
+    alloc: Global,
+    needs: &[usize],
+    list: &[Made],
+    found: &mut Found,
+    place: Place,
+    start: usize,
+) -> Result<(), AllocError> {
     let mut places = Vec::new(alloc);
     places.push(start)?;
     for need in needs {
@@ -220,7 +279,13 @@ fn find_begun(alloc: Global, needs: &[usize], list: &[Made], found: &mut Found, 
 }
 
 /// Behind the step 2, if there is one.
-fn find_word(alloc: Global, small: &Small, list: &[Made], found: &mut Found, place: Place) -> Result<(), AllocError> {
+fn find_word(
+    alloc: Global,
+    small: &Small,
+    list: &[Made],
+    found: &mut Found,
+    place: Place,
+) -> Result<(), AllocError> {
     let mut start = place.from;
     if act_at(list, start, place.class) == Some(Act::Waits) {
         start = start.saturating_add(1);
@@ -230,8 +295,18 @@ fn find_word(alloc: Global, small: &Small, list: &[Made], found: &mut Found, pla
     }
     let next = start.saturating_add(1);
     match act_at(list, start, place.class) {
-        Some(Act::Recurs) | Some(Act::FindsInitialized) => add_word(found, place, next, Completion::Normal),
-        Some(Act::FindsErroneous) => add_word(found, place, next, Completion::Abrupt(small.refused)),
+        Some(Act::Recurs) | Some(Act::FindsInitialized) => add_word(
+            found,
+            place,
+            next,
+            Completion::Normal,
+        ),
+        Some(Act::FindsErroneous) => add_word(
+            found,
+            place,
+            next,
+            Completion::Abrupt(small.refused),
+        ),
         Some(Act::Begins) => match small.needs.get(place.class) {
             Some(needs) => find_begun(alloc, needs.as_slice(), list, found, place, next),
             None => Ok(()),
@@ -240,7 +315,13 @@ fn find_word(alloc: Global, small: &Small, list: &[Made], found: &mut Found, pla
     }
 }
 
-fn find_words_at(alloc: Global, small: &Small, list: &[Made], found: &mut Found, from: usize) -> Result<(), AllocError> {
+fn find_words_at(
+    alloc: Global,
+    small: &Small,
+    list: &[Made],
+    found: &mut Found,
+    from: usize,
+) -> Result<(), AllocError> {
     for class in 0..small.needs.len() {
         find_word(alloc, small, list, found, Place { class, from })?;
     }
@@ -248,7 +329,12 @@ fn find_words_at(alloc: Global, small: &Small, list: &[Made], found: &mut Found,
 }
 
 /// Whether this list of one thread begins its word: the procedure for its main class, and then a body.
-pub fn begins_thread_word(alloc: Global, small: &Small, main: usize, list: &[Made]) -> Result<bool, AllocError> {
+pub fn begins_thread_word(
+    alloc: Global,
+    small: &Small,
+    main: usize,
+    list: &[Made],
+) -> Result<bool, AllocError> {
     let mut found = Found {
         words: Vec::new(alloc),
         beginnings: Vec::new(alloc),
@@ -266,7 +352,12 @@ pub fn begins_thread_word(alloc: Global, small: &Small, main: usize, list: &[Mad
 }
 
 /// Whether what stands behind the main class's procedure begins a body, if it was normal, or is nothing.
-fn is_finished(alloc: Global, list: &[Made], found: &Found, word: &Word) -> Result<bool, AllocError> {
+fn is_finished(
+    alloc: Global,
+    list: &[Made],
+    found: &Found,
+    word: &Word,
+) -> Result<bool, AllocError> {
     if word.to == list.len() {
         return Ok(true);
     }
@@ -279,64 +370,4 @@ fn is_finished(alloc: Global, list: &[Made], found: &Found, word: &Word) -> Resu
         begins = begins || *at == list.len() || found.any_begins_at(*at);
     }
     Ok(begins)
-}
-
-/// What stands of a class after these events.
-#[derive(Clone, Copy, PartialEq, Eq)]
-enum Stand {
-    Prepared,
-    InProgress(usize),
-    Initialized,
-    Erroneous,
-}
-
-fn stand_of(list: &[Made], class: usize) -> Stand {
-    let mut failed = false;
-    let mut completed = false;
-    let mut beginner = None;
-    for made in list {
-        if made.class == class {
-            match made.act {
-                Act::SuperFails(_) | Act::Fails(_) => failed = true,
-                Act::Completes => completed = true,
-                Act::Begins if beginner.is_none() => beginner = Some(made.thread),
-                _ => (),
-            }
-        }
-    }
-    match beginner {
-        _ if failed => Stand::Erroneous,
-        _ if completed => Stand::Initialized,
-        Some(thread) => Stand::InProgress(thread),
-        None => Stand::Prepared,
-    }
-}
-
-fn allows(stand: Stand, made: &Made) -> bool {
-    match made.act {
-        Act::Begins => stand == Stand::Prepared,
-        Act::FindsInitialized => stand == Stand::Initialized,
-        Act::FindsErroneous => stand == Stand::Erroneous,
-        Act::Waits => match stand {
-            Stand::InProgress(thread) => thread != made.thread,
-            _ => false,
-        },
-        _ => stand == Stand::InProgress(made.thread),
-    }
-}
-
-/// Whether an event may be the next of its class behind these events.
-pub fn may_follow(list: &[Made], made: &Made) -> bool {
-    allows(stand_of(list, made.class), made)
-}
-
-/// The events of one thread.
-pub fn part_of(alloc: Global, list: &[Made], thread: usize) -> Result<Vec<Made>, AllocError> {
-    let mut part = Vec::new(alloc);
-    for made in list {
-        if made.thread == thread {
-            part.push(*made)?;
-        }
-    }
-    Ok(part)
 }

@@ -1,23 +1,19 @@
 //! All threads on one host thread, turn by turn.
 
-ghost use Rattle.std.specs.Prelude.{◌≡◌, ◌≢◌, ℕ, replicate, ◌<◌, ◌≤◌, ◌+◌, ◌++◌, ◌∷◌, [], length, Option, None, Some, IfOk, OnOk, OnErr, MatchOption, slice_get, slice_index_or, true, false, vec_len, vec_capacity};
-ghost use Rattle.hierarchy.specs.LinkedProgram.{id};
-ghost use Rattle.hierarchy.specs.Subclasses.{IsError};
+ghost use Rattle.std.specs.Prelude.{◌≡◌, ◌≢◌, ℕ, replicate, ◌<◌, ◌≤◌, [], length, None, IfOk, OnOk, OnErr, true, false};
 ghost use Rattle.hierarchy.specs.declared.class.ClassId.{ClassId};
-ghost use Rattle.init_core.specs.declared.event.Decision.TheVariants as decisions;
-ghost use Rattle.init_core.specs.declared.event.Label.TheVariants as labels;
 ghost use Rattle.init_core.specs.declared.procedure.Next.TheVariants as nexts;
-ghost use Rattle.init_core.specs.Decisions.{event, Decides, entered, waits};
-ghost use Rattle.init_core.specs.History.{History};
 ghost use Rattle.init_core.specs.Label.{label_of};
 ghost use Rattle.init_core.specs.Lawful.{IsLawful};
 ghost use Rattle.init_core.specs.Interleaving.{of_thread, of_class};
-ghost use Rattle.init_core.specs.Leads.{LeadsTo, standing, kind_of_ending};
-ghost use Rattle.init_core.specs.Advance.{next_of, decided, after_end, after_body, requested, is_running, IsAtBody, IsAtEnd, FitsBody};
-ghost use Rattle.init_world.specs.OpenClasses.{is_waiting};
+ghost use Rattle.init_core.specs.Leads.{LeadsTo};
+ghost use Rattle.init_core.specs.Advance.{next_of, requested, is_running, IsAtBody, FitsBody};
 
+use crate::parts::{
+    decide, end_class, end_procedure, idle_procedures, kind_of, prepared_records, waits_on,
+};
 use hierarchy::{ClassId, Program};
-use init_core::{Answer, ClassRecord, Completed, Decision, Ending, Event, Kind, Label, Next, Outcome, Procedure};
+use init_core::{ClassRecord, Ending, Event, Kind, Next, Outcome, Procedure};
 use std::alloc::{AllocError, Global};
 use std::marker::Model;
 use std::snapshot::Snapshot;
@@ -300,110 +296,5 @@ impl World {
                 _ => unreachable!(),
             },
         }
-    }
-}
-
-/// As many procedures that have no class open.
-fn idle_procedures(alloc: Global, count: usize) -> Result<Vec<Procedure>, AllocError>
-    ensures { IfOk result (λ made. made.items ≡ replicate count (standing [] None)) }
-{
-    let mut made = Vec::new(alloc);
-    'threads: while made.len() < count {
-        made.push(Procedure::new(alloc))?;
-    }
-    Ok(made)
-}
-
-/// The records of as many classes, all prepared.
-fn prepared_records(alloc: Global, count: usize) -> Result<Vec<ClassRecord>, AllocError>
-    ensures count { IfOk result (λ made. length made.items ≡ count) }
-    ensures classes { IfOk result (λ made. (n : ℕ) (other : History) → n < count → (slice_index_or made.items n other).class ≡ id n) }
-    ensures events { IfOk result (λ made. (n : ℕ) (other : History) → n < count → (slice_index_or made.items n other).events ≡ []) }
-{
-    let mut made = Vec::new(alloc);
-    'classes: while made.len() < count {
-        let number = made.len();
-        made.push(ClassRecord::new(alloc, ClassId { number }))?;
-    }
-    Ok(made)
-}
-
-/// A look at a class's record, told to the procedure that asks for it.
-///
-/// An `Err` is want of memory; then neither has changed.
-fn decide(
-    alloc: Global,
-    program: &Program,
-    thread: usize,
-    record: &mut ClassRecord,
-    procedure: &mut Procedure,
-) -> Result<Decision, AllocError>
-    requires next { next_of procedure.old.frames ≡ nexts.Look record.old.class }
-    requires waiting { waits thread record.old.events ≡ is_waiting record.old.class procedure.old.frames }
-    ensures decision { IfOk result (λ d. Decides (label_of record.old.events) thread d) }
-    ensures class { record.new.class ≡ record.old.class }
-    ensures events { IfOk result (λ d. record.new.events ≡ record.old.events ++ entered thread record.old.class d) }
-    ensures standing { IfOk result (λ d. procedure.new ≡ decided program.now procedure.old.frames d) }
-    ensures again { IfOk result (λ d. d ≡ decisions.Wait false → is_waiting record.old.class procedure.old.frames ≡ true) }
-    ensures first { IfOk result (λ d. d ≡ decisions.Wait true → is_waiting record.old.class procedure.old.frames ≡ false) }
-    ensures err_events { OnErr result (record.new.events ≡ record.old.events) }
-    ensures err_standing { OnErr result (procedure.new ≡ procedure.old) }
-{
-    record.reserve()?;
-    if let Label::Prepared = record.label() {
-        procedure.advance(alloc, program, Answer::Decided(Decision::Begin))?;
-        let Ok(decision) = record.enter(thread) else {
-            unreachable!();
-        };
-        return Ok(decision);
-    }
-    let Ok(decision) = record.enter(thread) else {
-        unreachable!();
-    };
-    let Ok(_) = procedure.advance(alloc, program, Answer::Decided(decision)) else {
-        unreachable!();
-    };
-    Ok(decision)
-}
-
-/// Whether the request waited already, and still does.
-fn waits_on(decision: Decision) -> bool
-    ensures yes { result ≡ true → decision ≡ decisions.Wait false }
-    ensures no { result ≡ false → decision ≢ decisions.Wait false }
-{
-    matches!(decision, Decision::Wait { first: false })
-}
-
-/// The step that ends a class in progress, at its record.
-fn end_class(record: &mut ClassRecord, thread: usize, ending: Ending)
-    requires { label_of record.old.events ≡ labels.InProgress thread }
-    ensures class { record.new.class ≡ record.old.class }
-    ensures events { record.new.events ≡ record.old.events ++ event thread record.old.class (kind_of_ending ending) ∷ [] }
-{
-    match ending {
-        Ending::Completes => record.complete(thread),
-        Ending::SuperFails(throwable) => record.super_failed(thread, throwable),
-        Ending::Fails(throwable) => record.fail(thread, throwable),
-    }
-}
-
-/// The step that ends a class in progress, told to the procedure.
-fn end_procedure(alloc: Global, program: &Program, procedure: &mut Procedure)
-    requires { IsAtEnd procedure.old.frames }
-    ensures { procedure.new ≡ after_end procedure.old.frames }
-{
-    let Ok(_) = procedure.advance(alloc, program, Answer::Ended) else {
-        unreachable!();
-    };
-}
-
-/// The step that ends a class so.
-fn kind_of(ending: Ending) -> Kind
-    ensures { result ≡ kind_of_ending ending }
-{
-    match ending {
-        Ending::Completes => Kind::Completes,
-        Ending::SuperFails(throwable) => Kind::SuperFails(throwable),
-        Ending::Fails(throwable) => Kind::Fails(throwable),
     }
 }

@@ -6,31 +6,28 @@ use crate::write_trace;
 use descriptors::ClassName;
 use hierarchy::{BuiltIn, ClassId, link};
 use init_core::{Event, Kind};
-use jasmin_text::{Access, ClassKind, ClassParts, ClassText};
+use jasmin_text::{Access, ClassKind, ClassParts};
 use sequence::Sequence;
 use std::alloc::{AllocError, Global};
 use std::test::Fail;
 
 /// A class of that name and superclass, with nothing else.
-fn text(alloc: Global, name: &[u8], superclass: &[u8]) -> Result<Option<ClassText>, AllocError> {
+fn text(alloc: Global, name: &[u8], superclass: &[u8]) -> Result<Option<ClassParts>, AllocError> {
     let Some(name) = ClassName::parse(alloc, name)? else {
         return Ok(None);
     };
     let Some(superclass) = ClassName::parse(alloc, superclass)? else {
         return Ok(None);
     };
-    ClassText::new(
-        alloc,
-        ClassParts {
-            kind: ClassKind::Class,
-            access: Access::NONE,
-            name,
-            superclass,
-            interfaces: Sequence::new(alloc),
-            fields: Sequence::new(alloc),
-            methods: Sequence::new(alloc),
-        },
-    )
+    Ok(Some(ClassParts {
+        kind: ClassKind::Class,
+        access: Access::NONE,
+        name,
+        superclass,
+        interfaces: Sequence::new(alloc),
+        fields: Sequence::new(alloc),
+        methods: Sequence::new(alloc),
+    }))
 }
 
 fn event(thread: usize, kind: Kind) -> Event

@@ -51,11 +51,7 @@ fn write_head(out: &mut Vec<u8>, number: usize, thread: usize, step: u8) -> Resu
 }
 
 /// Adds the name of a class at the end. An `Err` is want of memory and changes nothing.
-pub fn write_class(
-    out: &mut Vec<u8>,
-    program: &Program,
-    class: ClassId,
-) -> Result<(), AllocError>
+pub fn write_class(out: &mut Vec<u8>, program: &Program, class: ClassId) -> Result<(), AllocError>
     ensures ok { OnOk result (out.new.items ≡ out.old.items ++ class_text program.now class) }
     ensures err { OnErr result (out.new.items ≡ out.old.items) }
 {

@@ -1,6 +1,4 @@
-use Rattle.std.proofs.Common.{◌≡◌, refl}
-use Rattle.init_core.specs.Advance.{is_running, FitsBody}
-use Rattle.init_world.specs.WorldState.{thread_at}
+use Rattle.std.proofs.Common.{refl}
 use Rattle.init_world.proofs.Consistency.{body_is_over}
 use Rattle.init_world.proofs.world.World.body_ended.Goals as goal
 

@@ -1,4 +1,3 @@
-use Rattle.std.proofs.Common.{◌≡◌}
 use Rattle.init_world.proofs.Consistency.{record_label}
 use Rattle.init_world.proofs.world.World.record.Goals as goal
 

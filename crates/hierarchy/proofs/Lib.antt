@@ -1,0 +1,14 @@
+pub mod Acyclic
+pub mod BuiltIns
+pub mod Counts
+pub mod ClassMembership
+pub mod EmptyProgram
+pub mod Enumerations
+pub mod InRange
+pub mod Linked
+pub mod Named
+pub mod Resolved
+pub mod Searches
+pub mod Subtypes
+pub mod TextLists
+pub mod Walks

@@ -1,0 +1,95 @@
+//! The supertypes of each class, and the first class that is its own.
+
+ghost use Rattle.std.specs.Prelude.{◌≡◌, ℕ, ◌≤◌, ◌<◌, [], OnOk, IfOk, length, slice_get, vec_len, Some};
+ghost use Rattle.hierarchy.specs.ClassLists.{add_all};
+ghost use Rattle.hierarchy.specs.LinkedProgram.{linked, id as id_of};
+ghost use Rattle.hierarchy.specs.Hierarchy.{IsAcyclic, IsInRange, AreSupertypes, IsFirstCyclic, supers};
+ghost use Rattle.hierarchy.specs.Searched.{HasSupertypes, SearchOf};
+
+use crate::built_in::BuiltIn;
+use crate::class::{Class, ClassId};
+use crate::class_set::ClassSet;
+use std::alloc::{AllocError, Global};
+
+fn add_each(ids: &[ClassId], found: &mut ClassSet) -> Result<(), AllocError>
+    ensures { OnOk result (found.new ≡ add_all found.old ids.now) }
+{
+    let mut rest = ids;
+    while let [id, after @ ..] = rest {
+        found.add(*id)?;
+        rest = after;
+    }
+    Ok(())
+}
+
+/// Adds the direct supertypes of a class.
+fn add_supers(classes: &[Class], id: ClassId, found: &mut ClassSet) -> Result<(), AllocError>
+    requires { length classes.now ≤ 1024 }
+    ensures { OnOk result (found.new ≡ add_all found.old (supers (linked classes.now) id)) }
+{
+    match classes.get(id.number) {
+        Some(class) => {
+            found.add(class.superclass)?;
+            add_each(class.interfaces.as_slice(), found)?;
+            Ok(())
+        }
+        None => match BuiltIn::at(id.number - classes.len()) {
+            Some(class) => match class.superclass() {
+                Some(superclass) => {
+                    found.add(ClassId {
+                        number: classes.len() + superclass.number(),
+                    })?;
+                    Ok(())
+                }
+                None => Ok(()),
+            },
+            None => Ok(()),
+        },
+    }
+}
+
+/// All supertypes of a class.
+fn supertypes(alloc: Global, classes: &[Class], id: ClassId) -> Result<ClassSet, AllocError>
+    requires few { length classes.now ≤ 1024 }
+    requires in_range { IsInRange (linked classes.now) }
+    ensures { IfOk result (λ found. AreSupertypes (linked classes.now) id found) }
+{
+    let mut found = ClassSet::new(alloc);
+    add_supers(classes, id, &mut found)?;
+    for place in 0..classes.len() + 32 {
+        let Some(next) = found.at(place) else {
+            break;
+        };
+        add_supers(classes, next, &mut found)?;
+    }
+    // No two are equal, so there are at most as many as classes, and none is left.
+    let _found = found.as_slice();
+    Ok(found)
+}
+
+/// What a search for cycles found.
+#[derive(Drop)]
+pub(crate) enum SearchResult {
+    /// The first class that stands on a cycle, by its place.
+    Cycle(usize),
+    /// The supertypes of each class, in file order.
+    Supertypes(Vec<ClassSet>),
+}
+
+/// The first class in file order that stands on a cycle; else the supertypes of all.
+pub(crate) fn search(alloc: Global, classes: &[Class]) -> Result<SearchResult, AllocError>
+    requires few { length classes.now ≤ 1024 }
+    requires in_range { IsInRange (linked classes.now) }
+    ensures { IfOk result (SearchOf (linked classes.now)) }
+{
+    let mut all = Vec::new(alloc);
+    for number in 0..classes.len() {
+        let id = ClassId { number };
+        let found = supertypes(alloc, classes, id)?;
+        if found.contains(id) {
+            return Ok(SearchResult::Cycle(number));
+        }
+        all.push(found)?;
+    }
+    Ok(SearchResult::Supertypes(all))
+}
