@@ -48,7 +48,7 @@ fn command<'a>(alloc: Global) -> Result<Command<'a>, AllocError> {
         .arg(files_argument(alloc))?;
     let needs = Command::new(alloc, "needs")
         .about("Writes for each class what is initialized before its own initializer runs")
-        .arg(files_argument(alloc))?;
+        .arg(files_argument(alloc).required(true))?;
     Command::new(alloc, "jinit")
         .about("Initializes Java classes as JLS SE 8 12.4.2 demands, and tells each step")
         .version("0.1.0")
