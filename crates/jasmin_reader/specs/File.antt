@@ -48,13 +48,13 @@ object_name = codes "java/lang/Object"
 -- the parts of a class with these words, this name and this superclass
 abbrev pub parts_of : ClassWords → List ℕ → List ℕ → ClassParts
 parts_of words name superclass =
-  record { kind = words.kind; access = words.access; name = name; superclass = superclass; interfaces = []; fields = []; methods = [] }
+    record { kind = words.kind; access = words.access; name = name; superclass = superclass; interfaces = []; fields = []; methods = [] }
 
 unfoldable pub finished : Header → Result ClassParts ReadFault
 finished h = elim h.class [
   | None ↦ Err (fault_at fault.Misplaced 1)
   | Some c ↦ Ok (parts_of c.0 c.1 (unwrap_or h.superclass object_name))
-  ]
+]
 
 -- what was read so far can be spelled
 pub record IsGood (h : Header) : Type 0 where

@@ -69,15 +69,42 @@ fn add_word(words: ClassWords, word: &[u8]) -> Result<ClassWords, LineError>
         ClassWord::Access(access_word) => access_word,
     };
     let access = match access_word {
-        AccessWord::Public => Access { public: true, ..access },
-        AccessWord::Private => Access { private: true, ..access },
-        AccessWord::Protected => Access { protected: true, ..access },
-        AccessWord::Static => Access { is_static: true, ..access },
-        AccessWord::Final => Access { is_final: true, ..access },
-        AccessWord::Synchronized => Access { synchronized: true, ..access },
-        AccessWord::Volatile => Access { volatile: true, ..access },
-        AccessWord::Transient => Access { transient: true, ..access },
-        AccessWord::Abstract => Access { is_abstract: true, ..access },
+        AccessWord::Public => Access {
+            public: true,
+            ..access
+        },
+        AccessWord::Private => Access {
+            private: true,
+            ..access
+        },
+        AccessWord::Protected => Access {
+            protected: true,
+            ..access
+        },
+        AccessWord::Static => Access {
+            is_static: true,
+            ..access
+        },
+        AccessWord::Final => Access {
+            is_final: true,
+            ..access
+        },
+        AccessWord::Synchronized => Access {
+            synchronized: true,
+            ..access
+        },
+        AccessWord::Volatile => Access {
+            volatile: true,
+            ..access
+        },
+        AccessWord::Transient => Access {
+            transient: true,
+            ..access
+        },
+        AccessWord::Abstract => Access {
+            is_abstract: true,
+            ..access
+        },
         AccessWord::Dropped => access,
         AccessWord::LeftOut => return Err(Refusal::Fault(FaultKind::LeftOut)),
     };
