@@ -141,6 +141,46 @@ fn agrees_on_a_default_seen_twice(rt: HostRuntime) -> Result<(), Fail> {
     agrees(&rt, alloc, case, 8, 200)
 }
 
+/// B extends A, and one thread requests B.
+#[test]
+fn superclass_first(rt: HostRuntime) -> Result<(), Fail> {
+    let alloc = rt.alloc();
+    let mut classes = Vec::new(alloc);
+    classes.push(class(alloc, 0, OBJECT, &[])?)?;
+    classes.push(class(alloc, 1, 0, &[])?)?;
+    let Ok(program) = link(alloc, classes) else {
+        assert!(rt; false);
+        return Ok(());
+    };
+    let actions = [
+        Action::Requests(1),
+        Action::Goes,
+        Action::Goes,
+        Action::Returns,
+        Action::Goes,
+        Action::Returns,
+    ];
+    let mut choices = Vec::new(alloc);
+    for action in actions {
+        choices.push(Choice { thread: 0, action })?;
+    }
+    let run = replayed(alloc, &program, &[1, 1], &choices)?;
+    let list = list_of(alloc, run.world.events())?;
+    let expected = [
+        (1, Act::Begins),
+        (0, Act::Begins),
+        (0, Act::Runs),
+        (0, Act::Completes),
+        (1, Act::Runs),
+        (1, Act::Completes),
+    ];
+    assert_eq!(rt; list.len(), 6);
+    for (made, (class, act)) in list.iter().zip(expected) {
+        assert!(rt; made.thread == 0 && made.class == class && made.act == act);
+    }
+    Ok(())
+}
+
 /// Two threads on one class A, turned in the order 0, 0, 1, 0, 1.
 #[test]
 fn two_threads_one_class(rt: HostRuntime) -> Result<(), Fail> {
