@@ -1,3 +1,3 @@
-pub mod Alone
 pub mod Served
 pub mod NeedsText
+pub mod Bodiless

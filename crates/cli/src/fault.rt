@@ -18,10 +18,10 @@ pub enum Fault<'a> {
     Jasmin { file: &'a str, fault: ReadFault },
     /// The classes can't be linked.
     Link(LinkFault),
-    /// There are several classes, of which none can be run yet.
-    Classes,
     /// A main class is unknown, there is none, or there are too many.
     Mains,
+    /// A method has a body, which isn't run yet.
+    Body,
     /// Want of memory.
     Memory,
     /// The output can't be written.
@@ -46,8 +46,7 @@ impl Fault<'_> {
         ensures { result ≤ 3 }
     {
         match self {
-            Fault::Classes | Fault::Files | Fault::Jasmin { .. } | Fault::Link(_) | Fault::Mains =>
-                2,
+            Fault::Files | Fault::Jasmin { .. } | Fault::Link(_) | Fault::Mains | Fault::Body => 2,
             Fault::Io(_) | Fault::Memory | Fault::Output => 3,
         }
     }
@@ -55,7 +54,6 @@ impl Fault<'_> {
     /// Writes the one line that tells of the fault.
     pub fn tell<W: io::Write>(&self, err: &mut W) -> io::Result<()> {
         match self {
-            Fault::Classes => writeln!(err, "cli: classes"),
             Fault::Files => writeln!(err, "cli: files"),
             Fault::Io(name) => writeln!(err, "io: {name}"),
             Fault::Jasmin { file, fault } => {
@@ -70,6 +68,7 @@ impl Fault<'_> {
                 writeln!(err)
             }
             Fault::Mains => writeln!(err, "cli: mains"),
+            Fault::Body => writeln!(err, "cli: body"),
             Fault::Memory => writeln!(err, "memory"),
             Fault::Output => writeln!(err, "io: output"),
         }

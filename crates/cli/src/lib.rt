@@ -9,6 +9,8 @@ pub mod fault;
 pub mod files;
 pub mod needed;
 pub mod ordered;
+#[cfg(test)]
+mod ordered_tests;
 pub mod serving;
 pub mod words;
 

@@ -1,70 +1,76 @@
 //! A run on one host thread.
 
-ghost use Rattle.std.specs.Prelude.{◌≡◌, ℕ, ◌<◌, [], ◌∷◌, length, IfOk};
+ghost use Rattle.std.specs.Prelude.{◌≡◌, ℕ, ◌<◌, ◌≤◌, [], ◌∷◌, length, IfOk};
 ghost use Rattle.hierarchy.specs.declared.class.ClassId.{ClassId};
-ghost use Rattle.init_order.specs.Needs.{needs};
-ghost use Rattle.init_core.specs.Interleaving.{IsLegal, labels_of};
+ghost use Rattle.hierarchy.specs.Hierarchy.{IsAcyclic};
+ghost use Rattle.init_core.specs.Interleaving.{IsLegal, of_thread, labels_of as all_labels};
+ghost use Rattle.init_core.specs.ProcedureWord.{ThreadWord};
+ghost use Rattle.init_world.specs.PlainSteps.{ArePlainSteps};
 ghost use Rattle.trace.specs.declared.report.ThreadOutcome.TheVariants as outcomes;
-ghost use Rattle.init_core.specs.Decisions.{event};
-ghost use Rattle.cli.specs.Alone.{alone};
 
 use hierarchy::{ClassId, Program};
-use init_core::{Answer, ClassRecord, Decision, Event, Kind, Next, Procedure};
+use init_core::Label;
+use init_world::{Turn, World};
 use sequence::{Sequence, Text};
 use std::alloc::{AllocError, Global};
 use trace::{Report, ThreadOutcome};
 
-fn event_of(class: ClassId, kind: Kind) -> Event
-    ensures { result ≡ event 0 class kind }
+/// A world in which thread 0 has done the procedure for `main`, with all that it needs, and its main.
+///
+/// Each turn makes one event, or comes to a body, which is empty and ends at once.
+fn run_alone(alloc: Global, program: &Program, main: ClassId) -> Result<World, AllocError>
+    requires acyclic { IsAcyclic program.now }
+    requires main { main.number < length program.now.classes }
+    ensures program { IfOk result (λ world. world.program ≡ program.now) }
+    ensures one { IfOk result (λ world. length world.threads ≡ 1) }
+    ensures word { IfOk result (λ world. ThreadWord program.now 0 main (of_thread 0 world.events)) }
+    ensures steps { IfOk result (λ world. ArePlainSteps world.events) }
 {
-    Event {
-        thread: 0,
-        class: Some(class),
-        kind,
+    let mut world = World::new(alloc, program, 1)?;
+    world.request(0, main)?;
+    'turns: loop {
+        match world.turn(alloc, program, 0)? {
+            Turn::Event => (),
+            Turn::Body(_) => world.body_ended(0, None),
+            Turn::Normal => return Ok(world),
+            Turn::Waits | Turn::Abrupt(_) => unreachable!(),
+        }
     }
 }
 
-/// Initializes the one class of a program on one thread, thread 0, and runs its main, which is empty.
+/// The label of each class of the files, by its number.
+fn labels_of(alloc: Global, program: &Program, world: &World) -> Result<Sequence<Label>, AllocError>
+    requires { world.now.program ≡ program.now }
+    ensures { IfOk result (λ labels. labels ≡ all_labels program.now world.now.events) }
+{
+    let mut labels = Sequence::new(alloc);
+    for number in 0..program.len() {
+        labels.push(world.record(ClassId { number }).label())?;
+    }
+    Ok(labels)
+}
+
+/// Initializes the main class of a program on one thread, thread 0, with all that it needs, and runs its main.
 ///
-/// The class has no initializer and no `main` of its own, so that both bodies are empty. An `Err` is want of
+/// No class has an initializer or a `main` of its own, so that all bodies are empty. An `Err` is want of
 /// memory.
 pub fn run_ordered(alloc: Global, program: &Program, main: ClassId) -> Result<Report, AllocError>
-    requires one_class { length program.now.classes ≡ 1 }
     requires main { main.number < length program.now.classes }
-    requires alone { needs program.now main ≡ [] }
     ensures legal { IfOk result (λ report. IsLegal program.now (main ∷ []) report.events) }
-    ensures labels { IfOk result (λ report. report.labels ≡ labels_of program.now report.events) }
+    ensures labels { IfOk result (λ report. report.labels ≡ all_labels program.now report.events) }
     ensures outcomes { IfOk result (λ report. report.outcomes ≡ outcomes.Normal ∷ []) }
     ensures output { IfOk result (λ report. report.output ≡ []) }
-    ensures events { IfOk result (λ report. report.events ≡ alone main) }
+    ensures steps { IfOk result (λ report. ArePlainSteps report.events) }
 {
-    let mut record = ClassRecord::new(alloc, main);
-    let mut procedure = Procedure::new(alloc);
-    let mut events = Vec::new(alloc);
-    procedure.request(main)?;
-    let Decision::Begin = record.enter(0)? else {
-        unreachable!();
-    };
-    events.push(event_of(main, Kind::Begins))?;
-    let Next::Body(_) = procedure.advance(alloc, program, Answer::Decided(Decision::Begin))? else {
-        unreachable!();
-    };
-    events.push(event_of(main, Kind::Runs))?;
-    let Next::End(_, _) = procedure.advance(alloc, program, Answer::BodyEnded(None))? else {
-        unreachable!();
-    };
-    record.complete(0);
-    events.push(event_of(main, Kind::Completes))?;
-    let Next::Idle = procedure.advance(alloc, program, Answer::Ended)? else {
-        unreachable!();
-    };
-    let mut labels = Sequence::new(alloc);
-    labels.push(record.label())?;
+    // Each way up the hierarchy ends, as the number of classes tells.
+    let _classes = program.len();
+    let world = run_alone(alloc, program, main)?;
+    let labels = labels_of(alloc, program, &world)?;
     let mut outcomes = Sequence::new(alloc);
     outcomes.push(ThreadOutcome::Normal)?;
     Ok(Report {
         outcomes,
-        events: Sequence::from_vec(events),
+        events: Sequence::from_vec(world.into_events()),
         labels,
         output: Text::new(alloc),
     })

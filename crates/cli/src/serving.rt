@@ -1,7 +1,7 @@
 //! The program's body.
 
-ghost use Rattle.std.specs.Prelude.{◌≡◌, ◌≤◌, ◌<◌, [], true, IfOk, IfSome, length};
-ghost use Rattle.init_order.specs.Needs.{needs as needs_of};
+ghost use Rattle.std.specs.Prelude.{◌≡◌, ◌≤◌, ◌<◌, IfOk, IfSome, length};
+ghost use Rattle.cli.specs.Bodiless.{has_code, declares_code, holds_code};
 ghost use Rattle.cli.specs.Served.{IsLegalRun};
 
 use crate::fault::Fault;
@@ -10,9 +10,8 @@ use crate::needed::write_needs;
 use crate::ordered::run_ordered;
 use crate::words::{Asked, Run, parse};
 use clap::error::ErrorKind;
-use hierarchy::{ClassId, Program, link};
-use init_order::needs;
-use jasmin_text::ClassParts;
+use hierarchy::{Class, ClassId, Program, link};
+use jasmin_text::{ClassParts, Method};
 use std::alloc::{AllocError, Global};
 use std::io;
 use trace::{Report, write_trace};
@@ -30,13 +29,23 @@ fn main_of(program: &Program, mains: Option<&str>) -> Option<ClassId>
     }
 }
 
-/// Whether the program has no other class, and the class needs none: so far only such a class is run.
-fn runs_alone(alloc: Global, program: &Program, main: ClassId) -> Result<bool, AllocError>
-    ensures one_class { IfOk result (λ yes. yes ≡ true → length program.now.classes ≡ 1) }
-    ensures alone { IfOk result (λ yes. yes ≡ true → needs_of program.now main ≡ []) }
+fn is_method_with_code(method: &Method) -> bool
+    ensures { result ≡ has_code method.now }
 {
-    let needed = needs(alloc, program, main)?;
-    Ok(program.len() == 1 && needed.is_empty())
+    method.code.is_some()
+}
+
+fn is_class_with_code(class: &Class) -> bool
+    ensures { result ≡ declares_code class.now }
+{
+    class.methods.as_slice().iter().any(is_method_with_code)
+}
+
+/// Whether some method has a body: so far no code is run.
+fn has_body(program: &Program) -> bool
+    ensures { result ≡ holds_code program.now }
+{
+    program.classes().iter().any(is_class_with_code)
 }
 
 /// A program and what its run was.
@@ -61,8 +70,8 @@ fn run_texts<'a>(
     let Some(main) = main_of(&program, mains) else {
         return Err(Fault::Mains);
     };
-    if !runs_alone(alloc, &program, main)? {
-        return Err(Fault::Classes);
+    if has_body(&program) {
+        return Err(Fault::Body);
     }
     let report = run_ordered(alloc, &program, main)?;
     Ok(Ran { program, report })

@@ -13,7 +13,7 @@ struct MemoryFiles {
     written: Vec<u8>,
 }
 
-const TEXTS: [(&str, &str); 7] = [
+const TEXTS: [(&str, &str); 18] = [
     ("Solo.j", ".class public Solo\n.super java/lang/Object\n"),
     (
         "Plain.j",
@@ -22,8 +22,25 @@ const TEXTS: [(&str, &str); 7] = [
     ("Under.j", ".class java/lang/Under\n"),
     ("Sub.j", ".class Sub\n.super Solo\n"),
     ("Late.j", ".super A\n.class A\n"),
-    ("Field.j", ".class Field\n\n.field public x I\n"),
+    ("Field.j", ".class Field\n\n.field public x J\n"),
+    ("Fields.j", ".class Fields\n.field static x I = 5\n"),
+    (
+        "T.j",
+        ".class public T\n.method static <clinit>()V\nreturn\n",
+    ),
+    ("K.j", ".interface K\n.method d()V\nreturn\n.end method\n"),
+    ("I.j", ".interface I\n.implements K\n"),
+    (
+        "J.j",
+        ".interface J\n.implements K\n.method e()V\nreturn\n.end method\n",
+    ),
+    ("C.j", ".class C\n.implements I\n.implements J\n"),
+    ("AK.j", ".class A\n.implements K\n"),
+    ("BJ.j", ".class B\n.super A\n.implements J\n"),
+    ("AB.j", ".class A\n.super B\n"),
     ("Empty.j", ""),
+    ("A.j", ".class public A\n"),
+    ("B.j", ".class public B\n.super A\n"),
 ];
 
 fn text_of(name: &str) -> Option<&'static str> {
@@ -122,6 +139,28 @@ fn first_path(rt: HostRuntime) {
     assert!(rt; quiet.trace.is_empty() && quiet.err.is_empty());
 }
 
+const SUPERCLASS_FIRST: &[u8] = b"0 t0 step6 B
+1 t0 step6 A
+2 t0 step9 A
+3 t0 step10 A
+4 t0 step9 B
+5 t0 step10 B
+";
+
+#[test]
+fn superclass_first(rt: HostRuntime) {
+    for files in [["A.j", "B.j"], ["B.j", "A.j"]] {
+        let [one, other] = files;
+        let words = [
+            "jinit", "run", "--mains", "B", "--trace", "order", one, other,
+        ];
+        let ran = run_words(rt.alloc(), &words);
+        assert_eq!(rt; ran.status, 0, "at {files:?}");
+        assert!(rt; ran.out.is_empty() && ran.err.is_empty(), "at {files:?}");
+        assert!(rt; ran.trace.as_slice() == SUPERCLASS_FIRST, "at {files:?}");
+    }
+}
+
 #[test]
 fn what_is_needed(rt: HostRuntime) {
     let told = run_words(rt.alloc(), &["jinit", "needs", "Sub.j", "Solo.j"]);
@@ -130,8 +169,55 @@ fn what_is_needed(rt: HostRuntime) {
     assert!(rt; told.err.is_empty() && told.trace.is_empty());
 }
 
+#[test]
+fn diamond_defaults(rt: HostRuntime) {
+    let words = ["jinit", "needs", "K.j", "I.j", "J.j", "C.j"];
+    let told = run_words(rt.alloc(), &words);
+    assert_eq!(rt; told.status, 0);
+    assert!(rt; told.out.as_slice() == b"K:\nI:\nJ:\nC: K J\n".as_slice());
+}
+
+#[test]
+fn default_seen_twice(rt: HostRuntime) {
+    let words = ["jinit", "needs", "K.j", "J.j", "AK.j", "BJ.j"];
+    let told = run_words(rt.alloc(), &words);
+    assert_eq!(rt; told.status, 0);
+    assert!(rt; told.out.as_slice() == b"K:\nJ:\nA: K\nB: A K J\n".as_slice());
+}
+
+#[test]
+fn a_class_with_fields(rt: HostRuntime) {
+    let ran = run_words(
+        rt.alloc(),
+        &[
+            "jinit", "run", "--mains", "Fields", "--trace", "it", "Fields.j",
+        ],
+    );
+    assert_eq!(rt; ran.status, 0);
+    assert!(rt;
+        ran.trace.as_slice()
+            == b"0 t0 step6 Fields\n1 t0 step9 Fields\n2 t0 step10 Fields\n".as_slice()
+    );
+}
+
 /// The words, and the line and the status that answer them.
-const FAULTS: [(&[&str], &[u8], u8); 21] = [
+const FAULTS: [(&[&str], &[u8], u8); 24] = [
+    (&["jinit", "run", "--mains", "T", "T.j"], b"T.j:3: J8\n", 2),
+    (
+        &["jinit", "run", "--mains", "A", "AB.j", "B.j"],
+        b"link: H3 A\n",
+        2,
+    ),
+    (
+        &["jinit", "run", "--mains", "C", "K.j", "I.j", "J.j", "C.j"],
+        b"cli: body\n",
+        2,
+    ),
+    (
+        &["jinit", "run", "--mains", "D", "K.j", "I.j", "J.j", "C.j"],
+        b"cli: mains\n",
+        2,
+    ),
     (&["jinit", "needs", "Solo.j", "None.j"], b"io: None.j\n", 3),
     (&["jinit", "needs", "Sub.j"], b"link: H2 Sub\n", 2),
     (&["jinit", "run", "Solo.j"], b"cli: mains\n", 2),
@@ -201,11 +287,6 @@ const FAULTS: [(&[&str], &[u8], u8); 21] = [
     (
         &["jinit", "run", "--mains", "Solo", "Solo.j", "Under.j"],
         b"link: H6 java/lang/Under\n",
-        2,
-    ),
-    (
-        &["jinit", "run", "--mains", "Sub", "Solo.j", "Sub.j"],
-        b"cli: classes\n",
         2,
     ),
     (

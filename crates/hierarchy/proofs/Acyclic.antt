@@ -33,7 +33,7 @@ size-falls p c d a b h = length-below d b.found a.found b.clear b.are.once (λ q
     above q first = direct h
     above q (later k) = reaches_on (direct h) (b.are.sound q k)
 
-get-past : {X : Type 0} (xs : List X) (i : ℕ) → length xs ≤ i → slice_get xs i ≡ None
+pub get-past : {X : Type 0} (xs : List X) (i : ℕ) → length xs ≤ i → slice_get xs i ≡ None
 get-past [] i h = refl
 get-past (x ∷ xs) zero h = absurd (omega (arith, h))
 get-past (x ∷ xs) (suc i) h = get-past xs i (omega (arith, h))

@@ -1,6 +1,7 @@
 -- The quoted texts of a program: each takes one cell of the heap.
 use Rattle.std.specs.Prelude.{ℕ, ◌+◌, ◌<◌, List, [], ◌∷◌, ◌++◌, Option, Some, None, fold, take, length, if◌then◌else◌}
 use Rattle.std.specs.List.{flat_map}
+use Rattle.std.specs.Option.{option_map}
 use Rattle.jasmin_text.specs.declared.class_text.Constant.{Constant}
 use Rattle.jasmin_text.specs.declared.class_text.Constant.TheVariants as constant
 use Rattle.jasmin_text.specs.declared.class_text.Code.{Code}
@@ -9,7 +10,8 @@ use Rattle.jasmin_text.specs.declared.class_text.Method.{Method}
 use Rattle.jasmin_text.specs.declared.instruction.Instruction.{Instruction}
 use Rattle.jasmin_text.specs.declared.instruction.Instruction.TheVariants as instruction
 use Rattle.hierarchy.specs.declared.class.Class.{Class}
-use Rattle.hierarchy.specs.Texts.{note_text, distinct_texts}
+use Rattle.hierarchy.specs.LinkedProgram.{LinkedProgram}
+use Rattle.hierarchy.specs.Texts.{place_of_text, note_text, distinct_texts}
 
 -- each text in turn at the end unless it is there already
 abbrev pub note_all : List (List ℕ) → List (List ℕ) → List (List ℕ)
@@ -43,9 +45,17 @@ texts_of_method m = texts_of_code m.code
 abbrev pub quoted_in : Class → List (List ℕ)
 quoted_in c = flat_map texts_of_field c.fields ++ flat_map texts_of_method c.methods
 
--- the cells that are taken from the start: three ready objects, and the quoted texts, equal texts once
+-- the quoted texts of all classes in file order, equal texts once
+abbrev pub quoted_texts : List Class → List (List ℕ)
+quoted_texts classes = distinct_texts (flat_map quoted_in classes)
+
+-- the cells that are taken from the start: three ready objects and the quoted texts
 abbrev pub cells_of : List Class → ℕ
-cells_of classes = 3 + length (distinct_texts (flat_map quoted_in classes))
+cells_of classes = 3 + length (quoted_texts classes)
+
+-- The reference to a quoted text: they are numbered in their order, behind the three ready objects.
+abbrev pub text_reference : LinkedProgram → List ℕ → Option ℕ
+text_reference p text = option_map (λ place. 3 + place) (place_of_text text (quoted_texts p.classes))
 
 -- the classes up to i need more cells than the heap has
 abbrev pub FillsHeap : List Class → ℕ → Type 0

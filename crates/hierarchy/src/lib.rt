@@ -10,33 +10,65 @@
 //! and the superinterfaces of each, is kept in the program and is no part of that value: so no call searches up
 //! the hierarchy, and what is resolved later can be kept there too.
 //!
+//! Members are found by [`Program::resolve_field`] and [`Program::resolve_method`], and the method that a call
+//! runs by [`Program::select`]; a [`FieldId`] or a [`MethodId`] names the class that declares it, and its place there.
+//!
 //! In `specs/`, `FirstFault` orders the passes, `Linking` and `Supertypes` say what each looks at, `Hierarchy`
-//! what a supertype is, and `Superinterfaces` how superinterfaces are enumerated.
+//! what a supertype is, and `Superinterfaces` how superinterfaces are enumerated. `Fields`, `Methods`,
+//! `MethodResolution` and `Selection` say which member is found, and [`members_are_looked_up_upward`] in which order.
 #![tactic(auto)]
 
 mod assembly;
 pub mod built_in;
+pub mod built_in_method;
 pub mod class;
 mod class_set;
+pub mod declared_method;
 pub mod fault;
+mod field_order;
+pub mod fields;
+pub mod laws;
 pub mod linking;
+mod lookup;
+mod member_names;
 mod members;
+pub mod methods;
 mod naming;
 mod order;
 pub mod program;
 mod quoted;
+pub mod selection;
 mod subtype;
 mod supertype_names;
 mod supertypes;
+mod tables;
 mod texts;
 pub mod value;
 
 pub use built_in::BuiltIn;
+pub use built_in_method::{BuiltInMethod, Printed};
 pub use class::{Class, ClassId};
+pub use declared_method::MethodId;
 pub use fault::{LinkFault, LinkFaultKind};
+pub use fields::{FieldId, FieldKind};
+pub use laws::members_are_looked_up_upward;
 pub use linking::link;
+pub use methods::Invoke;
 pub use program::Program;
+pub use selection::Call;
 pub use value::Value;
 
+#[cfg(test)]
+mod fault_tests;
+#[cfg(test)]
+mod field_tests;
+#[cfg(test)]
+mod method_classes;
+#[cfg(test)]
+mod method_tests;
+#[cfg(test)]
+mod selection_tests;
+#[cfg(test)]
+mod test_program;
 #[cfg(test)]
 mod tests;

@@ -3,22 +3,20 @@
 ghost use Rattle.std.specs.Prelude.{◌≡◌, ◌⊎◌, ℕ, ◌+◌, ◌<◌, ◌≤◌, Some, None, Ok, Err, IfOk, IfErr, length, slice_get, vec_len};
 ghost use Rattle.hierarchy.specs.LinkedProgram.{linked, class_names};
 ghost use Rattle.hierarchy.specs.Hierarchy.{IsAcyclic, IsInRange};
-ghost use Rattle.hierarchy.specs.Searched.{HasSupertypes};
-ghost use Rattle.hierarchy.specs.Superinterfaces.{IsTable, superinterfaces as superinterfaces_of};
+ghost use Rattle.hierarchy.specs.Tables.{AreTables};
 ghost use Rattle.hierarchy.specs.Linking.{names_of, kinds_of, classes_of, classes_from, IsFirst, IsRepeated};
 ghost use Rattle.hierarchy.specs.FirstFault.{HasNames, IsNameFault, HasNoCycle, HasDistinctMembers, FitsHeap, IsClassFault, IsFirstFault, LinksTo, IsMemory, name_in_text, name_in_class};
 ghost use Rattle.hierarchy.specs.declared.fault.LinkFaultKind.TheVariants as because;
 
 use crate::assembly::linked_classes;
 use crate::class::Class;
-use crate::class_set::ClassSet;
 use crate::fault::{LinkFault, LinkFaultKind};
 use crate::members::first_repeating;
 use crate::naming::{first_repeated, first_reserved, kinds};
-use crate::order::all_superinterfaces;
 use crate::program::Program;
 use crate::quoted::first_beyond_heap;
 use crate::supertypes::{SearchResult, search};
+use crate::tables::{Tables, tables_with};
 use crate::texts::Texts;
 use descriptors::ClassName;
 use jasmin_text::{ClassKind, ClassParts};
@@ -44,13 +42,6 @@ impl FaultAt {
 struct Directory {
     names: Texts,
     kinds: Vec<ClassKind>,
-}
-
-/// What a program keeps beside its classes.
-#[derive(Drop)]
-struct Tables {
-    supertypes: Vec<ClassSet>,
-    superinterfaces: Vec<ClassSet>,
 }
 
 /// The names and kinds of classes whose own names are without a fault.
@@ -96,8 +87,7 @@ fn tables_of(alloc: Global, classes: &[Class]) -> Result<Tables, FaultAt>
     requires few { length classes.now ≤ 1024 }
     requires in_range { IsInRange (linked classes.now) }
     ensures acyclic { IfOk result (λ made. IsAcyclic (linked classes.now)) }
-    ensures supertypes { IfOk result (λ made. HasSupertypes (linked classes.now) (length classes.now) made.supertypes.items) }
-    ensures superinterfaces { IfOk result (λ made. IsTable (superinterfaces_of (linked classes.now)) (length classes.now) made.superinterfaces.items) }
+    ensures tables { IfOk result (AreTables classes.now) }
     ensures members { IfOk result (λ made. HasDistinctMembers classes.now) }
     ensures heap { IfOk result (λ made. FitsHeap classes.now) }
     ensures within { IfErr result (λ at. at.place < length classes.now) }
@@ -113,13 +103,17 @@ fn tables_of(alloc: Global, classes: &[Class]) -> Result<Tables, FaultAt>
         }
         Err(_) => return Err(FaultAt::NO_MEMORY),
     };
-    if let Some(place) = first_repeating(classes) {
+    let Ok(repeated) = first_repeating(alloc, classes) else {
+        return Err(FaultAt::NO_MEMORY);
+    };
+    if let Some(place) = repeated {
         return Err(FaultAt {
             kind: LinkFaultKind::RepeatedMember,
             place,
         });
     }
-    let Ok(beyond) = first_beyond_heap(alloc, classes) else {
+    let mut quoted = Texts::new(alloc);
+    let Ok(beyond) = first_beyond_heap(alloc, classes, &mut quoted) else {
         return Err(FaultAt::NO_MEMORY);
     };
     if let Some(place) = beyond {
@@ -128,11 +122,8 @@ fn tables_of(alloc: Global, classes: &[Class]) -> Result<Tables, FaultAt>
             place,
         });
     }
-    match all_superinterfaces(alloc, classes) {
-        Ok(superinterfaces) => Ok(Tables {
-            supertypes,
-            superinterfaces,
-        }),
+    match tables_with(alloc, classes, supertypes, quoted) {
+        Ok(tables) => Ok(tables),
         Err(_) => Err(FaultAt::NO_MEMORY),
     }
 }
@@ -168,7 +159,7 @@ fn program_of(alloc: Global, names: Texts, classes: Vec<Class>) -> Result<Progra
     ensures fault { IfErr result (λ f. IsMemory f ⊎ ((i : ℕ) × IsClassFault classes.items f.kind i × (name_in_class (slice_get classes.items i) ≡ Some f.class))) }
 {
     match tables_of(alloc, &classes) {
-        Ok(tables) => Ok(Program::new(classes, names, tables.supertypes, tables.superinterfaces)),
+        Ok(tables) => Ok(Program::new(classes, names, tables)),
         Err(at) => Err(LinkFault {
             kind: at.kind,
             class: name_of_class(classes, at.place),

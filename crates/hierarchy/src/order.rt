@@ -6,12 +6,16 @@ ghost use Rattle.hierarchy.specs.ClassLists.{add_all};
 ghost use Rattle.hierarchy.specs.LinkedProgram.{linked};
 ghost use Rattle.hierarchy.specs.Hierarchy.{IsAcyclic, IsWithin, interfaces_of, height};
 ghost use Rattle.hierarchy.specs.Superinterfaces.{enumeration, superinterfaces as superinterfaces_of, IsClosed, IsTable};
+ghost use Rattle.hierarchy.specs.Ancestry.{superclasses};
+ghost use Rattle.hierarchy.specs.Methods.{enumeration_of_all, all_superinterfaces as inherited_by};
 
 use crate::class::{Class, ClassId};
 use crate::class_set::ClassSet;
+use crate::field_order::superclass;
 use std::alloc::{AllocError, Global};
 
-fn interfaces(classes: &[Class], id: ClassId) -> &[ClassId]
+/// The direct superinterfaces, in order.
+pub(crate) fn interfaces(classes: &[Class], id: ClassId) -> &[ClassId]
     ensures { result.now ≡ interfaces_of (linked classes.now) id }
 {
     match classes.get(id.number) {
@@ -43,17 +47,29 @@ fn enumerate(
     Ok(())
 }
 
+/// Adds the enumeration of each direct superinterface of a class.
+fn enumerate_all(classes: &[Class], id: ClassId, found: &mut ClassSet) -> Result<(), AllocError>
+    requires few { length classes.now ≤ 1024 }
+    requires acyclic { IsAcyclic (linked classes.now) }
+    requires closed { IsClosed (linked classes.now) found.old }
+    ensures found { OnOk result (found.new ≡ add_all found.old (enumeration_of_all (linked classes.now) id)) }
+    ensures closed { OnOk result (IsClosed (linked classes.now) found.new) }
+{
+    let depth = classes.len() + 66;
+    for interface in interfaces(classes, id) {
+        enumerate(classes, depth, *interface, found)?;
+    }
+    Ok(())
+}
+
 /// The superinterfaces that a class implements by itself, each once.
 fn superinterfaces(alloc: Global, classes: &[Class], id: ClassId) -> Result<ClassSet, AllocError>
     requires few { length classes.now ≤ 1024 }
     requires acyclic { IsAcyclic (linked classes.now) }
     ensures { IfOk result (λ found. found ≡ superinterfaces_of (linked classes.now) id) }
 {
-    let depth = classes.len() + 66;
     let mut found = ClassSet::new(alloc);
-    for interface in interfaces(classes, id) {
-        enumerate(classes, depth, *interface, &mut found)?;
-    }
+    enumerate_all(classes, id, &mut found)?;
     Ok(found)
 }
 
@@ -69,6 +85,54 @@ pub(crate) fn all_superinterfaces(
     let mut all = Vec::new(alloc);
     for number in 0..classes.len() {
         all.push(superinterfaces(alloc, classes, ClassId { number })?)?;
+    }
+    Ok(all)
+}
+
+/// Adds the superinterfaces of a class and then of its superclasses.
+fn enumerate_upward(
+    classes: &[Class],
+    depth: usize,
+    id: ClassId,
+    found: &mut ClassSet,
+) -> Result<(), AllocError>
+    requires few { length classes.now ≤ 1024 }
+    requires acyclic { IsAcyclic (linked classes.now) }
+    requires within { IsWithin depth (linked classes.now) id }
+    requires closed { IsClosed (linked classes.now) found.old }
+    ensures { OnOk result (found.new ≡ add_all found.old (flat_map (enumeration_of_all (linked classes.now)) (superclasses (linked classes.now) id))) }
+{
+    enumerate_all(classes, id, found)?;
+    match superclass(classes, id) {
+        Some(superclass) => {
+            enumerate_upward(classes, depth - 1, superclass, found)?;
+            Ok(())
+        }
+        None => Ok(()),
+    }
+}
+
+/// The superinterfaces of a class, direct and indirect, each once.
+fn inherited(alloc: Global, classes: &[Class], id: ClassId) -> Result<ClassSet, AllocError>
+    requires few { length classes.now ≤ 1024 }
+    requires acyclic { IsAcyclic (linked classes.now) }
+    ensures { IfOk result (λ found. found ≡ inherited_by (linked classes.now) id) }
+{
+    let depth = classes.len() + 66;
+    let mut found = ClassSet::new(alloc);
+    enumerate_upward(classes, depth, id, &mut found)?;
+    Ok(found)
+}
+
+/// The superinterfaces of each class, direct and indirect, in file order.
+pub(crate) fn all_inherited(alloc: Global, classes: &[Class]) -> Result<Vec<ClassSet>, AllocError>
+    requires few { length classes.now ≤ 1024 }
+    requires acyclic { IsAcyclic (linked classes.now) }
+    ensures { IfOk result (λ all. IsTable (inherited_by (linked classes.now)) (length classes.now) all.items) }
+{
+    let mut all = Vec::new(alloc);
+    for number in 0..classes.len() {
+        all.push(inherited(alloc, classes, ClassId { number })?)?;
     }
     Ok(all)
 }

@@ -1,9 +1,9 @@
 //! The quoted texts of a program, which take a cell of the heap each.
 
-ghost use Rattle.std.specs.Prelude.{◌≡◌, ℕ, OnOk, IfOk, IfSome, IfNone};
+ghost use Rattle.std.specs.Prelude.{◌≡◌, ℕ, ◌≤◌, [], OnOk, IfOk, IfSome, IfNone};
 ghost use Rattle.std.specs.List.{flat_map};
 ghost use Rattle.hierarchy.specs.Linking.{IsFirst};
-ghost use Rattle.hierarchy.specs.Quoted.{note_all, text_of, texts_of_field, texts_of_instruction, texts_of_method, quoted_in, FillsHeap};
+ghost use Rattle.hierarchy.specs.Quoted.{note_all, text_of, texts_of_field, texts_of_instruction, texts_of_method, quoted_in, quoted_texts, cells_of, FillsHeap};
 
 use crate::class::Class;
 use crate::texts::Texts;
@@ -14,7 +14,7 @@ use std::alloc::{AllocError, Global};
 const HEAP_CELLS: usize = 1_000_000;
 
 /// How many objects are ready from the start: System.out, an OutOfMemoryError and a NoClassDefFoundError.
-const READY_OBJECTS: usize = 3;
+pub(crate) const READY_OBJECTS: usize = 3;
 
 fn note_constant(alloc: Global, constant: &Constant, noted: &mut Texts) -> Result<(), AllocError>
     ensures { OnOk result (noted.new ≡ note_all noted.old (text_of constant.now)) }
@@ -105,17 +105,21 @@ fn note_class(alloc: Global, class: &Class, noted: &mut Texts) -> Result<(), All
     Ok(())
 }
 
-/// The first class whose quoted texts, with those before it, are more than the heap holds.
+/// Notes the quoted texts of all classes, and answers the first class whose texts, with those before it, are more
+/// than the heap holds.
 pub(crate) fn first_beyond_heap(
     alloc: Global,
     classes: &[Class],
+    noted: &mut Texts,
 ) -> Result<Option<usize>, AllocError>
+    requires { noted.old ≡ [] }
     ensures beyond { IfOk result (λ found. IfSome found (IsFirst (FillsHeap classes.now))) }
     ensures within { IfOk result (λ found. IfNone found ((i : ℕ) → FillsHeap classes.now i → ⊥)) }
+    ensures noted { IfOk result (λ found. IfNone found (noted.new ≡ quoted_texts classes.now)) }
+    ensures cells { IfOk result (λ found. IfNone found (cells_of classes.now ≤ 1000000)) }
 {
-    let mut noted = Texts::new(alloc);
     for (place, class) in classes.iter().enumerate() {
-        note_class(alloc, class, &mut noted)?;
+        note_class(alloc, class, noted)?;
         if noted.len() > HEAP_CELLS - READY_OBJECTS {
             return Ok(Some(place));
         }

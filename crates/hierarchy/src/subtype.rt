@@ -26,7 +26,7 @@ fn is_built_in_below(classes: &[Class], class: BuiltIn, other: ClassId) -> bool
 }
 
 /// The list of the class at that place.
-fn list_at(lists: &[ClassSet], place: usize) -> Option<&ClassSet>
+pub(crate) fn list_at(lists: &[ClassSet], place: usize) -> Option<&ClassSet>
     ensures { option_copied result ≡ slice_get lists.now place }
 {
     lists.get(place)

@@ -1,6 +1,6 @@
 -- Each event of a thread leads on. Outer says what may stand before a request from outside of any class, and Idle
 -- what stands where no class is open.
-use Rattle.std.proofs.Common.{◌≡◌, ℕ, List, [], ◌∷◌, ◌++◌, Option, Some, None, Bool, true, false, refl, sym, subst, append-nil, append_assoc, inr}
+use Rattle.std.proofs.Common.{◌≡◌, ℕ, List, [], ◌∷◌, ◌++◌, Option, Some, None, Bool, true, false, refl, sym, subst, append-nil, append_assoc}
 use Rattle.hierarchy.specs.declared.class.ClassId.{ClassId}
 use Rattle.hierarchy.specs.declared.built_in.BuiltIn.TheVariants.{OutOfMemoryError}
 use Rattle.hierarchy.specs.LinkedProgram.{LinkedProgram, built_in}
@@ -25,7 +25,7 @@ use Rattle.init_core.specs.Decisions.{event, entered}
 use Rattle.init_core.specs.ProcedureWord.{ProcedureWord, word, AfterWait, recurs, finds_initialized, finds_erroneous, gives_up, completes, fails, is_ended, need_fails, need_is_ended, lacks_memory, Begun, begins, and_then, Items, no_items, requests, uses, prints, Body, stops, stops_ended, wait, completed, given_up, ended_by, GoesOn, IsUse, IsMachineError, printed}
 use Rattle.init_core.specs.Standing.{Standing}
 use Rattle.init_core.specs.Leads.{frame, standing, kind_of_ending, outcome_of, Before, outermost, needed, used, Leads, idle, looking, not_run, running, ending_by}
-use Rattle.init_core.specs.Advance.{advanced, advanced_in, asked, events_of, events_in, Fits, FitsIn, FitsBody, started, started_frames, started_phase, decided, after_word, after_in, after_needs, IsAtBody, ending_of, is_given_up}
+use Rattle.init_core.specs.Advance.{advanced, advanced_in, asked, events_of, events_in, Fits, FitsIn, FitsBody, decided, after_word, after_needs, IsAtBody, ending_of, is_given_up}
 
 module _ (p : LinkedProgram) (t : ℕ) (Outer : ClassId → List Event → Type 0) (Idle : Option Completed → List Event → Type 0)
     (goes : (c : ClassId) (xs w : List Event) (r : Outcome) → Outer c xs → ProcedureWord p t c w r → Idle (Some (completed c r)) (xs ++ w)) where

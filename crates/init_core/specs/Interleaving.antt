@@ -2,6 +2,7 @@
 use Rattle.std.specs.Prelude.{◌≡◌, ℕ, zero, suc, ◌+◌, ◌==◌, length, List, [], ◌∷◌, ◌++◌, Option, Some, None, Bool, false, filter, slice_get, MatchOption}
 use Rattle.hierarchy.specs.declared.class.ClassId.{ClassId}
 use Rattle.hierarchy.specs.LinkedProgram.{LinkedProgram, id}
+use Rattle.statics.specs.Statics.{statics_of}
 use Rattle.init_core.specs.declared.event.Event.{Event}
 use Rattle.init_core.specs.Label.{label_of}
 use Rattle.init_core.specs.Lawful.{IsLawful}
@@ -24,7 +25,7 @@ of_class c events = filter (λ e. is_class c e.class) events
 -- thread does anything, and the history of each class is lawful.
 pub record IsLegal (p : LinkedProgram) (mains : List ClassId) (events : List Event) : Type 0 where
   pub threads : (t : ℕ) → MatchOption (slice_get mains t) (of_thread t events ≡ []) (λ m. ThreadWord p t m (of_thread t events))
-  pub classes : (c : ClassId) → IsLawful (of_class c events)
+  pub classes : (c : ClassId) → IsLawful (statics_of p c) (of_class c events)
 
 -- a beginning of a legal interleaving
 abbrev pub BeginsLegal : LinkedProgram → List ClassId → List Event → Type 0

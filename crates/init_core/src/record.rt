@@ -1,20 +1,24 @@
 //! What is known of one class's initialization.
 
-ghost use Rattle.std.specs.Prelude.{◌≡◌, ℕ, ◌<◌, ◌≤◌, ◌+◌, ◌++◌, ◌∷◌, [], IfOk, OnOk, OnErr, true, false, vec_len, vec_capacity};
+ghost use Rattle.std.specs.Prelude.{◌≡◌, ℕ, ◌<◌, ◌≤◌, ◌+◌, ◌++◌, ◌∷◌, [], Some, IfOk, OnOk, OnErr, true, false, length, vec_len, vec_capacity};
 ghost use Rattle.init_core.specs.Label.{label_of, failure_of, owner_of};
 ghost use Rattle.init_core.specs.Decisions.{Decides, entered, event, kind_of, waits, is_wait};
-ghost use Rattle.init_core.specs.Lawful.{IsLawful};
+ghost use Rattle.statics.specs.Statics.{statics_of, kept_by};
+ghost use Rattle.init_core.specs.Lawful.{IsLawful, IsOpenTo};
+ghost use Rattle.init_core.specs.StaticValue.{value_of};
 ghost use Rattle.init_core.specs.History.{room_in};
 ghost use Rattle.init_core.specs.declared.event.Label.TheVariants as label;
 ghost use Rattle.init_core.specs.declared.event.Decision.TheVariants as decision;
 ghost use Rattle.init_core.specs.declared.event.Kind.TheVariants as kind;
 
 use crate::event::{Decision, Event, Kind, Label};
-use hierarchy::ClassId;
+use hierarchy::{ClassId, Program, Value};
+use statics::{Bank, narrowed};
 use std::alloc::{AllocError, Global};
 use std::marker::Model;
 
-/// The record of one class: label, owner and failure are always those of its history, which is lawful.
+/// The record of one class: label, owner, failure and what its static fields hold are always those of its history,
+/// which is lawful.
 ///
 /// While the class is in progress, room is kept for the event that ends it.
 #[derive(Debug, Drop)]
@@ -23,6 +27,7 @@ pub struct ClassRecord {
     label: Label,
     failure: Option<ClassId>,
     history: Vec<Event>,
+    bank: Bank,
 }
 
 impl Model for ClassRecord {
@@ -33,24 +38,29 @@ impl Model for ClassRecord {
 
     ghost use Rattle.init_core.specs.Keeps.{IsOfItsHistory};
 
-    ghost view = { λ r. record { class = r.class; events = r.history.items; room = room_in r.label; spare = vec_capacity r.history - vec_len r.history } };
+    ghost view = { λ r. record { class = r.class; fields = r.bank.fields; events = r.history.items; room = room_in r.label; spare = vec_capacity r.history - vec_len r.history } };
 
     ghost invariant = { IsOfItsHistory };
 }
 
 impl ClassRecord {
-    /// The record of a class that is prepared: no events yet. Takes no memory.
-    pub fn new(alloc: Global, class: ClassId) -> Self
-        ensures class { result.class ≡ class }
-        ensures events { result.events ≡ [] }
-        ensures room { result.room ≡ 0 }
+    /// The record of a class of this program that is prepared: no events yet.
+    ///
+    /// An `Err` is want of memory.
+    pub fn new(alloc: Global, program: &Program, class: ClassId) -> Result<Self, AllocError>
+        ensures class { IfOk result (λ made. made.class ≡ class) }
+        ensures fields { IfOk result (λ made. made.fields ≡ statics_of program.now class) }
+        ensures events { IfOk result (λ made. made.events ≡ []) }
+        ensures room { IfOk result (λ made. made.room ≡ 0) }
     {
-        ClassRecord {
+        let bank = Bank::prepared(alloc, program, class)?;
+        Ok(ClassRecord {
             class,
             label: Label::Prepared,
             failure: None,
             history: Vec::new(alloc),
-        }
+            bank,
+        })
     }
 
     /// The class that this is the record of.
@@ -58,6 +68,21 @@ impl ClassRecord {
         ensures { result ≡ self.now.class }
     {
         self.class
+    }
+
+    /// How many static fields the class has.
+    pub fn static_fields(&self) -> usize
+        ensures { result ≡ length self.now.fields }
+    {
+        self.bank.len()
+    }
+
+    /// What a static field holds, by its place among those of the class. It is no read: it adds no event.
+    pub fn value(&self, place: usize) -> Value
+        requires { place < length self.now.fields }
+        ensures { value_of self.now.fields place self.now.events ≡ Some result }
+    {
+        self.bank.get(place)
     }
 
     /// What stands of the class.
@@ -87,7 +112,7 @@ impl ClassRecord {
     /// The events of the class, in order.
     pub fn history(&self) -> &[Event]
         ensures events { result.now ≡ self.now.events }
-        ensures lawful { IsLawful self.now.events }
+        ensures lawful { IsLawful self.now.fields self.now.events }
         ensures room { self.now.room ≡ room_in (label_of self.now.events) }
     {
         self.history.as_slice()
@@ -98,6 +123,7 @@ impl ClassRecord {
     /// An `Err` is want of memory and changes nothing.
     pub fn reserve(&mut self) -> Result<(), AllocError>
         ensures class { self.new.class ≡ self.old.class }
+        ensures fields { self.new.fields ≡ self.old.fields }
         ensures events { self.new.events ≡ self.old.events }
         ensures room { self.new.room ≡ self.old.room }
         ensures spare { OnOk result (2 ≤ self.new.spare) }
@@ -111,9 +137,10 @@ impl ClassRecord {
     /// the decision of that name; a wait that isn't the first of its request adds none.
     ///
     /// An `Err` is want of memory and changes nothing.
-    #[tactic(auto, using(crate::proofs::Labels::steps))]
+    #[tactic(auto, using(crate::proofs::Labels::steps, crate::proofs::Values::values))]
     pub fn enter(&mut self, thread: usize) -> Result<Decision, AllocError>
         ensures class { self.new.class ≡ self.old.class }
+        ensures fields { self.new.fields ≡ self.old.fields }
         ensures decision { IfOk result (λ d. Decides (label_of self.old.events) thread d) }
         ensures events { IfOk result (λ d. self.new.events ≡ self.old.events ++ entered thread self.old.class d) }
         ensures again { IfOk result (λ d. (d ≡ decision.Wait false) → (waits thread self.old.events ≡ true)) }
@@ -137,15 +164,80 @@ impl ClassRecord {
         });
         if let Decision::Begin = decision {
             self.label = Label::InProgress(thread);
+            self.bank.constants();
         }
         Ok(decision)
     }
 
+    /// Reads a static field, by its place among those of the class, and adds the read. The class is initialized, or
+    /// in progress by this thread.
+    ///
+    /// An `Err` is want of memory and changes nothing.
+    #[tactic(auto, using(crate::proofs::Labels::steps, crate::proofs::Values::values))]
+    pub fn read_static(&mut self, thread: usize, place: usize) -> Result<Value, AllocError>
+        requires open { IsOpenTo thread (label_of self.old.events) }
+        requires field { place < length self.old.fields }
+        ensures class { self.new.class ≡ self.old.class }
+        ensures fields { self.new.fields ≡ self.old.fields }
+        ensures value { IfOk result (λ value. value_of self.old.fields place self.old.events ≡ Some value) }
+        ensures events { IfOk result (λ value. self.new.events ≡ self.old.events ++ event thread self.old.class (kind.Gets place value) ∷ []) }
+        ensures err { OnErr result (self.new ≡ self.old) }
+        ensures memory { OnErr result (self.old.spare < 2) }
+    {
+        let value = self.bank.get(place);
+        let history = &mut self.history;
+        history.reserve(2)?;
+        history.push_reserved(Event {
+            thread,
+            class: Some(self.class),
+            kind: Kind::Gets {
+                field: place,
+                value,
+            },
+        });
+        Ok(value)
+    }
+
+    /// Writes a static field, by its place among those of the class, and adds the write, of the value as the field
+    /// keeps it. The class is initialized, or in progress by this thread.
+    ///
+    /// An `Err` is want of memory and changes nothing.
+    #[tactic(auto, using(crate::proofs::Labels::steps, crate::proofs::Values::values))]
+    pub fn write_static(
+        &mut self,
+        thread: usize,
+        place: usize,
+        value: Value,
+    ) -> Result<(), AllocError>
+        requires open { IsOpenTo thread (label_of self.old.events) }
+        requires field { place < length self.old.fields }
+        ensures class { self.new.class ≡ self.old.class }
+        ensures fields { self.new.fields ≡ self.old.fields }
+        ensures events { OnOk result (self.new.events ≡ self.old.events ++ event thread self.old.class (kind.Puts place (kept_by self.old.fields place value)) ∷ []) }
+        ensures err { OnErr result (self.new ≡ self.old) }
+        ensures memory { OnErr result (self.old.spare < 2) }
+    {
+        let kept = narrowed(self.bank.field(place).base, value);
+        let history = &mut self.history;
+        history.reserve(2)?;
+        history.push_reserved(Event {
+            thread,
+            class: Some(self.class),
+            kind: Kind::Puts {
+                field: place,
+                value: kept,
+            },
+        });
+        self.bank.put(place, kept);
+        Ok(())
+    }
+
     /// Step 10: the class is initialized. Takes no memory.
-    #[tactic(auto, using(crate::proofs::Labels::steps))]
+    #[tactic(auto, using(crate::proofs::Labels::steps, crate::proofs::Values::values))]
     pub fn complete(&mut self, thread: usize)
         requires { label_of self.old.events ≡ label.InProgress thread }
         ensures class { self.new.class ≡ self.old.class }
+        ensures fields { self.new.fields ≡ self.old.fields }
         ensures events { self.new.events ≡ self.old.events ++ event thread self.old.class kind.Completes ∷ [] }
     {
         self.history.push_reserved(Event {
@@ -158,10 +250,11 @@ impl ClassRecord {
 
     /// Step 12: the class is erroneous, since its own initializer completed abruptly; `throwable` is what
     /// step 11 left. Takes no memory.
-    #[tactic(auto, using(crate::proofs::Labels::steps))]
+    #[tactic(auto, using(crate::proofs::Labels::steps, crate::proofs::Values::values))]
     pub fn fail(&mut self, thread: usize, throwable: ClassId)
         requires { label_of self.old.events ≡ label.InProgress thread }
         ensures class { self.new.class ≡ self.old.class }
+        ensures fields { self.new.fields ≡ self.old.fields }
         ensures events { self.new.events ≡ self.old.events ++ event thread self.old.class (kind.Fails throwable) ∷ [] }
     {
         self.history.push_reserved(Event {
@@ -175,10 +268,11 @@ impl ClassRecord {
 
     /// Step 7: the class is erroneous, since the initialization of what it needs completed abruptly with
     /// `throwable`. Takes no memory.
-    #[tactic(auto, using(crate::proofs::Labels::steps))]
+    #[tactic(auto, using(crate::proofs::Labels::steps, crate::proofs::Values::values))]
     pub fn super_failed(&mut self, thread: usize, throwable: ClassId)
         requires { label_of self.old.events ≡ label.InProgress thread }
         ensures class { self.new.class ≡ self.old.class }
+        ensures fields { self.new.fields ≡ self.old.fields }
         ensures events { self.new.events ≡ self.old.events ++ event thread self.old.class (kind.SuperFails throwable) ∷ [] }
     {
         self.history.push_reserved(Event {

@@ -8,6 +8,7 @@ use hierarchy::{BuiltIn, ClassId, Program, link};
 use jasmin_text::{Access, ClassKind, ClassParts};
 use sequence::{Sequence, Text};
 use std::alloc::{AllocError, Global};
+use std::process::Abort;
 use std::test::Fail;
 
 const CLASS: ClassId = ClassId { number: 0 };
@@ -48,9 +49,7 @@ fn event(thread: usize, kind: Kind) -> Event {
     }
 }
 
-#[test]
-fn completes_for_all_threads(rt: HostRuntime) -> Result<(), Fail> {
-    let mut record = ClassRecord::new(rt.alloc(), CLASS);
+fn completes(rt: &impl Abort, record: &mut ClassRecord) -> Result<(), Fail> {
     assert_eq!(rt; record.label(), Label::Prepared);
     assert_eq!(rt; record.class(), CLASS);
     assert_eq!(rt; record.enter(0)?, Decision::Begin);
@@ -79,45 +78,52 @@ fn completes_for_all_threads(rt: HostRuntime) -> Result<(), Fail> {
 }
 
 #[test]
-fn fails_for_all_threads(rt: HostRuntime) -> Result<(), Fail> {
-    for by_super in [false, true] {
-        let mut record = ClassRecord::new(rt.alloc(), CLASS);
-        assert_eq!(rt; record.enter(3)?, Decision::Begin);
-        let Label::InProgress(3) = record.label() else {
-            return Ok(());
-        };
-        if by_super {
-            record.super_failed(3, ERROR);
-        } else {
-            record.fail(3, ERROR);
-        }
-        assert_eq!(rt; record.label(), Label::Erroneous);
-        assert_eq!(rt; record.failure(), Some(ERROR));
-        assert_eq!(rt; record.enter(3)?, Decision::Refused);
-        assert_eq!(rt; record.enter(0)?, Decision::Refused);
-        assert_eq!(rt; record.history().len(), 4);
+fn completes_for_all_threads(rt: HostRuntime) -> Result<(), Fail> {
+    let program = solo(rt.alloc())?.ok_or("no program")?;
+    let mut record = ClassRecord::new(rt.alloc(), &program, CLASS)?;
+    completes(&rt, &mut record)
+}
+
+fn fails(rt: &impl Abort, record: &mut ClassRecord, by_super: bool) -> Result<(), Fail> {
+    assert_eq!(rt; record.enter(3)?, Decision::Begin);
+    let Label::InProgress(3) = record.label() else {
+        return Ok(());
+    };
+    if by_super {
+        record.super_failed(3, ERROR);
+    } else {
+        record.fail(3, ERROR);
     }
+    assert_eq!(rt; record.label(), Label::Erroneous);
+    assert_eq!(rt; record.failure(), Some(ERROR));
+    assert_eq!(rt; record.enter(3)?, Decision::Refused);
+    assert_eq!(rt; record.enter(0)?, Decision::Refused);
+    assert_eq!(rt; record.history().len(), 4);
     Ok(())
 }
 
 #[test]
-fn steps_of_one_class(rt: HostRuntime) -> Result<(), Fail> {
-    let alloc = rt.alloc();
-    let Some(program) = solo(alloc)? else {
-        assert!(rt; false);
-        return Ok(());
-    };
+fn fails_for_all_threads(rt: HostRuntime) -> Result<(), Fail> {
+    let program = solo(rt.alloc())?.ok_or("no program")?;
+    for by_super in [false, true] {
+        let mut record = ClassRecord::new(rt.alloc(), &program, CLASS)?;
+        fails(&rt, &mut record, by_super)?;
+    }
+    Ok(())
+}
+
+fn refuses(rt: &impl Abort, alloc: Global, program: &Program) -> Result<(), Fail> {
     let mut procedure = Procedure::new(alloc);
     assert_eq!(rt; procedure.next(), Next::Idle);
     procedure.request(CLASS)?;
     assert_eq!(rt; procedure.next(), Next::Look(CLASS));
     let next = procedure.advance(
         alloc,
-        &program,
+        program,
         Answer::Decided(Decision::Wait { first: true }),
     )?;
     assert_eq!(rt; next, Next::Look(CLASS));
-    let next = procedure.advance(alloc, &program, Answer::Decided(Decision::Refused))?;
+    let next = procedure.advance(alloc, program, Answer::Decided(Decision::Refused))?;
     assert_eq!(rt; next, Next::Idle);
     let refused = Outcome::Abrupt(program.built_in(BuiltIn::NoClassDefFoundError));
     assert_eq!(rt;
@@ -131,18 +137,18 @@ fn steps_of_one_class(rt: HostRuntime) -> Result<(), Fail> {
 }
 
 #[test]
-fn gives_up_behind_step_six(rt: HostRuntime) -> Result<(), Fail> {
-    let alloc = rt.alloc();
-    let Some(program) = solo(alloc)? else {
-        assert!(rt; false);
-        return Ok(());
-    };
-    let error = program.built_in(BuiltIn::OutOfMemoryError);
+fn steps_of_one_class(rt: HostRuntime) -> Result<(), Fail> {
+    let program = solo(rt.alloc())?.ok_or("no program")?;
+    refuses(&rt, rt.alloc(), &program)
+}
+
+fn gives_up(rt: &impl Abort, alloc: Global, program: &Program) -> Result<(), Fail> {
     let mut procedure = Procedure::new(alloc);
+    let error = program.built_in(BuiltIn::OutOfMemoryError);
     procedure.request(CLASS)?;
-    let next = procedure.advance(alloc, &program, Answer::GaveUp { error, begun: true })?;
+    let next = procedure.advance(alloc, program, Answer::GaveUp { error, begun: true })?;
     assert_eq!(rt; next, Next::End(CLASS, Ending::SuperFails(error)));
-    let next = procedure.advance(alloc, &program, Answer::Ended)?;
+    let next = procedure.advance(alloc, program, Answer::Ended)?;
     assert_eq!(rt; next, Next::Idle);
     let ended = Completed {
         class: CLASS,
@@ -153,29 +159,44 @@ fn gives_up_behind_step_six(rt: HostRuntime) -> Result<(), Fail> {
 }
 
 #[test]
-fn a_body_by_itself(rt: HostRuntime) -> Result<(), Fail> {
-    let alloc = rt.alloc();
-    let Some(program) = solo(alloc)? else {
-        assert!(rt; false);
-        return Ok(());
-    };
-    let mut record = ClassRecord::new(alloc, CLASS);
+fn gives_up_behind_step_six(rt: HostRuntime) -> Result<(), Fail> {
+    let program = solo(rt.alloc())?.ok_or("no program")?;
+    gives_up(&rt, rt.alloc(), &program)
+}
+
+fn begins(rt: &impl Abort, record: &mut ClassRecord) -> Result<(), Fail> {
     record.reserve()?;
     assert_eq!(rt; record.enter(0)?.kind(), Kind::Begins);
+    Ok(())
+}
+
+fn runs_a_body(rt: &impl Abort, alloc: Global, program: &Program) -> Result<(), Fail> {
     let mut procedure = Procedure::new(alloc);
     procedure.request(CLASS)?;
-    let next = procedure.advance(alloc, &program, Answer::Decided(Decision::Begin))?;
+    let next = procedure.advance(alloc, program, Answer::Decided(Decision::Begin))?;
     assert_eq!(rt; next, Next::Body(CLASS));
     assert!(rt; !procedure.is_running());
     if !procedure.is_running() {
         procedure.run_body();
     }
     assert!(rt; procedure.is_running());
-    let mut thrown = Procedure::new(alloc);
-    thrown.request(CLASS)?;
-    thrown.end_body(Some(ERROR));
-    assert_eq!(rt; thrown.next(), Next::End(CLASS, Ending::Fails(ERROR)));
     Ok(())
+}
+
+fn throws(rt: &impl Abort, alloc: Global) -> Result<(), Fail> {
+    let mut procedure = Procedure::new(alloc);
+    procedure.request(CLASS)?;
+    procedure.end_body(Some(ERROR));
+    assert_eq!(rt; procedure.next(), Next::End(CLASS, Ending::Fails(ERROR)));
+    Ok(())
+}
+
+#[test]
+fn a_body_by_itself(rt: HostRuntime) -> Result<(), Fail> {
+    let program = solo(rt.alloc())?.ok_or("no program")?;
+    begins(&rt, &mut ClassRecord::new(rt.alloc(), &program, CLASS)?)?;
+    runs_a_body(&rt, rt.alloc(), &program)?;
+    throws(&rt, rt.alloc())
 }
 
 #[test]

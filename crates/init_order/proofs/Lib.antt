@@ -1,1 +1,2 @@
 pub mod NeedsByKind
+pub mod NeedsAbove

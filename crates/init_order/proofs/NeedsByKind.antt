@@ -1,14 +1,13 @@
 -- What each kind of class needs.
-use Rattle.std.proofs.Common.{◌≡◌, ℕ, Bool, true, false, cond, Option, Some, None, List, [], ◌∷◌, ◌++◌, length, refl, sym, ap, ◌∙◌, inl, inr}
+use Rattle.std.proofs.Common.{◌≡◌, Bool, Some, None, List, [], ◌∷◌, refl, sym, ap, ◌∙◌, inl, inr}
 use Rattle.std.proofs.lemmas.Bool.{cases_Bool}
-use Rattle.std.specs.Prelude.{filter, nat_lt}
+use Rattle.std.specs.Prelude.{filter}
 use Rattle.std.specs.List.{flat_map}
-use Rattle.jasmin_text.specs.declared.class_text.ClassKind.{ClassKind}
 use Rattle.jasmin_text.specs.declared.class_text.ClassKind.TheVariants as kind
 use Rattle.hierarchy.specs.declared.class.Class.{Class}
 use Rattle.hierarchy.specs.declared.class.ClassId.{ClassId}
 use Rattle.hierarchy.specs.LinkedProgram.{LinkedProgram, class_at}
-use Rattle.hierarchy.specs.ClassLists.{distinct, add_all, add_new}
+use Rattle.hierarchy.specs.ClassLists.{add_all, add_new}
 use Rattle.hierarchy.specs.Hierarchy.{interfaces_of}
 use Rattle.hierarchy.specs.Superinterfaces.{enumeration, superinterfaces}
 use Rattle.hierarchy.proofs.ClassMembership.{filter-add_all}

@@ -2,7 +2,7 @@
 pub use Rattle.hierarchy.specs.ClassLists.{is_among, add_new}
 pub use Rattle.hierarchy.specs.Hierarchy.{interfaces_in, interfaces_of}
 pub use Rattle.hierarchy.specs.Superinterfaces.{enumeration_within, enumeration}
-use Rattle.std.specs.Prelude.{ℕ, Bool, false, nat_lt, List, [], ◌∷◌, ◌++◌, Option, Some, None, length, if◌then◌else◌}
+use Rattle.std.specs.Prelude.{Bool, false, nat_lt, List, [], ◌∷◌, Option, Some, None, length, if◌then◌else◌}
 use Rattle.std.specs.List.{flat_map}
 use Rattle.jasmin_text.specs.declared.class_text.ClassKind.{ClassKind}
 use Rattle.jasmin_text.specs.declared.class_text.ClassKind.TheVariants as kind

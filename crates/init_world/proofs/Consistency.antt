@@ -8,6 +8,8 @@ use Rattle.std.proofs.lemmas.List.Elements.{filter-append}
 use Rattle.std.specs.List.{list_any}
 use Rattle.hierarchy.specs.declared.class.ClassId.{ClassId}
 use Rattle.hierarchy.specs.LinkedProgram.{LinkedProgram, id}
+use Rattle.statics.specs.declared.static_field.StaticField.{StaticField}
+use Rattle.statics.specs.Statics.{statics_of}
 use Rattle.init_core.specs.declared.event.Event.{Event}
 use Rattle.init_core.specs.declared.event.Kind.{Kind}
 use Rattle.init_core.specs.declared.event.Kind.TheVariants as kind
@@ -18,11 +20,12 @@ use Rattle.init_core.specs.Decisions.{event}
 use Rattle.init_core.specs.History.{History}
 use Rattle.init_core.specs.Interleaving.{of_thread, of_class, is_class}
 use Rattle.init_core.specs.Label.{label_of}
-use Rattle.init_core.specs.Lawful.{IsLawful, IsLawfulAfter}
+use Rattle.init_core.specs.Lawful.{AgreesWithLabels, AgreesAfter, Holds, IsLawful}
 use Rattle.init_core.specs.Leads.{LeadsTo, idle as no_class_open}
 use Rattle.init_core.specs.ProcedureWord.{no_items}
 use Rattle.init_core.specs.Standing.{Standing}
-use Rattle.init_core.proofs.Labels.{label_after, lawful_push}
+use Rattle.init_core.proofs.Labels.{label_after}
+use Rattle.init_core.proofs.Values.{lawful_more}
 use Rattle.init_world.specs.Consistent.{StandsAfter, IsRecordOf, IsConsistent}
 use Rattle.init_world.specs.OpenClasses.{is_run, is_run_kind}
 use Rattle.init_world.specs.WorldState.{idle, is_kept, after_body_of}
@@ -33,20 +36,35 @@ use Rattle.init_world.proofs.Threads.{IsStep, stands_on, stands_by}
 use Rattle.init_world.proofs.Turning.{body_stands, body_advanced}
 
 -- a lawful history of a prepared class has no step 9
-prepared_after : (before ys : List Event) → IsLawfulAfter before ys → label_of (before ++ ys) ≡ Prepared → (label_of before ≡ Prepared) × (list_any is_run ys ≡ false)
+prepared_after : (before ys : List Event) → AgreesAfter before ys → label_of (before ++ ys) ≡ Prepared → (label_of before ≡ Prepared) × (list_any is_run ys ≡ false)
 prepared_after before [] h e = (rw append-nil at e, refl)
 prepared_after before (y ∷ ys) h e =
     let r : (label_of (before ++ y ∷ []) ≡ Prepared) × (list_any is_run ys ≡ false) = prepared_after (before ++ y ∷ []) ys h.1 (simp append_assoc e) in
     let n = prepared_next (label_of before) y.thread y.kind h.0 (sym (label_after before y h.0) ∙ r.0) in
     (n.0, rw (n.1, r.1) refl)
 
-pub prepared_not_run : (events : List Event) → ((c : ClassId) → IsLawful (of_class c events)) → PreparedHasNotRun events
+pub prepared_not_run : (events : List Event) → ((c : ClassId) → AgreesWithLabels (of_class c events)) → PreparedHasNotRun events
 prepared_not_run events lawful d e = (prepared_after [] (of_class d events) (lawful d) e).1
 
 -- one more event that its class's label allows
-lawful_more_by : (events : List Event) (e : Event) (c : ClassId) (b : Bool) → is_class c e.class ≡ b → Agrees events e → IsLawful (of_class c events) → IsLawful (of_class c (events ++ e ∷ []))
-lawful_more_by events e c true q ok h = rw (one_more events e c q) (lawful_push (of_class c events) e h (ok c (class_is c e.class q)))
-lawful_more_by events e c false q ok h = rw (no_more events e c q) h
+lawful_more_by : (fields : List StaticField) (events : List Event) (e : Event) (c : ClassId) (b : Bool) → is_class c e.class ≡ b → Agrees events e → ((before : List Event) → Holds fields before e.kind) → IsLawful fields (of_class c events) → IsLawful fields (of_class c (events ++ e ∷ []))
+lawful_more_by fields events e c true q ok holds h = rw (one_more events e c q) (lawful_more fields (of_class c events) e h (ok c (class_is c e.class q)) (holds (of_class c events)))
+lawful_more_by fields events e c false q ok holds h = rw (no_more events e c q) h
+
+-- a step reads and writes no field
+step_holds : (fields : List StaticField) (before : List Event) (k : Kind) → IsStep k → Holds fields before k
+step_holds fields before kind.Waits i = tt
+step_holds fields before kind.Recurs i = tt
+step_holds fields before kind.FindsInitialized i = tt
+step_holds fields before kind.FindsErroneous i = tt
+step_holds fields before kind.Begins i = tt
+step_holds fields before (kind.SuperFails e) i = tt
+step_holds fields before kind.Runs i = tt
+step_holds fields before kind.Completes i = tt
+step_holds fields before (kind.Fails e) i = tt
+step_holds fields before (kind.Gets place value) i = absurd i
+step_holds fields before (kind.Puts place value) i = absurd i
+step_holds fields before (kind.Prints text) i = tt
 
 set_thread : (p : LinkedProgram) (threads : List Standing) (events : List Event) (t : ℕ) (s : Standing) → t < length threads → StandsAfter p t s events → ((u : ℕ) → u < length threads → u ≢ t → StandsAfter p u (slice_index_or threads u idle) events) →
     (u : ℕ) → u < length (slice_set threads t s) → StandsAfter p u (slice_index_or (slice_set threads t s) u idle) events
@@ -128,11 +146,11 @@ pub stepped : (p : LinkedProgram) (threads : List Standing) (records after : Lis
 stepped p threads records after events t s m c k within at step i ok leads count each w =
     let same : slice_index_or threads t idle ≡ s = get_or_default threads t idle s within ∙ sym at in
     let st : StandsAfter p t s events = subst (λ (x : Standing). StandsAfter p t x events) same (w.stands t within) in
-    let new : StandsAfter p t m (events ++ event t c k ∷ []) = stands_on p t s m events (event t c k) step refl i ok (prepared_not_run events w.lawful) st leads in
+    let new : StandsAfter p t m (events ++ event t c k ∷ []) = stands_on p t s m events (event t c k) step refl i ok (prepared_not_run events (λ d. (w.lawful d).labels)) st leads in
     record {
       stands = set_thread p threads (events ++ event t c k ∷ []) t m within new (λ u below other. stands_by p u (slice_index_or threads u idle) events c t k (λ e. other (sym e)) ok (w.stands u below));
       others = λ u past. let apart : t ≢ u = λ e. let b : length threads ≤ u = rw length-set at past in omega (arith, b, within, e) in other_list t u events c k apart ∙ w.others u (rw length-set at past);
-      lawful = λ d. lawful_more_by events (event t c k) d (is_class d (Some c)) refl ok (w.lawful d);
+      lawful = λ d. lawful_more_by (statics_of p d) events (event t c k) d (is_class d (Some c)) refl ok (λ before. step_holds (statics_of p d) before k i) (w.lawful d);
       count = count;
       each_record = each;
     }
@@ -171,7 +189,7 @@ pub prepared_world : (p : LinkedProgram) (count : ℕ) (records : List History) 
 prepared_world p count records all class none = record {
   stands = λ t within. let e : slice_index_or (replicate count idle) t idle ≡ idle = get_or-replicate count t idle idle (rw length-replicate at within) in rw e (idle_stands p t);
   others = λ t past. refl;
-  lawful = λ c. tt;
+  lawful = λ c. record { labels = tt; values = tt };
   count = all;
   each_record = λ n other within. record { of_class_n = class n other within; keeps = none n other within };
 }

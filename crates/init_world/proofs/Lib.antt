@@ -14,3 +14,7 @@ pub mod Deciding
 pub mod Answering
 pub mod Turns
 pub mod Requesting
+pub mod Leading
+pub mod Work
+pub mod Alone
+pub mod Lone

@@ -231,10 +231,10 @@ module _ (p : LinkedProgram) where
   pub waits_answered : (mains : List ClassId) (events : List Event) → IsLegal p mains events → WaitsAreAnswered p events
   waits_answered mains events legal before after t c q =
       let legal2 : IsLegal p mains (before ++ event t c kind.Waits ∷ after) = rw (← q) legal in
-      let g : Goes_on p t before (event t c kind.Waits) (of_thread t after) = walk p [] before after (event t c kind.Waits) legal2.classes (λ d x. refl) (start p mains _ legal2) in
+      let g : Goes_on p t before (event t c kind.Waits) (of_thread t after) = walk p [] before after (event t c kind.Waits) (λ c. (legal2.classes c).labels) (λ d x. refl) (start p mains _ legal2) in
       let w = wait_inv p t before c g.makes.step refl g.makes.stack in
       let r : Runs p t (standing (frame c (Looking true) ∷ w.0) None) (of_thread t after) g.e = subst (λ s. Runs p t s (of_thread t after) g.e) w.1 g.rest in
-      let laws : Laws p before (event t c kind.Waits ∷ after) = laws_past [] before (event t c kind.Waits ∷ after) legal2.classes in
+      let laws : Laws p before (event t c kind.Waits ∷ after) = laws_past [] before (event t c kind.Waits ∷ after) (λ c. (legal2.classes c).labels) in
       let ok : Agrees before (event t c kind.Waits) = agrees p before (event t c kind.Waits) after laws in
       follows p t c w.0 g.e w.2 (before ++ event t c kind.Waits ∷ []) after (laws_next p before (event t c kind.Waits) after laws)
       (taken_step p t before (event t c kind.Waits) c ok (taken_others p t (label_at before c) (ok c refl))) r

@@ -14,7 +14,7 @@ use Rattle.init_core.specs.declared.procedure.Outcome.TheVariants.{Normal}
 use Rattle.init_core.specs.declared.procedure.Ending.TheVariants as ending
 use Rattle.init_core.specs.Standing.{Standing}
 use Rattle.init_core.specs.Decisions.{event}
-use Rattle.init_core.specs.Lawful.{IsOpenTo, IsLawfulAfter}
+use Rattle.init_core.specs.Lawful.{IsOpenTo, AgreesAfter}
 use Rattle.init_core.specs.ProcedureWord.{ThreadWord, ran, threw, was_ended, completed, IsUse}
 use Rattle.init_core.specs.Leads.{standing}
 use Rattle.init_world.proofs.Steps.{by_recurring, by_initialized, by_erroneous, asks, Emits, waits, answers, opens, runs, accesses, writes, closes, Runs, no_steps, silent, emits, then_runs, word_runs, readily, body_runs_outside}
@@ -61,7 +61,7 @@ module _ (p : LinkedProgram) where
       first_emit x.thread h r st.stack
 
   abbrev pub Laws : List Event → List Event → Type 0
-  Laws h ys = (c : ClassId) → IsLawfulAfter (of_class c h) (of_class c ys)
+  Laws h ys = (c : ClassId) → AgreesAfter (of_class c h) (of_class c ys)
 
   class_cons : (c : ClassId) (y : Event) (ys : List Event) → is_class c y.class ≡ true → of_class c (y ∷ ys) ≡ y ∷ of_class c ys
   class_cons c y ys q = rw q refl
@@ -72,12 +72,12 @@ module _ (p : LinkedProgram) where
   pub agrees : (h : List Event) (y : Event) (ys : List Event) → Laws h (y ∷ ys) → Agrees h y
   agrees h y ys laws c q =
       let same : is_class c y.class ≡ true = rw q (eq-eqb c.number c.number refl) in
-      let l : IsLawfulAfter (of_class c h) (y ∷ of_class c ys) = subst (λ zs. IsLawfulAfter (of_class c h) zs) (class_cons c y ys same) (laws c) in
+      let l : AgreesAfter (of_class c h) (y ∷ of_class c ys) = subst (λ zs. AgreesAfter (of_class c h) zs) (class_cons c y ys same) (laws c) in
       l.0
 
-  law_by : (h : List Event) (y : Event) (ys : List Event) (c : ClassId) (b : Bool) → is_class c y.class ≡ b → IsLawfulAfter (of_class c h) (of_class c (y ∷ ys)) → IsLawfulAfter (of_class c (h ++ y ∷ [])) (of_class c ys)
+  law_by : (h : List Event) (y : Event) (ys : List Event) (c : ClassId) (b : Bool) → is_class c y.class ≡ b → AgreesAfter (of_class c h) (of_class c (y ∷ ys)) → AgreesAfter (of_class c (h ++ y ∷ [])) (of_class c ys)
   law_by h y ys c true q l =
-      let k : IsLawfulAfter (of_class c h) (y ∷ of_class c ys) = subst (λ zs. IsLawfulAfter (of_class c h) zs) (class_cons c y ys q) l in
+      let k : AgreesAfter (of_class c h) (y ∷ of_class c ys) = subst (λ zs. AgreesAfter (of_class c h) zs) (class_cons c y ys q) l in
       rw (one_more h y c q) k.1
   law_by h y ys c false q l = rw (no_more h y c q, ← class_skip c y ys q) l
 
@@ -136,7 +136,7 @@ module _ (p : LinkedProgram) where
   at_run : (mains : List ClassId) (events : List Event) → IsLegal p mains events → (before after : List Event) (t : ℕ) (c : ClassId) → events ≡ before ++ event t c kind.Runs ∷ after → HasNotRun before c × AllByRecursion (λ d. Any d × IsOpen before t d) (needs p c)
   at_run mains events legal before after t c q =
       let legal2 : IsLegal p mains (before ++ event t c kind.Runs ∷ after) = rw (← q) legal in
-      let m : Makes p t before (event t c kind.Runs) = (walk [] before after (event t c kind.Runs) legal2.classes (λ d x. refl) (start mains _ legal2)).makes in
+      let m : Makes p t before (event t c kind.Runs) = (walk [] before after (event t c kind.Runs) (λ c. (legal2.classes c).labels) (λ d x. refl) (start mains _ legal2)).makes in
       ran_inv t before c m.step refl m.stack
 
   all_open : (t : ℕ) (h : List Event) (ds : List ClassId) → AllByRecursion (λ d. Any d × IsOpen h t d) ds → AllByRecursion (λ d. IsOpenTo t (label_at h d)) ds

@@ -3,6 +3,7 @@ use Rattle.std.specs.Prelude.{◌≡◌, ℕ, ◌<◌, ◌≤◌, length, List, 
 use Rattle.std.specs.List.{AllByRecursion}
 use Rattle.hierarchy.specs.declared.class.ClassId.{ClassId}
 use Rattle.hierarchy.specs.LinkedProgram.{LinkedProgram, id}
+use Rattle.statics.specs.Statics.{statics_of}
 use Rattle.init_core.specs.declared.event.Event.{Event}
 use Rattle.init_core.specs.declared.procedure.Frame.{Frame}
 use Rattle.init_core.specs.declared.procedure.Phase.{Phase}
@@ -45,7 +46,7 @@ pub record IsRecordOf (n : ℕ) (r : History) (events : List Event) : Type 0 whe
 pub record IsConsistent (p : LinkedProgram) (threads : List Standing) (records : List History) (events : List Event) : Type 0 where
   pub stands : (t : ℕ) → t < length threads → StandsAfter p t (slice_index_or threads t idle) events
   pub others : (t : ℕ) → length threads ≤ t → of_thread t events ≡ []
-  pub lawful : (c : ClassId) → IsLawful (of_class c events)
+  pub lawful : (c : ClassId) → IsLawful (statics_of p c) (of_class c events)
   pub count : length records ≡ length p.classes
   pub each_record : (n : ℕ) (other : History) → n < length records → IsRecordOf n (slice_index_or records n other) events
 

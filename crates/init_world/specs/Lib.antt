@@ -3,3 +3,4 @@ pub mod OpenClasses
 pub mod WorldState
 pub mod Turns
 pub mod Consistent
+pub mod PlainSteps

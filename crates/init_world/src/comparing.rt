@@ -21,7 +21,7 @@ pub struct Case {
 }
 
 /// The choices that make an event after these choices, and the events.
-pub fn next_choices(
+pub(crate) fn next_choices(
     alloc: Global,
     case: &Case,
     path: &[Choice],
@@ -42,7 +42,7 @@ pub fn next_choices(
 }
 
 /// How many of all events World and the twin judge otherwise after this list.
-pub fn differences(
+pub(crate) fn differences(
     alloc: Global,
     case: &Case,
     list: &[Made],
@@ -62,7 +62,11 @@ pub fn differences(
 
 /// Compares World with the twin on every schedule of this many events; answers how many lists were compared,
 /// and on how many they differ.
-pub fn compared(alloc: Global, case: &Case, depth: usize) -> Result<(usize, usize), AllocError> {
+pub(crate) fn compared(
+    alloc: Global,
+    case: &Case,
+    depth: usize,
+) -> Result<(usize, usize), AllocError> {
     let mut paths: Vec<Vec<Choice>> = Vec::new(alloc);
     paths.push(Vec::new(alloc))?;
     let mut lists = 0usize;
@@ -78,7 +82,7 @@ pub fn compared(alloc: Global, case: &Case, depth: usize) -> Result<(usize, usiz
     Ok((lists, differ))
 }
 
-pub fn compare_at(
+pub(crate) fn compare_at(
     alloc: Global,
     case: &Case,
     path: &[Choice],
@@ -129,7 +133,11 @@ fn method(alloc: Global) -> Result<Method, Fail> {
 }
 
 /// The text of a class of that shape, with these direct superinterfaces.
-pub fn class_of(alloc: Global, shape: Shape, interfaces: &[usize]) -> Result<ClassParts, Fail> {
+pub(crate) fn class_of(
+    alloc: Global,
+    shape: Shape,
+    interfaces: &[usize],
+) -> Result<ClassParts, Fail> {
     let mut names = Sequence::new(alloc);
     for number in interfaces {
         names.push(name_of(alloc, *number)?)?;

@@ -27,8 +27,12 @@ pub(crate) fn idle_procedures(alloc: Global, count: usize) -> Result<Vec<Procedu
     Ok(made)
 }
 
-/// The records of as many classes, all prepared.
-pub(crate) fn prepared_records(alloc: Global, count: usize) -> Result<Vec<ClassRecord>, AllocError>
+/// The records of as many classes of a program, all prepared.
+pub(crate) fn prepared_records(
+    alloc: Global,
+    program: &Program,
+    count: usize,
+) -> Result<Vec<ClassRecord>, AllocError>
     ensures count { IfOk result (λ made. length made.items ≡ count) }
     ensures classes { IfOk result (λ made. (n : ℕ) (other : History) → n < count → (slice_index_or made.items n other).class ≡ id n) }
     ensures events { IfOk result (λ made. (n : ℕ) (other : History) → n < count → (slice_index_or made.items n other).events ≡ []) }
@@ -36,7 +40,7 @@ pub(crate) fn prepared_records(alloc: Global, count: usize) -> Result<Vec<ClassR
     let mut made = Vec::new(alloc);
     'classes: while made.len() < count {
         let number = made.len();
-        made.push(ClassRecord::new(alloc, ClassId { number }))?;
+        made.push(ClassRecord::new(alloc, program, ClassId { number })?)?;
     }
     Ok(made)
 }

@@ -32,7 +32,7 @@ pub struct Run {
 }
 
 /// A turn, and whether it made an event.
-pub fn goes(
+pub(crate) fn goes(
     alloc: Global,
     program: &Program,
     world: &mut World,
@@ -50,7 +50,7 @@ pub fn goes(
     Ok(turn == Turn::Event)
 }
 
-pub fn requests(
+pub(crate) fn requests(
     alloc: Global,
     program: &Program,
     world: &mut World,
@@ -69,7 +69,7 @@ pub fn requests(
     goes(alloc, program, world, thread)
 }
 
-pub fn returns(
+pub(crate) fn returns(
     alloc: Global,
     program: &Program,
     world: &mut World,
@@ -87,7 +87,7 @@ pub fn returns(
     goes(alloc, program, world, thread)
 }
 
-pub fn throws(
+pub(crate) fn throws(
     alloc: Global,
     program: &Program,
     world: &mut World,
@@ -106,14 +106,14 @@ pub fn throws(
 }
 
 /// Whether the thread has no class open.
-pub fn is_idle(run: &Run, thread: usize) -> bool
+pub(crate) fn is_idle(run: &Run, thread: usize) -> bool
     requires { thread < length run.now.world.threads }
 {
     run.world.may_request(thread) && !run.world.is_running(thread)
 }
 
 /// How the procedure for the thread's main class ended, where it did and the thread has no class open since.
-pub fn notes_return(
+pub(crate) fn notes_return(
     alloc: Global,
     program: &Program,
     run: &mut Run,
@@ -137,7 +137,7 @@ pub fn notes_return(
 
 /// Whether the thread may request a class here: its main class first, and from a body, its own or an
 /// initializer's.
-pub fn is_word(run: &Run, mains: &[usize], thread: usize, class: usize) -> bool
+pub(crate) fn is_word(run: &Run, mains: &[usize], thread: usize, class: usize) -> bool
     requires { thread < length run.now.world.threads }
 {
     if run.world.is_running(thread) {
@@ -150,7 +150,7 @@ pub fn is_word(run: &Run, mains: &[usize], thread: usize, class: usize) -> bool
 }
 
 /// Makes a choice, and tells whether it made an event.
-pub fn makes(
+pub(crate) fn makes(
     alloc: Global,
     program: &Program,
     run: &mut Run,
@@ -177,7 +177,7 @@ pub fn makes(
 }
 
 /// A new run after these choices.
-pub fn replayed(
+pub(crate) fn replayed(
     alloc: Global,
     program: &Program,
     mains: &[usize],
@@ -198,7 +198,7 @@ pub fn replayed(
     Ok(run)
 }
 
-pub fn act_of(kind: &Kind) -> Act {
+pub(crate) fn act_of(kind: &Kind) -> Act {
     match kind {
         Kind::Waits => Act::Waits,
         Kind::Recurs => Act::Recurs,
@@ -212,7 +212,7 @@ pub fn act_of(kind: &Kind) -> Act {
     }
 }
 
-pub fn made_of(event: &Event) -> Made {
+pub(crate) fn made_of(event: &Event) -> Made {
     Made {
         thread: event.thread,
         class: match event.class {
@@ -223,7 +223,7 @@ pub fn made_of(event: &Event) -> Made {
     }
 }
 
-pub fn list_of(alloc: Global, events: &[Event]) -> Result<Vec<Made>, AllocError> {
+pub(crate) fn list_of(alloc: Global, events: &[Event]) -> Result<Vec<Made>, AllocError> {
     let mut list = Vec::new(alloc);
     for event in events {
         list.push(made_of(event))?;
@@ -232,7 +232,7 @@ pub fn list_of(alloc: Global, events: &[Event]) -> Result<Vec<Made>, AllocError>
 }
 
 /// All choices of two threads among these many classes.
-pub fn all_choices(alloc: Global, classes: usize) -> Result<Vec<Choice>, AllocError> {
+pub(crate) fn all_choices(alloc: Global, classes: usize) -> Result<Vec<Choice>, AllocError> {
     let mut choices = Vec::new(alloc);
     for thread in 0..2 {
         for action in [Action::Goes, Action::Returns, Action::Throws] {
@@ -249,7 +249,7 @@ pub fn all_choices(alloc: Global, classes: usize) -> Result<Vec<Choice>, AllocEr
 }
 
 /// All events of two threads on these many classes, but reads, writes, prints and endings by the machine.
-pub fn all_events(
+pub(crate) fn all_events(
     alloc: Global,
     classes: usize,
     error: usize,
@@ -279,7 +279,7 @@ pub fn all_events(
 }
 
 /// The twin's judgement of a list with one event more.
-pub fn is_legal_with(
+pub(crate) fn is_legal_with(
     alloc: Global,
     small: &Small,
     mains: &[usize],

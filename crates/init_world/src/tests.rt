@@ -165,7 +165,8 @@ fn superclass_first(rt: HostRuntime) -> Result<(), Fail> {
         choices.push(Choice { thread: 0, action })?;
     }
     let run = replayed(alloc, &program, &[1, 1], &choices)?;
-    let list = list_of(alloc, run.world.events())?;
+    assert_eq!(rt; run.world.events().len(), 6);
+    let list = list_of(alloc, &run.world.into_events())?;
     let expected = [
         (1, Act::Begins),
         (0, Act::Begins),

@@ -329,7 +329,7 @@ fn find_words_at(
 }
 
 /// Whether this list of one thread begins its word: the procedure for its main class, and then a body.
-pub fn begins_thread_word(
+pub(crate) fn begins_thread_word(
     alloc: Global,
     small: &Small,
     main: usize,

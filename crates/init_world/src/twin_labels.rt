@@ -48,12 +48,16 @@ fn allows(stand: Stand, made: &Made) -> bool {
 }
 
 /// Whether an event may be the next of its class behind these events.
-pub fn may_follow(list: &[Made], made: &Made) -> bool {
+pub(crate) fn may_follow(list: &[Made], made: &Made) -> bool {
     allows(stand_of(list, made.class), made)
 }
 
 /// The events of one thread.
-pub fn part_of(alloc: Global, list: &[Made], thread: usize) -> Result<Vec<Made>, AllocError> {
+pub(crate) fn part_of(
+    alloc: Global,
+    list: &[Made],
+    thread: usize,
+) -> Result<Vec<Made>, AllocError> {
     let mut part = Vec::new(alloc);
     for made in list {
         if made.thread == thread {

@@ -4,6 +4,7 @@ ghost use Rattle.std.specs.Prelude.{◌≡◌, ◌≢◌, ℕ, replicate, ◌<�
 ghost use Rattle.hierarchy.specs.declared.class.ClassId.{ClassId};
 ghost use Rattle.init_core.specs.declared.procedure.Next.TheVariants as nexts;
 ghost use Rattle.init_core.specs.Label.{label_of};
+ghost use Rattle.statics.specs.Statics.{statics_of};
 ghost use Rattle.init_core.specs.Lawful.{IsLawful};
 ghost use Rattle.init_core.specs.Interleaving.{of_thread, of_class};
 ghost use Rattle.init_core.specs.Leads.{LeadsTo};
@@ -72,7 +73,7 @@ impl World {
         ensures events { IfOk result (λ world. world.events ≡ []) }
     {
         let procedures = idle_procedures(alloc, threads)?;
-        let records = prepared_records(alloc, program.len())?;
+        let records = prepared_records(alloc, program, program.len())?;
         Ok(World {
             program: Snapshot::of(program),
             procedures,
@@ -97,9 +98,20 @@ impl World {
         ensures events { result.now ≡ self.now.events }
         ensures threads { (t : ℕ) → t < length self.now.threads → LeadsTo self.now.program t (thread_at self.now t) (of_thread t self.now.events) }
         ensures others { (t : ℕ) → length self.now.threads ≤ t → of_thread t self.now.events ≡ [] }
-        ensures classes { (c : ClassId) → IsLawful (of_class c self.now.events) }
+        ensures classes { (c : ClassId) → IsLawful (statics_of self.now.program c) (of_class c self.now.events) }
     {
         self.events.as_slice()
+    }
+
+    /// The events of all threads, in order, as [`World::events`] says of them. Takes no memory.
+    pub fn into_events(self) -> Vec<Event>
+        ensures events { result.items ≡ self.events }
+        ensures threads { (t : ℕ) → t < length self.threads → LeadsTo self.program t (thread_at self t) (of_thread t self.events) }
+        ensures others { (t : ℕ) → length self.threads ≤ t → of_thread t self.events ≡ [] }
+        ensures classes { (c : ClassId) → IsLawful (statics_of self.program c) (of_class c self.events) }
+    {
+        let World { events, .. } = self;
+        events
     }
 
     /// Whether a request of the thread is open, or was completed last: [`World::turn`] then is its next call, or

@@ -1,7 +1,7 @@
 -- Lines, one cut off after the other.
 use Rattle.std.proofs.Common.{◌≡◌, ℕ, suc, ◌+◌, ◌<◌, true, false, cond, eqb, List, [], ◌∷◌, length, drop, take, Result, Ok, inl, inr, refl, sym, ap, ◌∙◌, arith, subst, ◌-◌}
 use Rattle.std.proofs.lemmas.List.{take_all}
-use Rattle.jasmin_reader.specs.declared.header.Header.{Header}
+use Rattle.jasmin_reader.specs.declared.reader.Reader.{Reader}
 use Rattle.jasmin_text.specs.declared.class_text.ClassParts.{ClassParts}
 use Rattle.jasmin_reader.specs.declared.fault.ReadFault.{ReadFault}
 use Rattle.jasmin_words.specs.declared.fault.FaultKind.{FaultKind}
@@ -10,7 +10,8 @@ use Rattle.jasmin_words.specs.declared.refusal.Refusal.TheVariants as refusal
 use Rattle.jasmin_words.specs.Lexing.{words_of}
 use Rattle.jasmin_words.specs.Gives.{Fails}
 use Rattle.jasmin_reader.specs.Reading.{line_at}
-use Rattle.jasmin_reader.specs.File.{line_len, with_byte, lines_of, then_lines, rest_at, finished, Tells, fault_of, fault_at}
+use Rattle.jasmin_text.specs.Lines.{line_len, with_byte, lines_of}
+use Rattle.jasmin_reader.specs.File.{then_lines, rest_at, finished, Tells, fault_of}
 
 -- the lines behind what stands at the front of rest
 abbrev pub behind : List ℕ → List ℕ
@@ -40,16 +41,16 @@ behind-some (b ∷ bs) lt = let e : suc (length bs) - 1 ≡ length bs = omega ar
 
 -- ---- the loop over the lines
 
-pub goes_on : (n : ℕ) (r s : Header) (bytes line rest : List ℕ) (total : Result ClassParts ReadFault) → lines_of bytes ≡ line ∷ lines_of rest → line_at r (words_of line) ≡ Ok s → rest_at n r (lines_of bytes) ≡ total → rest_at (n + 1) s (lines_of rest) ≡ total
+pub goes_on : (n : ℕ) (r s : Reader) (bytes line rest : List ℕ) (total : Result ClassParts ReadFault) → lines_of bytes ≡ line ∷ lines_of rest → line_at r (words_of line) ≡ Ok s → rest_at n r (lines_of bytes) ≡ total → rest_at (n + 1) s (lines_of rest) ≡ total
 unfolding rest_at
 goes_on n r s bytes line rest total e step so_far = sym (ap (then_lines (n + 1) (λ r. rest_at (n + 1) r (lines_of rest))) step) ∙ sym (ap (rest_at n r) e) ∙ so_far
 
-pub fails : (n : ℕ) (r : Header) (bytes line rest : List ℕ) (total : Result ClassParts ReadFault) (error : Refusal FaultKind) → lines_of bytes ≡ line ∷ lines_of rest → Fails error (line_at r (words_of line)) → rest_at n r (lines_of bytes) ≡ total → Tells (fault_of error (n + 1)) total
+pub fails : (n : ℕ) (r : Reader) (bytes line rest : List ℕ) (total : Result ClassParts ReadFault) (error : Refusal FaultKind) → lines_of bytes ≡ line ∷ lines_of rest → Fails error (line_at r (words_of line)) → rest_at n r (lines_of bytes) ≡ total → Tells (fault_of error (n + 1)) total
 unfolding rest_at
 fails n r bytes line rest total refusal.Memory e step so_far = inl refl
 fails n r bytes line rest total (refusal.Fault k) e step so_far = inr (sym so_far ∙ ap (rest_at n r) e ∙ ap (then_lines (n + 1) (λ r. rest_at (n + 1) r (lines_of rest))) step)
 
-pub is_done : (n : ℕ) (r : Header) (bytes : List ℕ) (total : Result ClassParts ReadFault) → length bytes ≡ 0 → rest_at n r (lines_of bytes) ≡ total → finished r ≡ total
+pub is_done : (n : ℕ) (r : Reader) (bytes : List ℕ) (total : Result ClassParts ReadFault) → length bytes ≡ 0 → rest_at n r (lines_of bytes) ≡ total → finished r n ≡ total
 unfolding rest_at
 is_done n r [] total z so_far = so_far
 is_done n r (b ∷ bs) total z so_far = absurd (omega arith)

@@ -1,30 +1,16 @@
--- The lines of a file, and the class that they spell.
-use Rattle.std.specs.Prelude.{◌≡◌, ◌⊎◌, ℕ, ◌+◌, List, [], ◌∷◌, Option, Some, None, Result, Ok, Err, ◌==◌, if◌then◌else◌, unwrap_or, codes, IfSome, true, false}
+-- The class that the lines of a file spell.
+use Rattle.std.specs.Prelude.{◌≡◌, ◌⊎◌, ℕ, ◌+◌, List, [], ◌∷◌, Option, Some, None, Result, Ok, Err, unwrap_or, codes}
 use Rattle.jasmin_words.specs.declared.fault.FaultKind.{FaultKind}
 use Rattle.jasmin_words.specs.declared.fault.FaultKind.TheVariants as fault
 use Rattle.jasmin_words.specs.declared.refusal.Refusal.{Refusal}
 use Rattle.jasmin_words.specs.declared.refusal.Refusal.TheVariants as refusal
 use Rattle.jasmin_words.specs.Lexing.{words_of}
 use Rattle.jasmin_text.specs.declared.class_text.ClassParts.{ClassParts}
-use Rattle.jasmin_text.specs.Spellable.{is_class_word, is_taken}
+use Rattle.jasmin_text.specs.Lines.{lines_of}
 use Rattle.jasmin_reader.specs.declared.fault.ReadFault.{ReadFault}
-use Rattle.jasmin_reader.specs.declared.header.ClassWords.{ClassWords}
-use Rattle.jasmin_reader.specs.declared.header.Header.{Header}
+use Rattle.jasmin_reader.specs.declared.head.HeadWords.{HeadWords}
+use Rattle.jasmin_reader.specs.declared.reader.Reader.{Reader}
 use Rattle.jasmin_reader.specs.Reading.{line_at}
-
--- how many bytes stand before the line's end
-abbrev pub line_len : List ℕ → ℕ
-line_len [] = 0
-line_len (b ∷ bs) = if b == 10 then 0 else 1 + line_len bs
-
-abbrev pub with_byte : ℕ → List (List ℕ) → List (List ℕ)
-with_byte b [] = (b ∷ []) ∷ []
-with_byte b (l ∷ ls) = (b ∷ l) ∷ ls
-
--- the lines; the last may lack its end
-abbrev pub lines_of : List ℕ → List (List ℕ)
-lines_of [] = []
-lines_of (b ∷ bs) = if b == 10 then [] ∷ lines_of bs else with_byte b (lines_of bs)
 
 abbrev pub fault_at : FaultKind → ℕ → ReadFault
 fault_at k n = record { kind = k; line = n }
@@ -45,35 +31,31 @@ Reads (Err f) read = Tells f read
 abbrev pub object_name : List ℕ
 object_name = codes "java/lang/Object"
 
--- the parts of a class with these words, this name and this superclass
-abbrev pub parts_of : ClassWords → List ℕ → List ℕ → ClassParts
-parts_of words name superclass =
-    record { kind = words.kind; access = words.access; name = name; superclass = superclass; interfaces = []; fields = []; methods = [] }
+-- the parts of a class that is read whole
+abbrev pub parts_of : Reader → HeadWords × List ℕ → ClassParts
+parts_of r c =
+    record { kind = c.0.kind; access = c.0.access; name = c.1; superclass = unwrap_or r.superclass object_name; interfaces = r.interfaces; fields = r.fields; methods = r.methods }
 
-unfoldable pub finished : Header → Result ClassParts ReadFault
-finished h = elim h.class [
+-- at the file's end, behind so many lines
+unfoldable pub finished : Reader → ℕ → Result ClassParts ReadFault
+finished r last = elim r.class [
   | None ↦ Err (fault_at fault.Misplaced 1)
-  | Some c ↦ Ok (parts_of c.0 c.1 (unwrap_or h.superclass object_name))
+  | Some c ↦ elim r.body [ Some b ↦ Err (fault_at fault.Unfinished last) | None ↦ Ok (parts_of r c) ]
 ]
 
--- what was read so far can be spelled
-pub record IsGood (h : Header) : Type 0 where
-  pub class : IfSome h.class (λ c. (is_class_word c.1 ≡ true) × (is_taken c.0.kind c.1 ≡ false))
-  pub superclass : IfSome h.superclass (λ s. is_class_word s ≡ true)
-
 -- what the next line gives, and the lines behind it
-abbrev pub then_lines : ℕ → (Header → Result ClassParts ReadFault) → Result Header FaultKind → Result ClassParts ReadFault
-then_lines n next (Ok h) = next h
+abbrev pub then_lines : ℕ → (Reader → Result ClassParts ReadFault) → Result Reader FaultKind → Result ClassParts ReadFault
+then_lines n next (Ok r) = next r
 then_lines n next (Err k) = Err (fault_at k n)
 
 -- n lines are read
-unfoldable pub rest_at : ℕ → Header → List (List ℕ) → Result ClassParts ReadFault
-rest_at n h [] = finished h
-rest_at n h (l ∷ ls) = then_lines (n + 1) (λ h. rest_at (n + 1) h ls) (line_at h (words_of l))
+unfoldable pub rest_at : ℕ → Reader → List (List ℕ) → Result ClassParts ReadFault
+rest_at n r [] = finished r n
+rest_at n r (l ∷ ls) = then_lines (n + 1) (λ s. rest_at (n + 1) s ls) (line_at r (words_of l))
 
-abbrev pub empty_header : Header
-empty_header = record { class = None; superclass = None }
+abbrev pub empty_reader : Reader
+empty_reader = record { class = None; superclass = None; interfaces = []; fields = []; methods = []; body = None }
 
 -- the class that the bytes spell, or the first fault
 unfoldable pub class_at : List ℕ → Result ClassParts ReadFault
-class_at bytes = rest_at 0 empty_header (lines_of bytes)
+class_at bytes = rest_at 0 empty_reader (lines_of bytes)

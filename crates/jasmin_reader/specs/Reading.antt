@@ -1,106 +1,123 @@
--- A class's header, line by line, with the first fault that is met.
-use Rattle.std.specs.Prelude.{◌≡◌, ℕ, Bool, true, false, ◌||◌, List, [], ◌∷◌, Option, Some, None, is_some, is_none, Result, Ok, Err, if◌then◌else◌}
-use Rattle.descriptors.specs.ClassName.{is_class_name}
+-- A class, line by line, with the first fault that is met.
+use Rattle.std.specs.Prelude.{ℕ, Bool, true, false, not, ◌||◌, ◌+◌, List, [], ◌∷◌, ◌++◌, length, Option, Some, None, is_some, is_none, Result, Ok, Err, ◌==◌, if◌then◌else◌, nat_lt}
+use Rattle.descriptors.specs.Signature.{Signature}
 use Rattle.jasmin_words.specs.declared.fault.FaultKind.{FaultKind}
 use Rattle.jasmin_words.specs.declared.fault.FaultKind.TheVariants as fault
 use Rattle.jasmin_words.specs.Gives.{◌>>=◌}
-use Rattle.jasmin_words.specs.Lexing.{Item, Word, LongWord, BadWord, BadText}
+use Rattle.jasmin_words.specs.Lexing.{Item}
+use Rattle.jasmin_words.specs.Names.{is_label}
+use Rattle.jasmin_text.specs.Forms.{form_at, directive_at}
 use Rattle.jasmin_text.specs.declared.access.Access.{Access}
-use Rattle.jasmin_text.specs.declared.class_text.ClassKind.TheVariants.{Class, Interface}
-use Rattle.jasmin_text.specs.declared.table.AccessWord.{AccessWord}
-use Rattle.jasmin_text.specs.declared.table.AccessWord.TheVariants as access
-use Rattle.jasmin_reader.specs.declared.header.ClassWords.{ClassWords}
-use Rattle.jasmin_reader.specs.declared.header.Header.{Header}
-use Rattle.jasmin_reader.specs.declared.table.ClassWord.{ClassWord}
-use Rattle.jasmin_reader.specs.declared.table.ClassWord.TheVariants as class_word
-use Rattle.jasmin_reader.specs.declared.table.Directive.{Directive}
-use Rattle.jasmin_reader.specs.declared.table.Directive.TheVariants as directive
-use Rattle.jasmin_reader.specs.Table.{directive_at, class_word_at}
+use Rattle.jasmin_text.specs.declared.form.Form.{Form}
+use Rattle.jasmin_text.specs.declared.form.Directive.{Directive}
+use Rattle.jasmin_text.specs.declared.form.Directive.TheVariants as directive
+use Rattle.jasmin_reader.specs.declared.head.Place.{Place}
+use Rattle.jasmin_reader.specs.declared.head.Place.TheVariants as place
+use Rattle.jasmin_reader.specs.declared.body.Body.{Body}
+use Rattle.jasmin_reader.specs.declared.reader.Reader.{Reader}
+use Rattle.jasmin_reader.specs.Places.{within_limit, operand, ended_at, first_word}
+use Rattle.jasmin_reader.specs.Operands.{class_name_in, last_operand, begins_with}
+use Rattle.jasmin_reader.specs.Heads.{class_from, field_from, method_from}
+use Rattle.jasmin_reader.specs.Listing.{empty_listing, behind_colon, unknown_word}
+use Rattle.jasmin_reader.specs.Bodies.{statement_at, limit_at, catch_at, end_from, outside_switch, closed}
 
--- the fault of a word that may not stand in its place
-abbrev pub misplaced : Item → FaultKind
-misplaced BadWord = fault.BadByte
-misplaced (BadText fault.BadByte) = fault.BadByte
-misplaced _ = fault.BadOperand
+-- ---- outside of methods
 
-abbrev pub word_of : Item → Result (List ℕ) FaultKind
-word_of (Word w) = Ok w
-word_of other = Err (misplaced other)
+abbrev pub allowed : Bool → Result (Unit {0}) FaultKind
+allowed b = if b then Ok tt else Err fault.Misplaced
 
--- nothing more stands on the line
-abbrev pub ended_at : List Item → Result (Unit {0}) FaultKind
-ended_at [] = Ok tt
-ended_at (other ∷ rest) = Err (misplaced other)
+abbrev pub has_room_for : Bool → Result (Unit {0}) FaultKind
+has_room_for b = if b then Ok tt else Err fault.LimitExceeded
 
--- no word yet
-abbrev pub start : ClassWords
-start = record { kind = Class; access = record { public = false; private = false; protected = false; is_static = false; is_final = false; synchronized = false; volatile = false; transient = false; is_abstract = false } }
+-- .class or .interface: one such line
+unfoldable pub class_line : Place → Reader → List Item → Result Reader FaultKind
+class_line p r items = allowed (is_none r.class) >>= λ _. class_from p items >>= λ c. Ok (record r { class = Some c })
 
--- the access words with one more
-abbrev pub with_access : Access → AccessWord → Result Access FaultKind
-with_access a access.Public = Ok (record a { public = true })
-with_access a access.Private = Ok (record a { private = true })
-with_access a access.Protected = Ok (record a { protected = true })
-with_access a access.Static = Ok (record a { is_static = true })
-with_access a access.Final = Ok (record a { is_final = true })
-with_access a access.Synchronized = Ok (record a { synchronized = true })
-with_access a access.Volatile = Ok (record a { volatile = true })
-with_access a access.Transient = Ok (record a { transient = true })
-with_access a access.Abstract = Ok (record a { is_abstract = true })
-with_access a access.Dropped = Ok a
-with_access a access.LeftOut = Err fault.LeftOut
+-- behind .class and outside of methods
+abbrev pub is_in_class : Reader → Bool
+is_in_class r = not (is_none r.class || is_some r.body)
 
-abbrev pub with_class_word : ClassWords → ClassWord → Result ClassWords FaultKind
-with_class_word words class_word.Interface = Ok (record words { kind = Interface })
-with_class_word words (class_word.Access a) = with_access words.access a >>= λ x. Ok (record words { access = x })
+-- and before the first field or method
+abbrev pub is_in_header : Reader → Bool
+is_in_header r = not (is_none r.class || is_some r.body || not (length r.fields == 0) || not (length r.methods == 0))
 
--- the words before a class's name, with one more
-unfoldable pub with_word : ClassWords → List ℕ → Result ClassWords FaultKind
-with_word words w = elim (class_word_at w) [ None ↦ Err fault.BadOperand | Some c ↦ with_class_word words c ]
+-- at most one .super
+unfoldable pub super_line : Reader → List Item → Result Reader FaultKind
+super_line r items = allowed (is_in_header r) >>= λ _. allowed (is_none r.superclass) >>= λ _. last_operand class_name_in items >>= λ name.
+    Ok (record r { superclass = Some name })
 
-abbrev pub class_name_in : List ℕ → Result (List ℕ) FaultKind
-class_name_in w = if is_class_name w then Ok w else Err fault.BadOperand
+-- at most 255 .implements
+unfoldable pub implements_line : Reader → List Item → Result Reader FaultKind
+implements_line r items = allowed (is_in_header r) >>= λ _. has_room_for (nat_lt (length r.interfaces) 255) >>= λ _. last_operand class_name_in items >>= λ name.
+    Ok (record r { interfaces = r.interfaces ++ name ∷ [] })
 
-abbrev pub taken_for_access : ClassWord → FaultKind
-taken_for_access (class_word.Access access.LeftOut) = fault.LeftOut
-taken_for_access _ = fault.BadOperand
+-- at most 1,024 fields and methods
+abbrev pub member_room : Reader → Bool
+member_room r = nat_lt (length r.fields + length r.methods) 1024
 
-abbrev pub name_by : List ℕ → Option ClassWord → Result (List ℕ) FaultKind
-name_by w None = class_name_in w
-name_by w (Some c) = Err (taken_for_access c)
+unfoldable pub field_line : Reader → List Item → Result Reader FaultKind
+field_line r items = allowed (is_in_class r) >>= λ _. has_room_for (member_room r) >>= λ _. field_from items >>= λ f.
+    Ok (record r { fields = r.fields ++ f ∷ [] })
 
--- a word in the name's place; whether a word is an access word is decided first
-unfoldable pub name_in : List ℕ → Result (List ℕ) FaultKind
-name_in w = name_by w (class_word_at w)
+-- limits that no line gives are 1,024: own choice
+abbrev pub empty_body : Access → List ℕ → Signature → Body
+empty_body a name m = record { access = a; name = name; method_type = m; stack = 1024; locals = 1024; labels = []; catches = []; listing = empty_listing }
 
--- the last word of the line is the name
-unfoldable pub named_from : ClassWords → List Item → Result (ClassWords × List ℕ) FaultKind
-named_from words [] = Err fault.BadOperand
-named_from words (t ∷ []) = word_of t >>= λ w. name_in w >>= λ name. Ok (words, name)
-named_from words (t ∷ next ∷ rest) = word_of t >>= λ w. with_word words w >>= λ more. named_from more (next ∷ rest)
+unfoldable pub method_line : Reader → List Item → Result Reader FaultKind
+method_line r items = allowed (is_in_class r) >>= λ _. has_room_for (member_room r) >>= λ _. method_from items >>= λ m.
+    Ok (record r { body = Some (empty_body m.0 m.1.0 m.1.1) })
 
--- .class: the first such line
-unfoldable pub class_line : Header → List Item → Result Header FaultKind
-class_line h ts = if is_some h.class then Err fault.Misplaced else named_from start ts >>= λ n. Ok (record h { class = Some n })
+-- ---- in methods
 
-abbrev pub superclass_at : Header → List Item → Result Header FaultKind
-superclass_at h [] = Err fault.BadOperand
-superclass_at h (t ∷ rest) = word_of t >>= λ w. class_name_in w >>= λ name. ended_at rest >>= λ _. Ok (record h { superclass = Some name })
+abbrev pub in_body : Reader → Option Body → (Body → Result Body FaultKind) → Result Reader FaultKind
+in_body r None add = Err fault.Misplaced
+in_body r (Some b) add = add b >>= λ c. Ok (record r { body = Some c })
 
--- .super: the first such line, behind .class
-unfoldable pub super_line : Header → List Item → Result Header FaultKind
-super_line h ts = if is_none h.class || is_some h.superclass then Err fault.Misplaced else superclass_at h ts
+abbrev pub ended_by : Reader → List Item → Option Body → Result Reader FaultKind
+ended_by r rest None = Err fault.Misplaced
+ended_by r rest (Some b) = outside_switch b >>= λ _. closed b >>= λ m. ended_at rest >>= λ _. Ok (record r { methods = r.methods ++ m ∷ []; body = None })
 
--- what a line adds that begins with this directive, if with any
-abbrev pub directed : Header → List Item → Option Directive → Result Header FaultKind
-directed h rest None = Err fault.LeftOut
-directed h rest (Some directive.Class) = class_line h rest
-directed h rest (Some directive.Super) = super_line h rest
-directed h rest (Some directive.Skipped) = Ok h
+-- .end method: what is wrong with the method as a whole is met there
+unfoldable pub end_line : Reader → List Item → Result Reader FaultKind
+end_line r items = end_from items >>= λ rest. ended_by r rest r.body
+
+-- a line that begins with this directive
+unfoldable pub directive_line : Reader → Directive → List Item → Result Reader FaultKind
+directive_line r directive.Class items = class_line place.Class r items
+directive_line r directive.Interface items = class_line place.Interface r items
+directive_line r directive.Super items = super_line r items
+directive_line r directive.Implements items = implements_line r items
+directive_line r directive.Field items = field_line r items
+directive_line r directive.Method items = method_line r items
+directive_line r directive.End items = end_line r items
+directive_line r directive.Limit items = in_body r r.body (λ b. limit_at b items)
+directive_line r directive.Catch items = in_body r r.body (λ b. catch_at b items)
+directive_line r directive.Skipped items = Ok r
+directive_line r directive.LeftOut items = Err fault.LeftOut
+
+-- an instruction or a label outside of a method
+abbrev pub stray_by : List ℕ → Option (List Item) → Option Form → FaultKind
+stray_by w (Some after) form = if is_label w then fault.Misplaced else fault.UnknownInstruction
+stray_by w None (Some f) = fault.Misplaced
+stray_by w None None = unknown_word w
+
+abbrev pub statement_line : Reader → List ℕ × Bool → List Item → Option Body → Result Reader FaultKind
+statement_line r w rest None = Err (stray_by w.0 (behind_colon rest) (form_at w.0))
+statement_line r w rest (Some b) = statement_at b w rest >>= λ c. Ok (record r { body = Some c })
+
+abbrev pub line_by : Reader → List ℕ × Bool → List Item → Option Directive → Result Reader FaultKind
+line_by r w rest (Some d) = within_limit w.1 >>= λ _. directive_line r d rest
+line_by r w rest None = if begins_with 46 w.0 then Err fault.UnknownDirective else statement_line r w rest r.body
+
+abbrev pub is_in_switch : Option Body → Bool
+is_in_switch None = false
+is_in_switch (Some b) = is_some b.listing.switch
+
+-- the fault of a line that begins with no word: in a switch a label or a key is wanted there
+abbrev pub no_word : Option Body → FaultKind
+no_word body = if is_in_switch body then fault.BadOperand else fault.UnknownInstruction
 
 -- what a line adds
-unfoldable pub line_at : Header → List Item → Result Header FaultKind
-line_at h [] = Ok h
-line_at h (Word w ∷ rest) = directed h rest (directive_at w)
-line_at h (BadWord ∷ rest) = Err fault.BadByte
-line_at h (other ∷ rest) = Err fault.LeftOut
+unfoldable pub line_at : Reader → List Item → Result Reader FaultKind
+line_at r [] = Ok r
+line_at r (t ∷ rest) = first_word (no_word r.body) t >>= λ w. line_by r w rest (directive_at w.0)

@@ -1,18 +1,23 @@
 //! A class file, from its first line to its last.
 
-ghost use Rattle.std.specs.Prelude.{◌≡◌, ◌<◌, ◌∷◌, ◌≤◌, length, IfOk, OnOk, unwrap_or};
+ghost use Rattle.std.specs.Prelude.{◌≡◌, ◌<◌, ◌∷◌, ◌≤◌, length, IfOk, OnOk, Ok, unwrap_or};
+ghost use Rattle.jasmin_text.specs.Grammar.{Spells};
+ghost use Rattle.jasmin_text.specs.declared.class_text.ClassParts.{ClassParts};
 ghost use Rattle.jasmin_words.specs.Gives.{Gives};
 ghost use Rattle.jasmin_words.specs.Lexing.{words_of};
 ghost use Rattle.jasmin_reader.specs.Reading.{line_at};
-ghost use Rattle.jasmin_reader.specs.File.{line_len, lines_of, Reads, class_at, finished, fault_at, fault_of, object_name, IsGood};
+ghost use Rattle.jasmin_text.specs.Lines.{line_len, lines_of};
+ghost use Rattle.jasmin_reader.specs.File.{Reads, class_at, finished, fault_at, fault_of, object_name};
+ghost use Rattle.jasmin_reader.specs.Good.{IsGood};
 ghost use Rattle.jasmin_words.specs.declared.fault.FaultKind.TheVariants as faults;
 
 use crate::fault::ReadFault;
-use crate::header::{Header, LineError};
+use crate::head::HeadWords;
+use crate::place::LineError;
+use crate::reader::Reader;
 use descriptors::ClassName;
 use jasmin_text::{ClassParts, ClassText};
 use jasmin_words::{FaultKind, Refusal, words};
-use sequence::Sequence;
 use std::alloc::{AllocError, Global};
 
 fn line_length(bytes: &[u8]) -> usize
@@ -56,12 +61,12 @@ fn fault_on(error: LineError, line: usize) -> ReadFault
     }
 }
 
-fn add_line(header: &mut Header, alloc: Global, line: &[u8]) -> Result<(), LineError>
-    ensures gives { Gives (λ _. header.new) result (line_at header.old (words_of line.now)) }
-    ensures good { OnOk result (IsGood header.old → IsGood header.new) }
+fn add_line(reader: &mut Reader, alloc: Global, line: &[u8]) -> Result<(), LineError>
+    ensures gives { Gives (λ _. reader.new) result (line_at reader.old (words_of line.now)) }
+    ensures good { OnOk result (IsGood reader.old → IsGood reader.new) }
 {
     let tokens = words(alloc, line)?;
-    header.line(alloc, tokens.as_slice())
+    reader.line(alloc, tokens.as_slice())
 }
 
 /// The superclass, which is java/lang/Object where no line names one.
@@ -78,66 +83,87 @@ fn or_object(alloc: Global, superclass: Option<ClassName>) -> Result<ClassName, 
     }
 }
 
-fn no_memory() -> ReadFault
-    ensures { result ≡ fault_at faults.NoMemory 1 }
+fn fault(kind: FaultKind, line: usize) -> ReadFault
+    ensures { result ≡ fault_at kind line }
 {
-    ReadFault {
-        kind: FaultKind::NoMemory,
-        line: 1,
-    }
+    ReadFault { kind, line }
 }
 
-/// The class of a header that is read whole.
+/// The parts of a class that is read whole.
 #[tactic(auto, unfolding(crate::specs::File::finished))]
-fn finish(alloc: Global, header: Header) -> Result<ClassText, ReadFault>
-    requires { IsGood header }
-    ensures { Reads result (finished header) }
+fn parts(alloc: Global, reader: Reader, last: usize) -> Result<ClassParts, ReadFault>
+    ensures { Reads result (finished reader last) }
 {
-    let Header { class, superclass } = header;
-    let Some((words, name)) = class else {
-        return Err(ReadFault {
-            kind: FaultKind::Misplaced,
-            line: 1,
-        });
+    let Reader {
+        class,
+        superclass,
+        interfaces,
+        fields,
+        methods,
+        body,
+    } = reader;
+    let Some((HeadWords { kind, access }, name)) = class else {
+        return Err(fault(FaultKind::Misplaced, 1));
     };
+    if body.is_some() {
+        return Err(fault(FaultKind::Unfinished, last));
+    }
     let Ok(superclass) = or_object(alloc, superclass) else {
-        return Err(no_memory());
+        return Err(fault(FaultKind::NoMemory, last));
     };
-    let parts = ClassParts {
-        kind: words.kind,
-        access: words.access,
+    Ok(ClassParts {
+        kind,
+        access,
         name,
         superclass,
-        interfaces: Sequence::new(alloc),
-        fields: Sequence::new(alloc),
-        methods: Sequence::new(alloc),
-    };
+        interfaces,
+        fields,
+        methods,
+    })
+}
+
+/// The class text of a class that is read whole.
+fn finish(alloc: Global, reader: Reader, last: usize) -> Result<ClassText, ReadFault>
+    requires { IsGood reader }
+    ensures { Reads result (finished reader last) }
+{
+    let parts = parts(alloc, reader, last)?;
     match ClassText::new(alloc, parts) {
         Ok(Some(text)) => Ok(text),
         Ok(None) => unreachable!(),
-        Err(_) => Err(no_memory()),
+        Err(_) => Err(fault(FaultKind::NoMemory, last)),
     }
 }
 
-/// The class that a Jasmin file spells, or the first fault and its line.
-///
-/// The bytes may be anything. Want of memory is answered as [`FaultKind::NoMemory`].
-pub fn read_class(alloc: Global, bytes: &[u8]) -> Result<ClassText, ReadFault>
+/// The class that the lines spell, or the first fault and its line.
+fn read_lines(alloc: Global, bytes: &[u8]) -> Result<ClassText, ReadFault>
     ensures { Reads result (class_at bytes.now) }
 {
-    let mut header = Header {
-        class: None,
-        superclass: None,
-    };
+    let mut reader = Reader::new(alloc);
     let mut rest = bytes;
     let mut last = 0;
     while !rest.is_empty() {
         let (line, after) = cut(rest);
         last += 1;
-        if let Err(error) = add_line(&mut header, alloc, line) {
+        if let Err(error) = add_line(&mut reader, alloc, line) {
             return Err(fault_on(error, last));
         }
         rest = after;
     }
-    finish(alloc, header)
+    finish(alloc, reader, last)
+}
+
+/// The class that a Jasmin file spells, or the first fault and its line.
+///
+/// The bytes may be anything: a file is read from the top, and each line from the left. Of several faults at one
+/// place the lowest kind is told. Want of memory is answered as [`FaultKind::NoMemory`].
+pub fn read_class(alloc: Global, bytes: &[u8]) -> Result<ClassText, ReadFault>
+    // The class, or the first fault, is that of the reading function.
+    ensures exact { Reads result (class_at bytes.now) }
+    // What is read is what the lines spell.
+    ensures found { IfOk result (λ text. Spells (lines_of bytes.now) text) }
+    // What the lines spell is read, unless memory runs out.
+    ensures only { (c : ClassParts) → Spells (lines_of bytes.now) c → Reads result (Ok c) }
+{
+    read_lines(alloc, bytes)
 }

@@ -1,24 +1,57 @@
-//! From a Jasmin file to its class text.
+//! From a Jasmin file's bytes to its class text.
 //!
-//! Enter by [`read_class`]: it takes a file's bytes, whatever they are, and answers the class that they
-//! spell, or the first fault with its line. The file is read from the top and each line from the left.
-//! Today the lines that it takes are `.class`, `.super`, blank and comment lines and the directives that
-//! are skipped whole; every other line is left out ([`FaultKind::LeftOut`]).
+//! [`read_class`] reads a file line by line and answers its class text, or the first fault with its line. Each
+//! line is cut into words first (`jasmin_words`), and what is wrong with a word is met only where the word is
+//! looked at.
 //!
-//! A line becomes words first (`jasmin_words`); a byte that may not stand there is a word of its own kind, so
-//! that its fault is met only where the word is. What the words of a line add is then a match on a slice
-//! ([`header`]), and the file is a loop over its lines ([`file`]).
-//!
-//! [`FaultKind::LeftOut`]: jasmin_words::FaultKind::LeftOut
+//! To enter: `specs/Reading` says what each line adds to what was read before, and which fault is met first;
+//! `specs/File` goes over the lines. The modules go the same way: `place` and `operands` for single words,
+//! `head` for lines that name something, `listing` for instructions and switches, `body` for methods, `closing` for
+//! what is looked at where a method ends, `reader` for lines, `file` for the whole.
 #![tactic(auto)]
 
+mod body;
+mod closing;
 mod fault;
 mod file;
-mod header;
+mod head;
+mod labels;
+pub mod laws;
+mod listing;
+mod member;
+mod operands;
+mod place;
+mod reader;
+mod switch;
 mod table;
+mod values;
 
 pub use fault::ReadFault;
 pub use file::read_class;
 
+#[cfg(test)]
+mod accepted;
+#[cfg(test)]
+mod accepted_code;
+#[cfg(test)]
+mod refusals;
+#[cfg(test)]
+mod refusals_counts;
+#[cfg(test)]
+mod refusals_ends;
+#[cfg(test)]
+mod refusals_labels;
+#[cfg(test)]
+mod refusals_limits;
+#[cfg(test)]
+mod refusals_lines;
+#[cfg(test)]
+mod refusals_long_words;
+#[cfg(test)]
+mod refusals_methods;
+#[cfg(test)]
+mod refusals_operands;
+#[cfg(test)]
+mod refusals_switches;
 #[cfg(test)]
 mod tests;

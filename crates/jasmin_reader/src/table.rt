@@ -1,9 +1,10 @@
-//! The words that a line may begin with, and those that may stand before a class's name.
+//! The words that may stand before a class's name, and those of base types.
 
 ghost use Rattle.std.specs.Prelude.{◌≡◌};
-ghost use Rattle.jasmin_reader.specs.Table.{directive_at, class_word_at};
+ghost use Rattle.jasmin_reader.specs.Table.{class_word_at, base_at};
 ghost use Rattle.jasmin_text.specs.Tables.{find_row, rows};
 
+use descriptors::BaseType;
 use jasmin_text::table::{AccessWord, access_of};
 use jasmin_words::name::same;
 
@@ -19,35 +20,6 @@ fn find<T: Copy>(word: &[u8], table: &[(&[u8], T)]) -> Option<T>
         rest = after;
     }
     None
-}
-
-/// What a line asks for, by its first word.
-#[derive(Clone, Copy, Debug, PartialEq, Eq)]
-pub(crate) enum Directive {
-    Class,
-    Super,
-    Skipped,
-}
-
-pub(crate) const DIRECTIVES: [(&[u8], Directive); 10] = [
-    (b".class", Directive::Class),
-    (b".super", Directive::Super),
-    (b".bytecode", Directive::Skipped),
-    (b".source", Directive::Skipped),
-    (b".signature", Directive::Skipped),
-    (b".deprecated", Directive::Skipped),
-    (b".debug", Directive::Skipped),
-    (b".line", Directive::Skipped),
-    (b".var", Directive::Skipped),
-    (b".throws", Directive::Skipped),
-];
-
-/// What the word asks for, if it is a directive that is read.
-#[tactic(auto, unfolding(crate::specs::Table::directive_at, crate::specs::Table::directives))]
-pub(crate) fn directive_of(word: &[u8]) -> Option<Directive>
-    ensures { result ≡ directive_at word.now }
-{
-    find(word, &DIRECTIVES)
 }
 
 /// A word before the name of a class.
@@ -71,4 +43,33 @@ pub(crate) fn class_word_of(word: &[u8]) -> Option<ClassWord>
         Some(access) => Some(ClassWord::Access(access)),
         None => None,
     }
+}
+
+/// A word behind `newarray`.
+#[derive(Clone, Copy, Debug, PartialEq, Eq)]
+pub(crate) enum BaseWord {
+    /// A type that the machine knows.
+    Known(BaseType),
+    /// A type that is left out.
+    LeftOut,
+}
+
+/// Each word of a base type (JVMS SE 8 6.5, newarray).
+pub(crate) const BASE_WORDS: [(&[u8], BaseWord); 8] = [
+    (b"boolean", BaseWord::Known(BaseType::Boolean)),
+    (b"char", BaseWord::Known(BaseType::Char)),
+    (b"byte", BaseWord::Known(BaseType::Byte)),
+    (b"short", BaseWord::Known(BaseType::Short)),
+    (b"int", BaseWord::Known(BaseType::Int)),
+    (b"long", BaseWord::LeftOut),
+    (b"float", BaseWord::LeftOut),
+    (b"double", BaseWord::LeftOut),
+];
+
+/// What the word says behind `newarray`, if it is the word of a base type.
+#[tactic(auto, unfolding(crate::specs::Table::base_at, crate::specs::Table::base_words))]
+pub(crate) fn base_word_of(word: &[u8]) -> Option<BaseWord>
+    ensures { result ≡ base_at word.now }
+{
+    find(word, &BASE_WORDS)
 }

@@ -81,7 +81,7 @@ fn reads_headers(rt: HostRuntime) {
 }
 
 /// Refused files, with the first fault and its line.
-const REFUSED: [(&[u8], FaultKind, usize); 27] = [
+const REFUSED: [(&[u8], FaultKind, usize); 21] = [
     (b"", FaultKind::Misplaced, 1),
     (b"\n\n; nothing\n", FaultKind::Misplaced, 1),
     (b".super A\n.class A\n", FaultKind::Misplaced, 1),
@@ -103,12 +103,6 @@ const REFUSED: [(&[u8], FaultKind, usize); 27] = [
     (b".class A \x01\n", FaultKind::BadOperand, 1),
     (b".class public \x01\n", FaultKind::BadByte, 1),
     (b"\xc3\xa9\n", FaultKind::BadByte, 1),
-    (b".class A\n\n.field x I\n", FaultKind::LeftOut, 3),
-    (b".interface I\n", FaultKind::LeftOut, 1),
-    (b".nothing\n", FaultKind::LeftOut, 1),
-    (b"label:\n", FaultKind::LeftOut, 1),
-    (b"\"text\"\n", FaultKind::LeftOut, 1),
-    (b".class A\n= x\n", FaultKind::LeftOut, 2),
 ];
 
 #[test]

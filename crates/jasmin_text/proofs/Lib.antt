@@ -2,5 +2,15 @@ pub mod Marks
 pub mod Body
 pub mod WordBytes
 pub mod FormWords
+pub mod Written
 pub mod Rows
 pub mod Operands
+pub mod Conditions
+pub mod AccessLines
+pub mod CodeLines
+pub mod Labels
+pub mod Lines
+pub mod Instructions
+pub mod Places
+pub mod Bodies
+pub mod Classes

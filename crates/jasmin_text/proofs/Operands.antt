@@ -15,11 +15,10 @@ use Rattle.descriptors.specs.declared.base.BaseType.TheVariants as base
 use Rattle.descriptors.specs.declared.field.ElementType.{ElementType}
 use Rattle.descriptors.specs.declared.field.ElementType.TheVariants as element
 use Rattle.descriptors.specs.declared.field.FieldType.{FieldType}
-use Rattle.jasmin_words.specs.Lexing.{Word, Text, fits, words_of}
+use Rattle.jasmin_words.specs.Lexing.{Word, Text, fits}
 use Rattle.jasmin_words.specs.Names.{is_member_name}
 use Rattle.jasmin_words.specs.Quoting.{quoted}
-use Rattle.jasmin_words.specs.Spelling.{IsWord, ends, blank, word as a_word}
-use Rattle.jasmin_words.proofs.Quoting.{quoted_spelled}
+use Rattle.jasmin_words.specs.Spelling.{IsWord}
 use Rattle.jasmin_words.proofs.Numbers.{written_again}
 use Rattle.jasmin_text.specs.Keywords.{spelled}
 use Rattle.jasmin_text.specs.Forms.{form_at, forms}
@@ -27,7 +26,7 @@ use Rattle.jasmin_text.specs.InstructionWords.{field_word, call_word, type_word,
 use Rattle.jasmin_text.specs.declared.keyword.Keyword.TheVariants as keyword
 use Rattle.jasmin_text.specs.Canonical.{constant_text, field_text, method_text}
 use Rattle.jasmin_text.specs.Spellable.{is_element_type, is_type, is_result_type, is_method_type}
-use Rattle.jasmin_text.specs.Grammar.{InstructionRow, int, text, field as op_field, call as op_call, new, new_array, class as op_class, array, simple, IsRow, operation}
+use Rattle.jasmin_text.specs.Grammar.{InstructionRow, int, text, field as op_field, call as op_call, new, new_array, class as op_class, array, simple, operation}
 use Rattle.jasmin_text.specs.declared.class_text.Constant.TheVariants as constant
 use Rattle.jasmin_text.specs.declared.form.Form.TheVariants as form
 use Rattle.jasmin_text.specs.declared.instruction.Instruction.TheVariants as instruction
@@ -43,38 +42,39 @@ use Rattle.jasmin_text.specs.declared.instruction.ReferenceType.TheVariants as r
 use Rattle.jasmin_text.proofs.FormWords.{field_again, call_again, types_again}
 use Rattle.jasmin_text.proofs.WordBytes as bytes
 use Rattle.jasmin_text.proofs.WordBytes.{IsWordText, joined_words}
-use Rattle.jasmin_text.proofs.Rows.{IsFixed, last_word, said, class_is_word, digits_are_word}
+use Rattle.jasmin_text.proofs.Written.{IsLine, said, last_word, last_text, blank, word as a_word}
+use Rattle.jasmin_text.proofs.Rows.{IsFixed, class_is_word, digits_are_word}
 
 -- ---- ints and strings
 
 decimal_is_word : (fresh : Bool) (n : ℕ) → n < 2 ^ 64 → IsWord fresh (decimal n)
 decimal_is_word fresh n h = digits_are_word fresh (decimal n) (decimal_is_IsNumeral n h).0 (bytes.decimal_word n h)
 
-int_is_word : (fresh : Bool) (z : ℤ) → FitsSigned w32 z → IsWord fresh (signed_decimal z)
+pub int_is_word : (fresh : Bool) (z : ℤ) → FitsSigned w32 z → IsWord fresh (signed_decimal z)
 int_is_word fresh (pos n) h = decimal_is_word fresh n (omega (arith, h.sfits))
 int_is_word fresh (negsuc n) h = (refl, bytes.minus_word (decimal (suc n)) (bytes.decimal_word (suc n) (omega (arith, h.sfits))))
 
-int_fits : (z : ℤ) → FitsSigned w32 z → fits (signed_decimal z) ≡ true
+pub int_fits : (z : ℤ) → FitsSigned w32 z → fits (signed_decimal z) ≡ true
 int_fits (pos n) h = let short = length-decimal-le 10 n (omega arith) (omega (arith, h.sfits)) (omega (arith, h.sfits)) in le-leb (length (decimal n)) 65535 (omega arith)
 int_fits (negsuc n) h = let short = length-decimal-le 10 (suc n) (omega arith) (omega (arith, h.sfits)) (omega (arith, h.sfits)) in le-leb (length (45 ∷ decimal (suc n))) 65535 (omega arith)
 
-pub int_row : (z : ℤ) → FitsSigned w32 z → IsRow (words_of (spelled keyword.Ldc ++ constant_text (constant.Int z))) (InstructionRow (instruction.Constant (constant.Int z)) ∷ [])
+pub int_row : (z : ℤ) → FitsSigned w32 z → IsLine (spelled keyword.Ldc ++ constant_text (constant.Int z)) (InstructionRow (instruction.Constant (constant.Int z)) ∷ [])
 unfolding spelled constant_text form_at forms
 int_row z h =
     said (codes "ldc " ++ signed_decimal z) (Word (codes "ldc") ∷ Word (signed_decimal z) ∷ []) (InstructionRow (instruction.Constant (constant.Int z)) ∷ [])
     (a_word (codes "ldc") (32 ∷ signed_decimal z) refl (refl, refl) refl refl (blank refl (last_word true (signed_decimal z) (int_is_word true z h) (int_fits z h))))
     (operation (simple {f = form.Constant} refl (int (written_again z h))))
 
-pub text_row : (t : List ℕ) → is_utf8 t ≡ true → fits t ≡ true → IsRow (words_of (spelled keyword.Ldc ++ constant_text (constant.Text t))) (InstructionRow (instruction.Constant (constant.Text t)) ∷ [])
+pub text_row : (t : List ℕ) → is_utf8 t ≡ true → fits t ≡ true → IsLine (spelled keyword.Ldc ++ constant_text (constant.Text t)) (InstructionRow (instruction.Constant (constant.Text t)) ∷ [])
 unfolding spelled constant_text form_at forms
 text_row t u f =
     said (codes "ldc " ++ quoted t) (Word (codes "ldc") ∷ Text t ∷ []) (InstructionRow (instruction.Constant (constant.Text t)) ∷ [])
-    (a_word (codes "ldc") (32 ∷ quoted t) refl (refl, refl) refl refl (blank refl (quoted_spelled true t [] [] u f ends)))
+    (a_word (codes "ldc") (32 ∷ quoted t) refl (refl, refl) refl refl (blank refl (last_text true t u f)))
     (operation (simple {f = form.Constant} refl text))
 
 -- ---- classes and arrays
 
-pub new_row : (name : List ℕ) → is_class_name name ≡ true → fits name ≡ true → IsRow (words_of (spelled keyword.New ++ name)) (InstructionRow (instruction.New name) ∷ [])
+pub new_row : (name : List ℕ) → is_class_name name ≡ true → fits name ≡ true → IsLine (spelled keyword.New ++ name) (InstructionRow (instruction.New name) ∷ [])
 unfolding spelled form_at forms
 new_row name h f =
     said (codes "new " ++ name) (Word (codes "new") ∷ Word name ∷ []) (InstructionRow (instruction.New name) ∷ [])
@@ -88,7 +88,7 @@ base_fixed base.Char = ((refl, refl), refl)
 base_fixed base.Short = ((refl, refl), refl)
 base_fixed base.Int = ((refl, refl), refl)
 
-pub new_array_row : (b : BaseType) → IsRow (words_of (spelled keyword.NewArray ++ base_word b)) (InstructionRow (instruction.NewArray b) ∷ [])
+pub new_array_row : (b : BaseType) → IsLine (spelled keyword.NewArray ++ base_word b) (InstructionRow (instruction.NewArray b) ∷ [])
 unfolding spelled form_at forms
 new_array_row b =
     said (codes "newarray " ++ base_word b) (Word (codes "newarray") ∷ Word (base_word b) ∷ []) (InstructionRow (instruction.NewArray b) ∷ [])
@@ -100,7 +100,7 @@ types_fixed type_use.ANewArray = ((refl, refl), refl)
 types_fixed type_use.CheckCast = ((refl, refl), refl)
 types_fixed type_use.InstanceOf = ((refl, refl), refl)
 
-pub class_use_row : (t : TypeUse) (name : List ℕ) → is_class_name name ≡ true → fits name ≡ true → IsRow (words_of (type_word t ++ 32 ∷ name)) (InstructionRow (instruction.TypeUse t (reference.Class name)) ∷ [])
+pub class_use_row : (t : TypeUse) (name : List ℕ) → is_class_name name ≡ true → fits name ≡ true → IsLine (type_word t ++ 32 ∷ name) (InstructionRow (instruction.TypeUse t (reference.Class name)) ∷ [])
 class_use_row t name h f =
     let w = types_fixed t in
     said (type_word t ++ 32 ∷ name) (Word (type_word t) ∷ Word name ∷ []) (InstructionRow (instruction.TypeUse t (reference.Class name)) ∷ [])
@@ -124,24 +124,24 @@ brackets_start : (fresh : Bool) (n : ℕ) (t : ElementType) → IsWordText (repl
 brackets_start fresh zero t h = element_start fresh t h
 brackets_start fresh (suc n) t h = (refl, h)
 
-descriptor_is_word : (fresh : Bool) (t : FieldType) → is_element_type t.element ≡ true → IsWord fresh (field_spelling t)
+pub descriptor_is_word : (fresh : Bool) (t : FieldType) → is_element_type t.element ≡ true → IsWord fresh (field_spelling t)
 descriptor_is_word fresh t h = brackets_start fresh t.dimensions t.element (bytes.field_word t h)
 
-is_type_of : (t : FieldType) → t.dimensions ≤ 255 → is_element_type t.element ≡ true → IsFieldType t
+pub is_type_of : (t : FieldType) → t.dimensions ≤ 255 → is_element_type t.element ≡ true → IsFieldType t
 is_type_of t d h = record { dimensions = d; element = is_element t.element h }
   where
     is_element : (e : ElementType) → is_element_type e ≡ true → IsElementType e
     is_element (element.Base b) h = tt
     is_element (element.Class name) h = h
 
-pub array_use_row : (t : TypeUse) (a : FieldType) → a.dimensions ≤ 255 → (eqb a.dimensions 0) ≡ false → is_element_type a.element ≡ true → fits (field_spelling a) ≡ true → IsRow (words_of (type_word t ++ 32 ∷ field_spelling a)) (InstructionRow (instruction.TypeUse t (reference.Array a)) ∷ [])
+pub array_use_row : (t : TypeUse) (a : FieldType) → a.dimensions ≤ 255 → (eqb a.dimensions 0) ≡ false → is_element_type a.element ≡ true → fits (field_spelling a) ≡ true → IsLine (type_word t ++ 32 ∷ field_spelling a) (InstructionRow (instruction.TypeUse t (reference.Array a)) ∷ [])
 array_use_row t a d n h f =
     let w = types_fixed t in
     said (type_word t ++ 32 ∷ field_spelling a) (Word (type_word t) ∷ Word (field_spelling a) ∷ []) (InstructionRow (instruction.TypeUse t (reference.Array a)) ∷ [])
     (a_word (type_word t) (32 ∷ field_spelling a) refl w.0 w.1 refl (blank refl (last_word true (field_spelling a) (descriptor_is_word true a h) f)))
     (operation (simple (types_again t) (array (record { spelling = refl; field_type = is_type_of a d h }) n)))
 
-class_first : (fresh : Bool) (name rest : List ℕ) → IsWord fresh name → IsWordText (name ++ rest) → IsWord fresh (name ++ rest)
+pub class_first : (fresh : Bool) (name rest : List ℕ) → IsWord fresh name → IsWordText (name ++ rest) → IsWord fresh (name ++ rest)
 class_first fresh [] rest w h = absurd w
 class_first fresh (b ∷ name) rest w h = (w.0, h)
 
@@ -155,13 +155,13 @@ fields_fixed access.GetField = ((refl, refl), refl)
 fields_fixed access.PutField = ((refl, refl), refl)
 
 pub field_row : (a : FieldAccess) (r : FieldReference) → is_class_name r.class ≡ true → is_member_name r.name ≡ true → fits (r.class ++ 47 ∷ r.name) ≡ true → r.field_type.dimensions ≤ 255 → is_element_type r.field_type.element ≡ true → fits (field_spelling r.field_type) ≡ true
-    → IsRow (words_of (field_word a ++ 32 ∷ field_text r)) (InstructionRow (instruction.Field a r) ∷ [])
+    → IsLine (field_word a ++ 32 ∷ field_text r) (InstructionRow (instruction.Field a r) ∷ [])
 unfolding field_text
 field_row a r c m f d e g =
     let w = fields_fixed a in
     let v : List ℕ = r.class ++ 47 ∷ r.name in
     let t : List ℕ = field_spelling r.field_type in
-    subst (λ (line : List ℕ). IsRow (words_of line) (InstructionRow (instruction.Field a r) ∷ [])) refl
+    subst (λ (line : List ℕ). IsLine line (InstructionRow (instruction.Field a r) ∷ [])) refl
     (said (field_word a ++ 32 ∷ (v ++ 32 ∷ t)) (Word (field_word a) ∷ Word v ∷ Word t ∷ []) (InstructionRow (instruction.Field a r) ∷ [])
     (a_word (field_word a) (32 ∷ (v ++ 32 ∷ t)) refl w.0 w.1 refl (blank refl (a_word v (32 ∷ t) refl (member_is_word true r.class r.name c m) f refl (blank refl (last_word true t (descriptor_is_word true r.field_type e) g)))))
     (operation (simple (field_again a) (op_field (record { parts = refl; class_name = c; member_name = m }) (record { spelling = refl; field_type = is_type_of r.field_type d e })))))
@@ -191,14 +191,14 @@ calls_fixed a_call.InvokeStatic = ((refl, refl), refl)
 calls_fixed a_call.InvokeVirtual = ((refl, refl), refl)
 calls_fixed a_call.InvokeSpecial = ((refl, refl), refl)
 
-method_is_word : (fresh : Bool) (class name : List ℕ) (m : Signature) → is_class_name class ≡ true → is_member_name name ≡ true → is_method_type m ≡ true → IsWord fresh (class ++ 47 ∷ name ++ method_spelling m)
+pub method_is_word : (fresh : Bool) (class name : List ℕ) (m : Signature) → is_class_name class ≡ true → is_member_name name ≡ true → is_method_type m ≡ true → IsWord fresh (class ++ 47 ∷ name ++ method_spelling m)
 method_is_word fresh class name m h k t =
     let front = member_is_word fresh class name h k in
     class_first fresh (class ++ 47 ∷ name) (method_spelling m) front
     (joined_words (class ++ 47 ∷ name) (method_spelling m) (joined_words class (47 ∷ name) (bytes.class_name_word class h) (bytes.slash_word name (bytes.member_name_word name k))) (bytes.method_word m t))
 
 pub call_row : (c : Call) (r : MethodReference) → is_class_name r.class ≡ true → is_member_name r.name ≡ true → is_method_type r.method_type ≡ true → fits (r.class ++ 47 ∷ r.name ++ method_spelling r.method_type) ≡ true
-    → IsRow (words_of (call_word c ++ 32 ∷ method_text r)) (InstructionRow (instruction.Call c r) ∷ [])
+    → IsLine (call_word c ++ 32 ∷ method_text r) (InstructionRow (instruction.Call c r) ∷ [])
 unfolding method_text
 call_row c r h k t f =
     let w = calls_fixed c in

@@ -6,13 +6,11 @@ use Rattle.std.specs.Fmt.{decimal}
 use Rattle.std.specs.Char.{digit_value}
 use Rattle.std.specs.Str.Parse.{IsNumeral}
 use Rattle.std.proofs.lemmas.Bool.{eqb-true, le-leb}
-use Rattle.std.proofs.lemmas.List.{append-nil}
 use Rattle.std.proofs.lemmas.Fmt.{decimal_is_IsNumeral, length-decimal-le}
 use Rattle.descriptors.specs.ClassName.{is_name_byte, segments, is_class_name, with_byte}
-use Rattle.jasmin_words.specs.Lexing.{Item, Word, Colon, fits, words_of}
+use Rattle.jasmin_words.specs.Lexing.{Word, Colon, fits}
 use Rattle.jasmin_words.specs.Names.{is_label}
-use Rattle.jasmin_words.specs.Spelling.{IsWord, IsSpelled, ends, blank, colon, word as a_word}
-use Rattle.jasmin_words.proofs.Spelled.{spelled_again}
+use Rattle.jasmin_words.specs.Spelling.{IsWord}
 use Rattle.jasmin_words.proofs.Numbers.{written_again}
 use Rattle.jasmin_text.specs.Keywords.{spelled}
 use Rattle.jasmin_text.specs.declared.keyword.Keyword.TheVariants as keyword
@@ -27,13 +25,11 @@ use Rattle.jasmin_text.specs.declared.instruction.Local.TheVariants as local
 use Rattle.jasmin_text.specs.declared.instruction.Jump.{Jump}
 use Rattle.jasmin_text.specs.declared.instruction.Jump.TheVariants as jump
 use Rattle.jasmin_text.proofs.FormWords.{plain_again, local_again, jump_again}
-use Rattle.jasmin_text.specs.Grammar.{Row, SuperRow, ImplementsRow, EndRow, StackRow, LocalsRow, LabelRow, InstructionRow, TargetRow, DefaultRow, IsNumberIn, plain as op_plain, local as op_local, jump as op_jump, simple, IsRow, super, implements, end, stack, locals, label, operation, target, default}
+use Rattle.jasmin_text.specs.Grammar.{SuperRow, ImplementsRow, EndRow, StackRow, LocalsRow, LabelRow, InstructionRow, TargetRow, DefaultRow, IsNumberIn, plain as op_plain, local as op_local, jump as op_jump, simple, super, implements, end, stack, locals, label, operation, target, default}
+use Rattle.jasmin_text.proofs.Written.{IsLine, said, last_word, ends, blank, colon, word as a_word}
 use Rattle.jasmin_text.proofs.WordBytes.{IsWordText, in_segments, split_byte, class_name_word, decimal_word, label_word}
 
 -- ---- words
-
-pub last_word : (fresh : Bool) (w : List ℕ) → IsWord fresh w → fits w ≡ true → IsSpelled fresh w (Word w ∷ [])
-last_word fresh w h f = a_word w [] (sym (append-nil w)) h f tt ends
 
 name_start : (b : ℕ) → is_name_byte b ≡ true → eqb b 59 ≡ false
 name_start b h = grind arith
@@ -62,37 +58,33 @@ pub label_is_word : (fresh : Bool) (n : ℕ) → n < 2 ^ 64 → IsWord fresh (la
 unfolding label_text
 label_is_word fresh n h = (refl, label_word n h)
 
-label_fits : (n : ℕ) → n < 65536 → fits (label_text n) ≡ true
+pub label_fits : (n : ℕ) → n < 65536 → fits (label_text n) ≡ true
 unfolding label_text
 label_fits n h = let short = length-decimal-le 5 n (omega arith) (omega arith) (omega arith) in le-leb (length (76 ∷ decimal n)) 65535 (omega arith)
 
-label_is : (n : ℕ) → is_label (label_text n) ≡ true
+pub label_is : (n : ℕ) → is_label (label_text n) ≡ true
 unfolding label_text
 label_is n = refl
 
--- what the words are, the line says
-pub said : (line : List ℕ) (items : List Item) (rows : List Row) → IsSpelled true line items → IsRow items rows → IsRow (words_of line) rows
-said line items rows s h = subst (λ (z : List Item). IsRow z rows) (sym (spelled_again true line items s)) h
-
 -- ---- lines
 
-pub super_row : (name : List ℕ) → is_class_name name ≡ true → fits name ≡ true → IsRow (words_of (super_line name)) (SuperRow name ∷ [])
+pub super_row : (name : List ℕ) → is_class_name name ≡ true → fits name ≡ true → IsLine (super_line name) (SuperRow name ∷ [])
 unfolding super_line spelled
 super_row name h f = said (codes ".super " ++ name) (Word (codes ".super") ∷ Word name ∷ []) (SuperRow name ∷ []) (a_word (codes ".super") (32 ∷ name) refl (refl, refl) refl refl (blank refl (last_word true name (class_is_word true name h) f))) (super h)
 
-pub implements_row : (name : List ℕ) → is_class_name name ≡ true → fits name ≡ true → IsRow (words_of (implements_line name)) (ImplementsRow name ∷ [])
+pub implements_row : (name : List ℕ) → is_class_name name ≡ true → fits name ≡ true → IsLine (implements_line name) (ImplementsRow name ∷ [])
 unfolding implements_line spelled
 implements_row name h f = said (codes ".implements " ++ name) (Word (codes ".implements") ∷ Word name ∷ []) (ImplementsRow name ∷ []) (a_word (codes ".implements") (32 ∷ name) refl (refl, refl) refl refl (blank refl (last_word true name (class_is_word true name h) f))) (implements h)
 
-pub end_row : IsRow (words_of (spelled keyword.EndMethod)) (EndRow ∷ [])
+pub end_row : IsLine (spelled keyword.EndMethod) (EndRow ∷ [])
 unfolding spelled
 end_row = said (codes ".end method") (Word (codes ".end") ∷ Word (codes "method") ∷ []) (EndRow ∷ []) (a_word (codes ".end") (32 ∷ codes "method") refl (refl, refl) refl refl (blank refl (last_word true (codes "method") (refl, refl) refl))) end
 
-pub label_row : (n : ℕ) → n < 65536 → IsRow (words_of (label_line n)) (LabelRow (label_text n) ∷ [])
+pub label_row : (n : ℕ) → n < 65536 → IsLine (label_line n) (LabelRow (label_text n) ∷ [])
 unfolding label_line
 label_row n h = said (label_text n ++ 58 ∷ []) (Word (label_text n) ∷ Colon ∷ []) (LabelRow (label_text n) ∷ []) (a_word (label_text n) (58 ∷ []) refl (label_is_word true n (omega arith)) (label_fits n h) refl (colon ends)) (label (label_is n))
 
-pub target_row : (n : ℕ) → n < 65536 → IsRow (words_of (label_text n)) (TargetRow (label_text n) ∷ [])
+pub target_row : (n : ℕ) → n < 65536 → IsLine (label_text n) (TargetRow (label_text n) ∷ [])
 target_row n h = said (label_text n) (Word (label_text n) ∷ []) (TargetRow (label_text n) ∷ []) (last_word true (label_text n) (label_is_word true n (omega arith)) (label_fits n h)) (target (label_is n))
 
 -- ---- numbers
@@ -104,16 +96,16 @@ pub digits_are_word : (fresh : Bool) (ds : List ℕ) → IsNumeral 10 ds → IsW
 digits_are_word fresh [] h w = absurd (omega (arith, h.0))
 digits_are_word fresh (d ∷ ds) h w = (rw (digit_start d h.1.0) refl, w)
 
-number_is_word : (fresh : Bool) (n : ℕ) → n < 65536 → IsWord fresh (decimal n)
+pub number_is_word : (fresh : Bool) (n : ℕ) → n < 65536 → IsWord fresh (decimal n)
 number_is_word fresh n h = digits_are_word fresh (decimal n) (decimal_is_IsNumeral n (omega arith)).0 (decimal_word n (omega arith))
 
-number_fits : (n : ℕ) → n < 65536 → fits (decimal n) ≡ true
+pub number_fits : (n : ℕ) → n < 65536 → fits (decimal n) ≡ true
 number_fits n h = let short = length-decimal-le 5 n (omega arith) (omega arith) (omega arith) in le-leb (length (decimal n)) 65535 (omega arith)
 
-number_in : (low high n : ℕ) → low ≤ n → n ≤ high → n < 65536 → IsNumberIn low high (decimal n) n
+pub number_in : (low high n : ℕ) → low ≤ n → n ≤ high → n < 65536 → IsNumberIn low high (decimal n) n
 number_in low high n from to less = record { value = written_again (pos n) (record { sfits = omega arith }); from = le-leb low n from; to = le-leb n high to }
 
-pub stack_row : (code : Code) → code.stack ≤ 1024 → IsRow (words_of (stack_line code)) (StackRow code.stack ∷ [])
+pub stack_row : (code : Code) → code.stack ≤ 1024 → IsLine (stack_line code) (StackRow code.stack ∷ [])
 unfolding stack_line spelled
 stack_row code h =
     let n : ℕ = code.stack in
@@ -121,7 +113,7 @@ stack_row code h =
     (a_word (codes ".limit") (32 ∷ codes "stack " ++ decimal n) refl (refl, refl) refl refl (blank refl (a_word (codes "stack") (32 ∷ decimal n) refl (refl, refl) refl refl (blank refl (last_word true (decimal n) (number_is_word true n (omega arith)) (number_fits n (omega arith)))))))
     (stack (number_in 0 1024 n (omega arith) h (omega arith)))
 
-pub locals_row : (code : Code) → code.locals ≤ 1024 → IsRow (words_of (locals_line code)) (LocalsRow code.locals ∷ [])
+pub locals_row : (code : Code) → code.locals ≤ 1024 → IsLine (locals_line code) (LocalsRow code.locals ∷ [])
 unfolding locals_line spelled
 locals_row code h =
     let n : ℕ = code.locals in
@@ -129,7 +121,7 @@ locals_row code h =
     (a_word (codes ".limit") (32 ∷ codes "locals " ++ decimal n) refl (refl, refl) refl refl (blank refl (a_word (codes "locals") (32 ∷ decimal n) refl (refl, refl) refl refl (blank refl (last_word true (decimal n) (number_is_word true n (omega arith)) (number_fits n (omega arith)))))))
     (locals (number_in 0 1024 n (omega arith) h (omega arith)))
 
-pub default_row : (n : ℕ) → n < 65536 → IsRow (words_of (default_line n)) (DefaultRow (label_text n) ∷ [])
+pub default_row : (n : ℕ) → n < 65536 → IsLine (default_line n) (DefaultRow (label_text n) ∷ [])
 unfolding default_line spelled
 default_row n h =
     said (codes "default : " ++ label_text n) (Word (codes "default") ∷ Colon ∷ Word (label_text n) ∷ []) (DefaultRow (label_text n) ∷ [])
@@ -212,17 +204,17 @@ jump_fixed jump.IfNull = ((refl, refl), refl)
 jump_fixed jump.IfNonNull = ((refl, refl), refl)
 jump_fixed jump.Goto = ((refl, refl), refl)
 
-pub plain_row : (p : Plain) → IsRow (words_of (plain_word p)) (InstructionRow (instruction.Plain p) ∷ [])
+pub plain_row : (p : Plain) → IsLine (plain_word p) (InstructionRow (instruction.Plain p) ∷ [])
 plain_row p = let w = plain_fixed p in said (plain_word p) (Word (plain_word p) ∷ []) (InstructionRow (instruction.Plain p) ∷ []) (last_word true (plain_word p) w.0 w.1) (operation (simple (plain_again p) op_plain))
 
-pub local_row : (l : Local) (n : ℕ) → n ≤ 65535 → IsRow (words_of (local_word l ++ 32 ∷ decimal n)) (InstructionRow (instruction.Local l n) ∷ [])
+pub local_row : (l : Local) (n : ℕ) → n ≤ 65535 → IsLine (local_word l ++ 32 ∷ decimal n) (InstructionRow (instruction.Local l n) ∷ [])
 local_row l n h =
     let w = local_fixed l in
     said (local_word l ++ 32 ∷ decimal n) (Word (local_word l) ∷ Word (decimal n) ∷ []) (InstructionRow (instruction.Local l n) ∷ [])
     (a_word (local_word l) (32 ∷ decimal n) refl w.0 w.1 refl (blank refl (last_word true (decimal n) (number_is_word true n (omega arith)) (number_fits n (omega arith)))))
     (operation (simple (local_again l) (op_local (number_in 0 65535 n (omega arith) h (omega arith)))))
 
-pub jump_row : (j : Jump) (n : ℕ) → n < 65536 → IsRow (words_of (jump_word j ++ 32 ∷ label_text n)) (InstructionRow (instruction.Jump j (label_text n)) ∷ [])
+pub jump_row : (j : Jump) (n : ℕ) → n < 65536 → IsLine (jump_word j ++ 32 ∷ label_text n) (InstructionRow (instruction.Jump j (label_text n)) ∷ [])
 jump_row j n h =
     let w = jump_fixed j in
     said (jump_word j ++ 32 ∷ label_text n) (Word (jump_word j) ∷ Word (label_text n) ∷ []) (InstructionRow (instruction.Jump j (label_text n)) ∷ [])

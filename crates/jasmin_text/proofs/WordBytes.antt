@@ -72,7 +72,7 @@ class_name_word name h = segments_word name (in_segments (segments name) h)
 
 -- ---- names of members
 
-same_is : (xs ys : List ℕ) → same_bytes xs ys ≡ true → xs ≡ ys
+pub same_is : (xs ys : List ℕ) → same_bytes xs ys ≡ true → xs ≡ ys
 same_is [] [] h = refl
 same_is [] (y ∷ ys) h = absurd cc
 same_is (x ∷ xs) [] h = absurd cc
@@ -89,7 +89,7 @@ member_bytes : (w : List ℕ) → list_all is_member_byte w ≡ true → IsWordT
 member_bytes [] h = refl
 member_bytes (b ∷ w) h = let p = both (is_member_byte b) (list_all is_member_byte w) h in byte_word b w (member_byte b p.0) (member_bytes w p.1)
 
-one_of : (a b c : Bool) (P : Type 0) → (a || b || c) ≡ true → (a ≡ true → P) → (b ≡ true → P) → (c ≡ true → P) → P
+pub one_of : (a b c : Bool) (P : Type 0) → (a || b || c) ≡ true → (a ≡ true → P) → (b ≡ true → P) → (c ≡ true → P) → P
 one_of true b c P h x y z = x refl
 one_of false true c P h x y z = y refl
 one_of false false true P h x y z = z refl

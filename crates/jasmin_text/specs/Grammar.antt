@@ -174,8 +174,9 @@ pub data IsRow : List Item → List Row → Type 0 where
   blank : IsRow [] []
   -- nothing behind the first word is looked at
   skipped : {w : List ℕ} {rest : List Item} → directive_at w ≡ Some directive.Skipped → IsRow (Word w ∷ rest) []
+  -- behind .class the word interface is an access word and no name
   class : {items : List Item} {k : ClassKind} {a : Access} {name : List ℕ} → (access : List Item) → items ≡ access ++ Word name ∷ [] → IsClassAccess access k a → IsClassName name
-      → IsRow (Word (codes ".class") ∷ items) (ClassRow k a name ∷ [])
+      → same_bytes name (codes "interface") ≡ false → IsRow (Word (codes ".class") ∷ items) (ClassRow k a name ∷ [])
   interface : {items : List Item} {a : Access} {name : List ℕ} → (access : List Item) → items ≡ access ++ Word name ∷ [] → IsAccess access a → IsClassName name
       → IsRow (Word (codes ".interface") ∷ items) (ClassRow kind.Interface a name ∷ [])
   super : {name : List ℕ} → IsClassName name → IsRow (Word (codes ".super") ∷ Word name ∷ []) (SuperRow name ∷ [])

@@ -1,6 +1,7 @@
 pub mod InstructionWords
 pub mod Keywords
 pub mod Canonical
+pub mod Lines
 pub mod Marks
 pub mod Tables
 pub mod Spellable

@@ -1,6 +1,6 @@
 //! Integers in words.
 
-ghost use Rattle.std.specs.Prelude.{◌≡◌, ◌<◌, ◌≤◌, ◌++◌, ℤ, FitsSigned, Some, OnOk, IfSome};
+ghost use Rattle.std.specs.Prelude.{◌≡◌, ◌<◌, ◌≤◌, ◌++◌, ℤ, FitsSigned, Some, OnOk, OnErr, IfSome};
 ghost use Rattle.std.specs.Int.{w32};
 ghost use Rattle.std.specs.Fmt.{decimal, signed_decimal};
 ghost use Rattle.jasmin_words.specs.Integers.{number_after, magnitude_of, positive, negative, pattern, integer_of, IsInteger};
@@ -103,20 +103,22 @@ pub fn parse_integer(word: &[u8]) -> Option<i32>
     integer_in(word)
 }
 
-/// Writes an integer in decimal at the end. An `Err` is want of memory.
+/// Writes an integer in decimal at the end. An `Err` is want of memory and changes nothing.
 pub fn push_integer(text: &mut Vec<u8>, number: i32) -> Result<(), AllocError>
-    ensures { OnOk result (text.new.items ≡ text.old.items ++ signed_decimal number) }
+    ensures ok { OnOk result (text.new.items ≡ text.old.items ++ signed_decimal number) }
+    ensures err { OnErr result (text.new.items ≡ text.old.items) }
 {
     let mut buffer = Buffer::new();
     text.extend_from_slice(buffer.format(number).as_bytes())
 }
 
-/// Writes a number in decimal at the end. An `Err` is want of memory.
+/// Writes a number in decimal at the end. An `Err` is want of memory and changes nothing.
 pub fn push_decimal(text: &mut Vec<u8>, number: usize) -> Result<(), AllocError>
-    ensures { OnOk result (text.new.items ≡ text.old.items ++ decimal number) }
+    ensures ok { OnOk result (text.new.items ≡ text.old.items ++ decimal number) }
+    ensures err { OnErr result (text.new.items ≡ text.old.items) }
 {
-    let mut buffer = Buffer::new();
-    text.extend_from_slice(buffer.format(number).as_bytes())
+    let mut digits = Buffer::new();
+    text.extend_from_slice(digits.format(number).as_bytes())
 }
 
 /// An integer that was written is read as itself.

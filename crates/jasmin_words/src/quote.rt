@@ -1,6 +1,6 @@
 //! The canonical spelling of strings.
 
-ghost use Rattle.std.specs.Prelude.{◌≡◌, ◌++◌, ◌∷◌, [], ◌<◌, ℕ, List, Bool, true, false, OnOk};
+ghost use Rattle.std.specs.Prelude.{◌≡◌, ◌++◌, ◌∷◌, [], ◌<◌, ℕ, List, Bool, true, false, length, take, OnOk, OnErr};
 ghost use Rattle.std.specs.Char.{digit_char};
 ghost use Rattle.std.specs.Str.{is_utf8};
 ghost use Rattle.jasmin_words.specs.Quoting.{quoted_byte, quoted_bytes, quoted};
@@ -21,7 +21,8 @@ fn digit(value: u8) -> u8
 }
 
 fn push_quoted_byte(text: &mut Vec<u8>, byte: u8) -> Result<(), AllocError>
-    ensures { OnOk result (text.new.items ≡ text.old.items ++ quoted_byte byte) }
+    ensures ok { OnOk result (text.new.items ≡ text.old.items ++ quoted_byte byte) }
+    ensures err { OnErr result (text.new.items ≡ text.old.items) }
 {
     match byte {
         b'"' => text.extend_from_slice(b"\\\""),
@@ -46,17 +47,31 @@ fn push_quoted_byte(text: &mut Vec<u8>, byte: u8) -> Result<(), AllocError>
     }
 }
 
-/// Writes a string with its quotes at the end: a double quote is `\"`, a backslash `\\`, LF `\n`, TAB `\t`,
-/// CR `\r`, another character below 32 and 127 is `\u` and four lower case hexadecimal digits, and every other
-/// character is itself. An `Err` is want of memory.
-pub fn push_quoted(text: &mut Vec<u8>, characters: &[u8]) -> Result<(), AllocError>
-    ensures { OnOk result (text.new.items ≡ text.old.items ++ quoted characters.now) }
+/// Writes a string with its quotes at the end, or a beginning of it.
+fn push_all(text: &mut Vec<u8>, characters: &[u8]) -> Result<(), AllocError>
+    ensures ok { OnOk result (text.new.items ≡ text.old.items ++ quoted characters.now) }
+    ensures kept { take (length text.old.items) text.new.items ≡ text.old.items }
 {
     text.extend_from_slice(b"\"")?;
     for byte in characters {
         push_quoted_byte(text, *byte)?;
     }
     text.extend_from_slice(b"\"")
+}
+
+/// Writes a string with its quotes at the end: a double quote is `\"`, a backslash `\\`, LF `\n`, TAB `\t`,
+/// CR `\r`, another character below 32 and 127 is `\u` and four lower case hexadecimal digits, and every other
+/// character is itself. An `Err` is want of memory and changes nothing.
+pub fn push_quoted(text: &mut Vec<u8>, characters: &[u8]) -> Result<(), AllocError>
+    ensures ok { OnOk result (text.new.items ≡ text.old.items ++ quoted characters.now) }
+    ensures err { OnErr result (text.new.items ≡ text.old.items) }
+{
+    let before = text.len();
+    if let Err(error) = push_all(text, characters) {
+        text.truncate(before);
+        return Err(error);
+    }
+    Ok(())
 }
 
 /// A string that was written is read as itself: on a line of its own, and before whatever follows it there.

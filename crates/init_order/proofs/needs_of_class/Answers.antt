@@ -1,4 +1,4 @@
-use Rattle.std.proofs.Common.{◌≡◌, ◌∙◌, sym, ap, refl}
+use Rattle.std.proofs.Common.{◌∙◌, ap}
 use Rattle.std.specs.Prelude.{filter}
 use Rattle.hierarchy.specs.ClassLists.{add_all}
 use Rattle.init_order.specs.Needs.{declares_default}

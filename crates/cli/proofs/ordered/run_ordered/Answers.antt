@@ -1,11 +1,14 @@
-use Rattle.std.proofs.Common.{◌≡◌, rules, List, [], ◌∷◌, sym, subst}
-use Rattle.init_core.specs.declared.event.Event.{Event}
-use Rattle.init_core.specs.Interleaving.{IsLegal}
-use Rattle.cli.specs.Alone.{alone}
-use Rattle.cli.proofs.Alone.{alone_is_legal}
+use Rattle.std.proofs.Common.{◌≡◌, ◌≤◌, ℕ, length, arith, subst, ◌∙◌}
+use Rattle.hierarchy.specs.LinkedProgram.{LinkedProgram}
+use Rattle.statics.specs.Statics.{statics_of}
+use Rattle.init_core.specs.Interleaving.{of_class}
+use Rattle.init_core.specs.Lawful.{IsLawful}
+use Rattle.cli.proofs.OneThread.{one_is_legal}
 use Rattle.cli.proofs.ordered.run_ordered.Goals as goal
 
 pub returns-clause-legal : goal.returns-clause-legal
 returns-clause-legal c =
-    let same : c.from_vec.result ≡ alone c.args.main = search rules in
-    rw same (alone_is_legal c.args.program.now c.args.main c.requires.alone)
+    let events = c.in_ok-world.world.events in
+    rw (c.from_vec.ensures, c.into_events.ensures.events)
+    (one_is_legal c.args.program.now c.args.main events c.in_ok-world.ensures.word (λ t past. c.into_events.ensures.others t (rw c.in_ok-world.ensures.one past))
+    (λ d. subst (λ (p : LinkedProgram). IsLawful (statics_of p d) (of_class d events)) c.in_ok-world.ensures.program (c.into_events.ensures.classes d)))

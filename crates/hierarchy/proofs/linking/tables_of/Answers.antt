@@ -10,9 +10,9 @@ returns-in-Ok-Cycle-clause-fault c = inr (circles (rw c.in-Ok-Cycle.field-0-is a
 pub returns-in-Some-clause-fault : goal.returns-in-Some-clause-fault
 returns-in-Some-clause-fault c =
     let searched = rw c.in-Ok-Supertypes.field-0-is at c.in-Ok-Supertypes.ensures in
-    inr (repeats (λ n. not_cyclic (linked c.args.classes.now) searched.1 (id n)) (sym c.first_repeating.ensures ∙ c.in-Some.is))
+    inr (repeats (λ n. not_cyclic (linked c.args.classes.now) searched.1 (id n)) (sym c.in-Ok.ensures ∙ c.in-Some.is))
 
 pub returns-in-Some-beyond-clause-fault : goal.returns-in-Some-beyond-clause-fault
 returns-in-Some-beyond-clause-fault c =
     let searched = rw c.in-Ok-Supertypes.field-0-is at c.in-Ok-Supertypes.ensures in
-    inr (fills (λ n. not_cyclic (linked c.args.classes.now) searched.1 (id n)) (sym c.first_repeating.ensures ∙ c.in_default.is) (rw c.in-Some-beyond.is at c.in-Ok.ensures.beyond))
+    inr (fills (λ n. not_cyclic (linked c.args.classes.now) searched.1 (id n)) (sym c.in-Ok.ensures ∙ c.in_default-repeated.is) (rw c.in-Some-beyond.is at c.in-Ok-first_beyond_heap.ensures.beyond))

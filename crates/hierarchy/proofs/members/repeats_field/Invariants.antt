@@ -1,9 +1,6 @@
-use Rattle.std.proofs.Common.{◌≡◌, length}
-use Rattle.hierarchy.specs.Members.{repeats, same_field_member}
+use Rattle.std.proofs.Common.{◌≡◌, false, take}
+use Rattle.hierarchy.specs.Members.{repeats, same_field_member, field_name, Noted}
 use Rattle.hierarchy.proofs.members.repeats_field.Given as goal
 
-abbrev pub invariant-loop-rest : goal.invariant-loop-rest
-invariant-loop-rest l = repeats same_field_member l.rest ≡ repeats same_field_member l.fields
-
-abbrev pub decreases-loop-rest : goal.decreases-loop-rest
-decreases-loop-rest l = length l.rest
+abbrev pub invariant-loop-place : goal.invariant-loop-place
+invariant-loop-place l = (repeats same_field_member (take l.place l.fields) ≡ false) × Noted field_name l.names (take l.place l.fields)

@@ -1,5 +1,5 @@
 use Rattle.std.proofs.Common.{◌≡◌, ◌+◌, length}
-use Rattle.jasmin_reader.specs.File.{line_len}
+use Rattle.jasmin_text.specs.Lines.{line_len}
 use Rattle.jasmin_reader.proofs.file.line_length.Given as goal
 
 abbrev pub invariant-loop-rest : goal.invariant-loop-rest

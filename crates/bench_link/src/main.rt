@@ -1,0 +1,140 @@
+//! Times of linking, as ratios within one run.
+//!
+//! With the word `all` as its argument, as `rt run -- all`, it links 128, 256, 512 and 1,024 classes, each with as many
+//! members as there are classes, each class below the one before it. What is printed is how long linking takes a
+//! member, beside the same of 128 classes. Without an argument a few classes are linked, and nothing is printed that
+//! hangs on time.
+#![tactic(auto)]
+
+use descriptors::{BaseType, ClassName, ElementType, FieldType, MethodType};
+use hierarchy::link;
+use jasmin_text::{Access, ClassKind, ClassParts, Field, Method};
+use jasmin_words::name::MemberName;
+use sequence::Sequence;
+use std::alloc::{AllocError, Global};
+use std::rt::Runtime;
+use std::time::Instant;
+use std::{env, io};
+
+fn class_name(alloc: Global, bytes: &[u8]) -> Result<ClassName, AllocError> {
+    match ClassName::parse(alloc, bytes)? {
+        Some(name) => Ok(name),
+        None => Err(AllocError),
+    }
+}
+
+fn member_name(alloc: Global, letter: &str, number: usize) -> Result<MemberName, AllocError> {
+    let text = format!(in alloc; "{letter}{number}")?;
+    match MemberName::parse(alloc, text.as_bytes())? {
+        Some(name) => Ok(name),
+        None => Err(AllocError),
+    }
+}
+
+// The field of that number, an int.
+fn field(alloc: Global, number: usize) -> Result<Field, AllocError> {
+    Ok(Field {
+        access: Access::NONE,
+        name: member_name(alloc, "f", number)?,
+        field_type: FieldType {
+            dimensions: 0,
+            element: ElementType::Base(BaseType::Int),
+        },
+        value: None,
+    })
+}
+
+// The method of that number, without parameters, void and abstract.
+fn method(alloc: Global, number: usize) -> Result<Method, AllocError> {
+    Ok(Method {
+        access: Access::NONE,
+        name: member_name(alloc, "m", number)?,
+        method_type: MethodType::new(Sequence::new(alloc), None),
+        code: None,
+    })
+}
+
+// The name of the class before the one of that number.
+fn superclass(alloc: Global, number: usize) -> Result<ClassName, AllocError> {
+    if number == 0 {
+        return class_name(alloc, b"java/lang/Object");
+    }
+    let text = format!(in alloc; "C{}", number - 1)?;
+    class_name(alloc, text.as_bytes())
+}
+
+// The class of that number, with so many members: half fields, half methods.
+fn class(alloc: Global, number: usize, members: usize) -> Result<ClassParts, AllocError> {
+    let mut fields = Sequence::new(alloc);
+    let mut methods = Sequence::new(alloc);
+    for place in 0..members / 2 {
+        fields.push(field(alloc, place)?)?;
+        methods.push(method(alloc, place)?)?;
+    }
+    let text = format!(in alloc; "C{number}")?;
+    Ok(ClassParts {
+        kind: ClassKind::Class,
+        access: Access::NONE,
+        name: class_name(alloc, text.as_bytes())?,
+        superclass: superclass(alloc, number)?,
+        interfaces: Sequence::new(alloc),
+        fields,
+        methods,
+    })
+}
+
+fn classes(alloc: Global, count: usize) -> Result<Vec<ClassParts>, AllocError> {
+    let mut all = Vec::new(alloc);
+    for number in 0..count {
+        all.push(class(alloc, number, count)?)?;
+    }
+    Ok(all)
+}
+
+// How long it takes to link so many classes with as many members each, in nanoseconds.
+fn link_time(rt: &impl Runtime, alloc: Global, count: usize) -> io::Result<u128> {
+    let all = classes(alloc, count)?;
+    let start = Instant::now(rt)?;
+    let program = link(alloc, all);
+    let time = start.elapsed(rt)?.as_nanos();
+    match program {
+        Ok(_) => Ok(time),
+        Err(_) => Err(io::Error::from(AllocError)),
+    }
+}
+
+// How often one time a member holds another, with one decimal.
+fn ratio(
+    alloc: Global,
+    time: u128,
+    members: u128,
+    unit: u128,
+    unit_members: u128,
+) -> Result<String, AllocError> {
+    let above = time.saturating_mul(unit_members).saturating_mul(10);
+    let below = unit.saturating_mul(members).max(1);
+    let tenths = above / below;
+    format!(in alloc; "{}.{}", tenths / 10, tenths % 10)
+}
+
+fn print_ratios(rt: &impl Runtime, alloc: Global) -> io::Result<()> {
+    let unit = link_time(rt, alloc, 128)?;
+    println!(rt; "linking a member, against that of 128 classes with 128 members each")?;
+    for count in [256_usize, 512, 1024] {
+        let time = link_time(rt, alloc, count)?;
+        let members = (count as u128).saturating_mul(count as u128);
+        let text = ratio(alloc, time, members, unit, 128 * 128)?;
+        println!(rt; "{count} classes: {text}")?;
+    }
+    Ok(())
+}
+
+fn main(rt: HostRuntime) -> io::Result<()> {
+    match env::args(&rt)?.nth(1) {
+        Some(_) => print_ratios(&rt, rt.alloc()),
+        None => {
+            link_time(&rt, rt.alloc(), 8)?;
+            println!(&rt; "give the word all to see ratios")
+        }
+    }
+}

@@ -1,0 +1,63 @@
+-- The order in which a field is looked up, step by step.
+use Rattle.std.proofs.Common.{◌≡◌, ℕ, ◌+◌, ◌-◌, ◌<◌, ◌≤◌, Option, Some, None, List, [], ◌∷◌, ◌++◌, length, get_or, slice_get, refl, sym, ap, subst, ◌∙◌, arith, append-nil}
+use Rattle.std.proofs.lemmas.Grind.{flat_map-append}
+use Rattle.std.specs.List.{flat_map}
+use Rattle.std.specs.Option.{option_map, option_to_list}
+use Rattle.hierarchy.specs.declared.class.ClassId.{ClassId}
+use Rattle.hierarchy.specs.declared.built_in.BuiltIn.{BuiltIn}
+use Rattle.hierarchy.specs.BuiltIn.{built_ins, superclass_of_built_in, number_of}
+use Rattle.hierarchy.specs.LinkedProgram.{LinkedProgram, built_in}
+use Rattle.hierarchy.specs.ClassLists.{Among, first, add_new, add_all}
+use Rattle.hierarchy.specs.Hierarchy.{interfaces_in, interfaces_of, IsAcyclic}
+use Rattle.hierarchy.specs.Ancestry.{superclass_in, superclass_of, superclass_alone}
+use Rattle.hierarchy.specs.Fields.{interfaces_first, field_order}
+use Rattle.hierarchy.proofs.Acyclic.{get-past}
+use Rattle.hierarchy.proofs.ClassMembership.{among_left, among_right, add_all-append}
+use Rattle.hierarchy.proofs.Walks.{none_id, among_get_or}
+use Rattle.hierarchy.proofs.Ancestries.{interfaces_first_upward, walked_order}
+
+-- a direct superinterface stands directly above
+pub interface_above : (p : LinkedProgram) (c : ClassId) (items : List ClassId) (k : ℕ) → interfaces_of p c ≡ items → k < length items → Among (get_or items k none_id) (interfaces_first p c)
+interface_above p c items k e h = among_left (superclass_alone p c) (rw e (among_get_or items k h))
+
+pub superclass_is_above : (p : LinkedProgram) (c s : ClassId) → superclass_of p c ≡ Some s → Among s (superclass_alone p c)
+superclass_is_above p c s e = subst (λ o. Among s (option_to_list o)) (sym e) first
+
+pub superclass_above : (p : LinkedProgram) (c s : ClassId) → superclass_of p c ≡ Some s → Among s (interfaces_first p c)
+superclass_above p c s e = among_right (interfaces_of p c) (superclass_is_above p c s e)
+
+-- the superinterfaces, then the superclass
+pub ordered_some : (p : LinkedProgram) → IsAcyclic p → (start now next : List ClassId) (c s : ClassId) → now ≡ add_all (add_new start c) (flat_map (field_order p) (interfaces_of p c)) → superclass_of p c ≡ Some s →
+    next ≡ add_all now (field_order p s) → next ≡ add_all start (field_order p c)
+ordered_some p a start now next c s n e h =
+    walked_order p (interfaces_first p) (interfaces_first_upward p) a start next (add_new start c) c refl
+    (h ∙ ap (λ z. add_all z (field_order p s)) n ∙ sym (add_all-append (add_new start c) (flat_map (field_order p) (interfaces_of p c)) (field_order p s)) ∙
+    ap (λ z. add_all (add_new start c) (flat_map (field_order p) (interfaces_of p c) ++ z)) (sym (append-nil (field_order p s))) ∙
+    ap (add_all (add_new start c)) (sym (flat_map-append (field_order p) (interfaces_of p c) (s ∷ []))) ∙
+    ap (λ o. add_all (add_new start c) (flat_map (field_order p) (interfaces_of p c ++ option_to_list o))) (sym e))
+
+pub ordered_none : (p : LinkedProgram) → IsAcyclic p → (start now : List ClassId) (c : ClassId) → now ≡ add_all (add_new start c) (flat_map (field_order p) (interfaces_of p c)) → superclass_of p c ≡ None →
+    now ≡ add_all start (field_order p c)
+ordered_none p a start now c n e =
+    walked_order p (interfaces_first p) (interfaces_first_upward p) a start now (add_new start c) c refl
+    (n ∙ ap (λ z. add_all (add_new start c) (flat_map (field_order p) z)) (sym (append-nil (interfaces_of p c))) ∙
+    ap (λ o. add_all (add_new start c) (flat_map (field_order p) (interfaces_of p c ++ option_to_list o))) (sym e))
+
+-- past the files' classes there are no superinterfaces
+pub interfaces_past : (p : LinkedProgram) (c : ClassId) → length p.classes ≤ c.number → interfaces_of p c ≡ []
+interfaces_past p c h = ap interfaces_in (get-past p.classes c.number h)
+
+pub above_past : (p : LinkedProgram) (c : ClassId) → length p.classes ≤ c.number → interfaces_first p c ≡ superclass_alone p c
+above_past p c h = ap (λ z. z ++ superclass_alone p c) (interfaces_past p c h)
+
+-- the superclass of a built-in class is one
+pub superclass_past : (p : LinkedProgram) (c s : ClassId) → length p.classes ≤ c.number → superclass_of p c ≡ Some s → length p.classes ≤ s.number
+superclass_past p c s h e = at (slice_get built_ins (c.number - length p.classes)) (sym (ap (λ o. superclass_in p o (slice_get built_ins (c.number - length p.classes))) (get-past p.classes c.number h)) ∙ e)
+  where
+    built : (o : Option BuiltIn) → option_map (built_in p) o ≡ Some s → length p.classes ≤ s.number
+    built None q = absurd cc
+    built (Some b) q = let same : built_in p b ≡ s = cc in let n : length p.classes + number_of b ≡ s.number = ap (λ (z : ClassId). z.number) same in omega arith
+
+    at : (b : Option BuiltIn) → superclass_in p None b ≡ Some s → length p.classes ≤ s.number
+    at None q = absurd cc
+    at (Some b) q = built (superclass_of_built_in b) q

@@ -1,0 +1,4 @@
+use Rattle.hierarchy.proofs.order.+enumerate_upward.Given as goal
+
+abbrev pub decreases-enumerate_upward : goal.decreases-enumerate_upward
+decreases-enumerate_upward l = l.depth

@@ -1,0 +1,160 @@
+//! Methods as their classes declare them.
+
+ghost use Rattle.std.specs.Prelude.{◌≡◌};
+ghost use Rattle.hierarchy.specs.MemberNames.{method_names};
+ghost use Rattle.hierarchy.specs.BuiltInMethods.{built_in_method as built_in_method_of};
+ghost use Rattle.hierarchy.specs.Methods.{is_method as has_method, method_from, of_built_in, declared_method, counts as counts_as, if_counted, counted_method};
+
+use crate::built_in::BuiltIn;
+use crate::built_in_method::{BuiltInMethod, built_in_method};
+use crate::class::ClassId;
+use crate::program::Program;
+use crate::texts::Texts;
+use descriptors::MethodType;
+use jasmin_text::{Access, Method};
+
+/// A method of a program.
+#[derive(Clone, Copy, Debug, PartialEq, Eq)]
+pub enum MethodId {
+    /// A method of a file's class: the class that declares it, and the method's place among those of the class.
+    Declared(ClassId, usize),
+    /// A method of a built-in class.
+    BuiltIn(BuiltIn, BuiltInMethod),
+}
+
+/// A method as its class declares it.
+#[derive(Clone, Copy)]
+pub(crate) struct DeclaredMethod {
+    pub(crate) id: MethodId,
+    pub(crate) access: Access,
+}
+
+/// Which methods count in a search.
+#[derive(Clone, Copy)]
+pub(crate) enum Counted {
+    /// Each.
+    Each,
+    /// Those that aren't static.
+    Instance,
+    /// Those that are neither private nor static.
+    Shared,
+}
+
+impl Counted {
+    fn counts(self, access: Access) -> bool
+        ensures { result ≡ counts_as self access }
+    {
+        match self {
+            Counted::Each => true,
+            Counted::Instance => !access.is_static,
+            Counted::Shared => !access.private && !access.is_static,
+        }
+    }
+}
+
+/// The access words of a built-in class's method: `public` alone.
+pub(crate) const PUBLIC: Access = Access {
+    public: true,
+    ..Access::NONE
+};
+
+/// Whether a method has that name and descriptor.
+fn is_method(name: &[u8], method_type: &MethodType, method: &Method) -> bool
+    ensures { result ≡ has_method name.now method_type.now method.now }
+{
+    method.name.as_slice() == name && method.method_type == *method_type
+}
+
+/// The method of that name and descriptor among those of a file's class, from the first of the name on.
+fn method_among(
+    class: ClassId,
+    methods: &[Method],
+    names: &Texts,
+    name: &[u8],
+    method_type: &MethodType,
+) -> Option<DeclaredMethod>
+    requires names { names.now ≡ method_names methods.now }
+    ensures { result ≡ method_from class 0 name.now method_type.now methods.now }
+{
+    let Some(first) = names.place(name) else {
+        return None;
+    };
+    let mut place = first;
+    let mut rest = methods.split_at(first).1;
+    while let [method, after @ ..] = rest {
+        if is_method(name, method_type, method) {
+            return Some(DeclaredMethod {
+                id: MethodId::Declared(class, place),
+                access: method.access,
+            });
+        }
+        place += 1;
+        rest = after;
+    }
+    None
+}
+
+/// The method of that name and descriptor that a built-in class declares.
+fn method_of_built_in(
+    class: BuiltIn,
+    name: &[u8],
+    method_type: &MethodType,
+) -> Option<DeclaredMethod>
+    ensures { result ≡ of_built_in class (built_in_method_of class name.now method_type.now) }
+{
+    match built_in_method(class, name, method_type) {
+        Some(method) => Some(DeclaredMethod {
+            id: MethodId::BuiltIn(class, method),
+            access: PUBLIC,
+        }),
+        None => None,
+    }
+}
+
+impl Program {
+    /// The method of that name and descriptor that a class declares.
+    pub(crate) fn declared_method(
+        &self,
+        name: &[u8],
+        method_type: &MethodType,
+        id: ClassId,
+    ) -> Option<DeclaredMethod>
+        ensures { result ≡ declared_method self.now name.now method_type.now id }
+    {
+        match self.class(id) {
+            Some(class) => method_among(
+                id,
+                class.methods.as_slice(),
+                &self.member_names(id).methods,
+                name,
+                method_type,
+            ),
+            None => match self.built_in_at(id) {
+                Some(class) => method_of_built_in(class, name, method_type),
+                None => None,
+            },
+        }
+    }
+
+    /// The method of that name and descriptor that a class declares, if it counts.
+    pub(crate) fn counted_method(
+        &self,
+        counted: Counted,
+        name: &[u8],
+        method_type: &MethodType,
+        id: ClassId,
+    ) -> Option<DeclaredMethod>
+        ensures { result ≡ counted_method self.now counted name.now method_type.now id }
+    {
+        match self.declared_method(name, method_type, id) {
+            Some(method) => {
+                if counted.counts(method.access) {
+                    Some(method)
+                } else {
+                    None
+                }
+            }
+            None => None,
+        }
+    }
+}

@@ -1,0 +1,223 @@
+//! Field resolution.
+
+ghost use Rattle.std.specs.Prelude.{◌≡◌, ◌≤◌, length};
+ghost use Rattle.hierarchy.specs.Ancestry.{first_given};
+ghost use Rattle.hierarchy.specs.MemberNames.{field_names};
+ghost use Rattle.hierarchy.specs.Fields.{field_order, is_field as has_field, field_from, is_class_type, is_out, built_in_field, declared_field, is_of_kind, resolved_field};
+
+use crate::built_in::BuiltIn;
+use crate::class::ClassId;
+use crate::program::Program;
+use crate::texts::Texts;
+use descriptors::{ElementType, FieldType};
+use jasmin_text::Field;
+
+/// A field of a program.
+#[derive(Clone, Copy, Debug, PartialEq, Eq)]
+pub enum FieldId {
+    /// A field of a file's class: the class that declares it, and the field's place among those of the class.
+    Declared(ClassId, usize),
+    /// The field `out` of java/lang/System, the only one of a built-in class.
+    Out,
+}
+
+/// Which kind of field an instruction wants (JVMS SE 8 chapter 6).
+#[derive(Clone, Copy, Debug, PartialEq, Eq)]
+pub enum FieldKind {
+    /// A class variable, as `getstatic` and `putstatic` want it.
+    Static,
+    /// An instance variable, as `getfield` and `putfield` want it.
+    Instance,
+}
+
+/// A field as its class declares it.
+#[derive(Clone, Copy)]
+pub(crate) struct DeclaredField {
+    pub(crate) id: FieldId,
+    pub(crate) is_static: bool,
+}
+
+/// Whether a field has that name and descriptor.
+fn is_field(name: &[u8], field_type: &FieldType, field: &Field) -> bool
+    ensures { result ≡ has_field name.now field_type.now field.now }
+{
+    field.name.as_slice() == name && field.field_type == *field_type
+}
+
+/// The field of that name and descriptor among those of a file's class, from the first of the name on.
+fn field_among(
+    class: ClassId,
+    fields: &[Field],
+    names: &Texts,
+    name: &[u8],
+    field_type: &FieldType,
+) -> Option<DeclaredField>
+    requires names { names.now ≡ field_names fields.now }
+    ensures { result ≡ field_from class 0 name.now field_type.now fields.now }
+{
+    let Some(first) = names.place(name) else {
+        return None;
+    };
+    let mut place = first;
+    let mut rest = fields.split_at(first).1;
+    while let [field, after @ ..] = rest {
+        if is_field(name, field_type, field) {
+            return Some(DeclaredField {
+                id: FieldId::Declared(class, place),
+                is_static: field.access.is_static,
+            });
+        }
+        place += 1;
+        rest = after;
+    }
+    None
+}
+
+/// Whether a type is the class of that internal name.
+pub(crate) fn is_class(name: &[u8], field_type: &FieldType) -> bool
+    ensures { result ≡ is_class_type name.now field_type.now }
+{
+    match &field_type.element {
+        ElementType::Base(_) => false,
+        ElementType::Class(class) => field_type.dimensions == 0 && class.as_slice() == name,
+    }
+}
+
+/// Whether these are the name and descriptor of java/lang/System's field.
+fn names_out(name: &[u8], field_type: &FieldType) -> bool
+    ensures { result ≡ is_out name.now field_type.now }
+{
+    name == b"out".as_slice() && is_class(b"java/io/PrintStream", field_type)
+}
+
+/// The field of that name and descriptor that a built-in class declares.
+fn field_of_built_in(
+    class: Option<BuiltIn>,
+    name: &[u8],
+    field_type: &FieldType,
+) -> Option<DeclaredField>
+    ensures { result ≡ built_in_field class name.now field_type.now }
+{
+    match class {
+        Some(BuiltIn::System) => {
+            if names_out(name, field_type) {
+                Some(DeclaredField {
+                    id: FieldId::Out,
+                    is_static: true,
+                })
+            } else {
+                None
+            }
+        }
+        _ => None,
+    }
+}
+
+impl DeclaredField {
+    fn is(self, kind: FieldKind) -> bool
+        ensures { result ≡ is_of_kind kind self }
+    {
+        match kind {
+            FieldKind::Static => self.is_static,
+            FieldKind::Instance => !self.is_static,
+        }
+    }
+}
+
+impl Program {
+    /// The field of that name and descriptor that a class declares.
+    fn declared_field(
+        &self,
+        name: &[u8],
+        field_type: &FieldType,
+        id: ClassId,
+    ) -> Option<DeclaredField>
+        ensures { result ≡ declared_field self.now name.now field_type.now id }
+    {
+        match self.class(id) {
+            Some(class) => field_among(
+                id,
+                class.fields.as_slice(),
+                &self.member_names(id).fields,
+                name,
+                field_type,
+            ),
+            None => field_of_built_in(self.built_in_at(id), name, field_type),
+        }
+    }
+
+    /// What the first of these classes declares that declares it.
+    fn first_field(
+        &self,
+        name: &[u8],
+        field_type: &FieldType,
+        ids: &[ClassId],
+    ) -> Option<DeclaredField>
+        ensures { result ≡ first_given (declared_field self.now name.now field_type.now) ids.now }
+    {
+        let mut rest = ids;
+        while let [id, after @ ..] = rest {
+            if let Some(found) = self.declared_field(name, field_type, *id) {
+                return Some(found);
+            }
+            rest = after;
+        }
+        None
+    }
+
+    /// The field that is found from a built-in class on: these have no superinterfaces.
+    fn field_above(&self, name: &[u8], field_type: &FieldType, id: ClassId) -> Option<DeclaredField>
+        requires { length self.now.classes ≤ id.number }
+        ensures { result ≡ first_given (declared_field self.now name.now field_type.now) (field_order self.now id) }
+    {
+        let mut next = id;
+        for _taken in 0..self.len() + 66 {
+            if let Some(found) = self.declared_field(name, field_type, next) {
+                return Some(found);
+            }
+            match self.superclass(next) {
+                Some(superclass) => next = superclass,
+                None => return None,
+            }
+        }
+        None
+    }
+
+    /// The field that is found from a class on.
+    fn found_field(&self, name: &[u8], field_type: &FieldType, id: ClassId) -> Option<DeclaredField>
+        ensures { result ≡ first_given (declared_field self.now name.now field_type.now) (field_order self.now id) }
+    {
+        if id.number < self.len() {
+            return self.first_field(name, field_type, self.field_order(id));
+        }
+        self.field_above(name, field_type, id)
+    }
+
+    /// The field that a reference to a class, a name and a descriptor names, for an instruction that wants that
+    /// kind of field (JVMS SE 8 5.4.3.2).
+    ///
+    /// It is looked up in the class, then in each direct superinterface and what is above it, then in the superclass
+    /// and what is above it. `Err` is the class of the error to throw: NoSuchFieldError where no class declares it,
+    /// IncompatibleClassChangeError where the field is static and an instance field is wanted, or the reverse.
+    /// Takes no memory.
+    pub fn resolve_field(
+        &self,
+        class: ClassId,
+        name: &[u8],
+        field_type: &FieldType,
+        kind: FieldKind,
+    ) -> Result<FieldId, BuiltIn>
+        ensures { result ≡ resolved_field self.now class name.now field_type.now kind }
+    {
+        match self.found_field(name, field_type, class) {
+            None => Err(BuiltIn::NoSuchFieldError),
+            Some(field) => {
+                if field.is(kind) {
+                    Ok(field.id)
+                } else {
+                    Err(BuiltIn::IncompatibleClassChangeError)
+                }
+            }
+        }
+    }
+}

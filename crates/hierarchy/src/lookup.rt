@@ -1,0 +1,147 @@
+//! Where methods are looked up: superclasses, and maximally specific superinterface methods.
+
+ghost use Rattle.std.specs.Prelude.{◌≡◌};
+ghost use Rattle.std.specs.List.{list_any, filter, filter_map};
+ghost use Rattle.hierarchy.specs.Ancestry.{first_given};
+ghost use Rattle.hierarchy.specs.Methods.{counted_method, method_of_superclasses, all_superinterfaces, first_superinterface_method, is_overridden, specific_method, is_concrete, concrete_specific};
+ghost use Rattle.hierarchy.specs.Found.{found_of};
+
+use crate::class::ClassId;
+use crate::declared_method::{Counted, DeclaredMethod};
+use crate::program::Program;
+use descriptors::MethodType;
+
+/// How many there are, and the only one.
+#[derive(Clone, Copy)]
+pub(crate) enum Found {
+    /// None.
+    Nothing,
+    /// Exactly one.
+    One(DeclaredMethod),
+    /// Two or more.
+    Several,
+}
+
+impl Program {
+    /// What a class declares that counts, else what the nearest superclass declares which declares such a method.
+    pub(crate) fn method_of_superclasses(
+        &self,
+        counted: Counted,
+        name: &[u8],
+        method_type: &MethodType,
+        id: ClassId,
+    ) -> Option<DeclaredMethod>
+        ensures { result ≡ method_of_superclasses self.now counted name.now method_type.now id }
+    {
+        let mut next = id;
+        for _taken in 0..self.len() + 66 {
+            if let Some(method) = self.counted_method(counted, name, method_type, next) {
+                return Some(method);
+            }
+            match self.superclass(next) {
+                Some(superclass) => next = superclass,
+                None => return None,
+            }
+        }
+        None
+    }
+
+    /// The first superinterface method that is neither private nor static.
+    pub(crate) fn first_superinterface_method(
+        &self,
+        name: &[u8],
+        method_type: &MethodType,
+        id: ClassId,
+    ) -> Option<DeclaredMethod>
+        ensures { result ≡ first_superinterface_method self.now name.now method_type.now id }
+    {
+        let mut rest = self.all_superinterfaces(id);
+        while let [interface, after @ ..] = rest {
+            if let Some(method) = self.counted_method(
+                Counted::Shared,
+                name,
+                method_type,
+                *interface,
+            ) {
+                return Some(method);
+            }
+            rest = after;
+        }
+        None
+    }
+
+    /// Whether one of these interfaces that is below `id` declares such a method too.
+    fn is_overridden(
+        &self,
+        name: &[u8],
+        method_type: &MethodType,
+        interfaces: &[ClassId],
+        id: ClassId,
+    ) -> bool
+        ensures { result ≡ is_overridden self.now name.now method_type.now interfaces.now id }
+    {
+        let mut rest = interfaces;
+        while let [interface, after @ ..] = rest {
+            if self.is_subinterface(*interface, id)
+                && self
+                    .counted_method(Counted::Shared, name, method_type, *interface)
+                    .is_some()
+            {
+                return true;
+            }
+            rest = after;
+        }
+        false
+    }
+
+    /// What an interface declares that is neither private nor static and that none of these overrides.
+    fn specific_method(
+        &self,
+        name: &[u8],
+        method_type: &MethodType,
+        interfaces: &[ClassId],
+        id: ClassId,
+    ) -> Option<DeclaredMethod>
+        ensures { result ≡ specific_method self.now name.now method_type.now interfaces.now id }
+    {
+        match self.counted_method(Counted::Shared, name, method_type, id) {
+            Some(method) => {
+                if self.is_overridden(name, method_type, interfaces, id) {
+                    None
+                } else {
+                    Some(method)
+                }
+            }
+            None => None,
+        }
+    }
+
+    /// The maximally specific superinterface methods of a class that aren't abstract.
+    pub(crate) fn concrete_specific(
+        &self,
+        name: &[u8],
+        method_type: &MethodType,
+        id: ClassId,
+    ) -> Found
+        ensures { result ≡ found_of (concrete_specific self.now name.now method_type.now id) }
+    {
+        let interfaces = self.all_superinterfaces(id);
+        let mut only = None;
+        let mut rest = interfaces;
+        while let [interface, after @ ..] = rest {
+            if let Some(method) = self.specific_method(name, method_type, interfaces, *interface) {
+                if !method.access.is_abstract {
+                    if only.is_some() {
+                        return Found::Several;
+                    }
+                    only = Some(method);
+                }
+            }
+            rest = after;
+        }
+        match only {
+            Some(method) => Found::One(method),
+            None => Found::Nothing,
+        }
+    }
+}

@@ -1,0 +1,76 @@
+//! What a program keeps beside its classes, so that no call searches up the hierarchy.
+
+ghost use Rattle.std.specs.Prelude.{◌≡◌, ◌≤◌, [], IfOk, length};
+ghost use Rattle.hierarchy.specs.LinkedProgram.{linked};
+ghost use Rattle.hierarchy.specs.Hierarchy.{IsAcyclic};
+ghost use Rattle.hierarchy.specs.Searched.{HasSupertypes};
+ghost use Rattle.hierarchy.specs.Tables.{AreTables};
+ghost use Rattle.hierarchy.specs.Quoted.{quoted_texts, cells_of};
+
+use crate::class::Class;
+use crate::class_set::ClassSet;
+use crate::field_order::field_orders;
+use crate::member_names::{MemberNames, all_member_names};
+use crate::order::{all_inherited, all_superinterfaces};
+use crate::texts::Texts;
+use std::alloc::{AllocError, Global};
+
+/// What a program keeps beside its classes: of each class in file order, lists of classes and of its
+/// members' names; and of all classes the quoted texts.
+#[derive(Debug, Drop)]
+pub(crate) struct Tables {
+    /// All supertypes.
+    pub(crate) supertypes: Vec<ClassSet>,
+    /// The superinterfaces that the class implements by itself, in the order of their enumeration.
+    pub(crate) superinterfaces: Vec<ClassSet>,
+    /// The classes in which a field is looked up, in order.
+    pub(crate) field_orders: Vec<ClassSet>,
+    /// All superinterfaces, direct and indirect, in the order in which methods are looked up.
+    pub(crate) inherited: Vec<ClassSet>,
+    /// The names of the members.
+    pub(crate) members: Vec<MemberNames>,
+    /// The quoted texts of all classes, in order.
+    pub(crate) quoted: Texts,
+}
+
+/// No table, for no class. Takes no memory.
+pub(crate) fn no_tables(alloc: Global) -> Tables
+    ensures { AreTables [] result }
+{
+    Tables {
+        supertypes: Vec::new(alloc),
+        superinterfaces: Vec::new(alloc),
+        field_orders: Vec::new(alloc),
+        inherited: Vec::new(alloc),
+        members: Vec::new(alloc),
+        quoted: Texts::new(alloc),
+    }
+}
+
+/// The tables of classes whose supertypes and quoted texts are found.
+pub(crate) fn tables_with(
+    alloc: Global,
+    classes: &[Class],
+    supertypes: Vec<ClassSet>,
+    quoted: Texts,
+) -> Result<Tables, AllocError>
+    requires few { length classes.now ≤ 1024 }
+    requires acyclic { IsAcyclic (linked classes.now) }
+    requires supertypes { HasSupertypes (linked classes.now) (length classes.now) supertypes.items }
+    requires quoted { quoted ≡ quoted_texts classes.now }
+    requires cells { cells_of classes.now ≤ 1000000 }
+    ensures { IfOk result (λ made. AreTables classes.now made) }
+{
+    let superinterfaces = all_superinterfaces(alloc, classes)?;
+    let field_orders = field_orders(alloc, classes)?;
+    let inherited = all_inherited(alloc, classes)?;
+    let members = all_member_names(alloc, classes)?;
+    Ok(Tables {
+        supertypes,
+        superinterfaces,
+        field_orders,
+        inherited,
+        members,
+        quoted,
+    })
+}

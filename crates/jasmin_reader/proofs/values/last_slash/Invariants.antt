@@ -1,0 +1,11 @@
+use Rattle.std.proofs.Common.{◌≡◌, ◌+◌, ◌<◌, length}
+use Rattle.std.specs.Prelude.{IfSome}
+use Rattle.jasmin_reader.specs.Operands.{slash_in}
+use Rattle.jasmin_reader.proofs.Slashes.{behind}
+use Rattle.jasmin_reader.proofs.values.last_slash.Given as goal
+
+abbrev pub invariant-loop-rest : goal.invariant-loop-rest
+invariant-loop-rest l = (behind l.found l.place (slash_in l.rest) ≡ slash_in l.word) × (l.place + length l.rest ≡ length l.word) × IfSome l.found (λ n. n < l.place)
+
+abbrev pub decreases-loop-rest : goal.decreases-loop-rest
+decreases-loop-rest l = length l.rest

@@ -1,0 +1,174 @@
+-- What the lines in a method add to it.
+use Rattle.std.specs.Prelude.{ℕ, Bool, true, false, not, ◌&&◌, ◌||◌, List, [], ◌∷◌, ◌++◌, length, Option, Some, None, is_some, Result, Ok, Err, ◌==◌, if◌then◌else◌, ℤ, codes}
+use Rattle.std.specs.Option.{ok_or}
+use Rattle.jasmin_words.specs.declared.fault.FaultKind.{FaultKind}
+use Rattle.jasmin_words.specs.declared.fault.FaultKind.TheVariants as fault
+use Rattle.jasmin_words.specs.Gives.{◌>>=◌}
+use Rattle.jasmin_words.specs.Lexing.{Item}
+use Rattle.jasmin_words.specs.Names.{is_label, same_bytes}
+use Rattle.jasmin_text.specs.Forms.{directive_at}
+use Rattle.jasmin_text.specs.Grammar.{place_of}
+use Rattle.jasmin_text.specs.declared.class_text.Code.{Code}
+use Rattle.jasmin_text.specs.declared.class_text.Handler.{Handler}
+use Rattle.jasmin_text.specs.declared.class_text.Method.{Method}
+use Rattle.jasmin_text.specs.declared.form.Directive.{Directive}
+use Rattle.jasmin_text.specs.declared.form.Directive.TheVariants as directive
+use Rattle.jasmin_text.specs.declared.instruction.Instruction.{Instruction}
+use Rattle.jasmin_text.specs.declared.instruction.Instruction.TheVariants as instruction
+use Rattle.jasmin_reader.specs.declared.body.Body.{Body}
+use Rattle.jasmin_reader.specs.declared.body.Catch.{Catch}
+use Rattle.jasmin_reader.specs.declared.switch.Switch.{Switch}
+use Rattle.jasmin_reader.specs.Places.{word_of, within_limit, next_word, operand, ended_at, first_word}
+use Rattle.jasmin_reader.specs.Operands.{checked, label_in, class_name_in, limit_in, last_operand, begins_with}
+use Rattle.jasmin_reader.specs.Listing.{Listing, without_switch, instruction_at, switch_at, behind_colon}
+
+-- ---- labels and instructions
+
+abbrev pub new_label : Option ℕ → Result (Unit {0}) FaultKind
+new_label None = Ok tt
+new_label (Some place) = Err fault.RepeatedLabel
+
+abbrev pub with_label : Body → List ℕ → Body
+with_label b l = record b { labels = b.labels ++ (l, length b.listing.instructions) ∷ [] }
+
+-- a label before the next instruction
+unfoldable pub label_at : Body → List ℕ × Bool → Result Body FaultKind
+label_at b w =
+    if is_label w.0 then (new_label (place_of b.labels w.0) >>= λ _. within_limit w.1 >>= λ _. Ok (with_label b w.0))
+    else Err fault.UnknownInstruction
+
+abbrev pub listed : Body → Result Listing FaultKind → Result Body FaultKind
+listed b read = read >>= λ l. Ok (record b { listing = l })
+
+-- the word behind .end
+abbrev pub end_by : Bool → List ℕ × Bool → List Item → Result (List Item) FaultKind
+end_by true w rest = within_limit w.1 >>= λ _. Ok rest
+end_by false w rest = Err fault.LeftOut
+
+unfoldable pub end_from : List Item → Result (List Item) FaultKind
+end_from items = next_word items >>= λ w. end_by (same_bytes w.0.0 (codes "method")) w.0 w.1
+
+-- a directive where none may stand; of .end the next word is looked at
+unfoldable pub no_directive : Directive → List Item → FaultKind
+no_directive directive.LeftOut rest = fault.LeftOut
+no_directive directive.End rest = elim (end_from rest) [ Ok x ↦ fault.Misplaced | Err k ↦ k ]
+no_directive other rest = fault.Misplaced
+
+abbrev pub labelled_by : Body → List ℕ × Bool → List Item → Option Directive → Result Body FaultKind
+labelled_by b w rest (Some d) = Err (no_directive d rest)
+labelled_by b w rest None = if begins_with 46 w.0 then Err fault.UnknownDirective else listed b (instruction_at b.listing w rest)
+
+-- what may stand behind a label on its line
+unfoldable pub labelled_at : Body → List Item → Result Body FaultKind
+labelled_at b [] = Ok b
+labelled_at b (t ∷ rest) = first_word fault.UnknownInstruction t >>= λ w. labelled_by b w rest (directive_at w.0)
+
+abbrev pub plain_by : Body → List ℕ × Bool → List Item → Option (List Item) → Result Body FaultKind
+plain_by b w rest None = listed b (instruction_at b.listing w rest)
+plain_by b w rest (Some after) = label_at b w >>= λ c. labelled_at c after
+
+abbrev pub statement_by : Body → List ℕ × Bool → List Item → Option Switch → Result Body FaultKind
+statement_by b w rest None = plain_by b w rest (behind_colon rest)
+statement_by b w rest (Some s) = listed b (switch_at (without_switch b.listing) s w rest)
+
+-- a line that begins with this word, which is no directive
+unfoldable pub statement_at : Body → List ℕ × Bool → List Item → Result Body FaultKind
+statement_at b w rest = statement_by b w rest b.listing.switch
+
+-- ---- limits and handler tables
+
+-- no directive stands in a switch
+abbrev pub outside_switch : Body → Result (Unit {0}) FaultKind
+outside_switch b = if is_some b.listing.switch then Err fault.Misplaced else Ok tt
+
+abbrev pub limit_by : Body → Bool → Bool → List Item → Result Body FaultKind
+limit_by b true is_locals rest = last_operand limit_in rest >>= λ n. Ok (record b { stack = n })
+limit_by b false true rest = last_operand limit_in rest >>= λ n. Ok (record b { locals = n })
+limit_by b false false rest = Err fault.BadOperand
+
+abbrev pub limit_word : Body → List ℕ × Bool → List Item → Result Body FaultKind
+limit_word b w rest = limit_by b (same_bytes w.0 (codes "stack") && not w.1) (same_bytes w.0 (codes "locals") && not w.1) rest
+
+-- behind .limit; the last limit counts
+unfoldable pub limit_at : Body → List Item → Result Body FaultKind
+limit_at b items = outside_switch b >>= λ _. next_word items >>= λ w. limit_word b w.0 w.1
+
+abbrev pub caught_in : List ℕ → Result (Option (List ℕ)) FaultKind
+caught_in w = if same_bytes w (codes "all") then Ok None else class_name_in w >>= λ name. Ok (Some name)
+
+-- this word
+abbrev pub keyword_in : List ℕ → List ℕ → Result (Unit {0}) FaultKind
+keyword_in keyword w = if same_bytes w keyword then Ok tt else Err fault.BadOperand
+
+-- a label behind this word
+abbrev pub label_behind : List ℕ → List Item → Result (List ℕ × List Item) FaultKind
+label_behind keyword items = operand (keyword_in keyword) items >>= λ k. operand label_in k.1
+
+-- a row of the handler table by labels
+unfoldable pub catch_from : List Item → Result Catch FaultKind
+catch_from items = operand caught_in items >>= λ class. label_behind (codes "from") class.1 >>= λ from. label_behind (codes "to") from.1 >>= λ to.
+    label_behind (codes "using") to.1 >>= λ handler. ended_at handler.1 >>= λ _. Ok (record { class = class.0; from = from.0; to = to.0; handler = handler.0 })
+
+-- behind .catch
+unfoldable pub catch_at : Body → List Item → Result Body FaultKind
+catch_at b items = outside_switch b >>= λ _. catch_from items >>= λ c. Ok (record b { catches = b.catches ++ c ∷ [] })
+
+-- ---- the end
+
+abbrev pub placed_label : List (List ℕ × ℕ) → List ℕ → Result ℕ FaultKind
+placed_label labels l = ok_or (place_of labels l) fault.UnknownLabel
+
+unfoldable pub placed_labels : List (List ℕ × ℕ) → List (List ℕ) → Result (List ℕ) FaultKind
+placed_labels labels [] = Ok []
+placed_labels labels (l ∷ ls) = placed_label labels l >>= λ place. placed_labels labels ls >>= λ places. Ok (place ∷ places)
+
+unfoldable pub placed_cases : List (List ℕ × ℕ) → List (ℤ × List ℕ) → Result (List (ℤ × ℕ)) FaultKind
+placed_cases labels [] = Ok []
+placed_cases labels (c ∷ cs) = placed_label labels c.1 >>= λ place. placed_cases labels cs >>= λ rest. Ok ((c.0, place) ∷ rest)
+
+-- an instruction with places for its labels
+unfoldable pub placed : List (List ℕ × ℕ) → Instruction (List ℕ) → Result (Instruction ℕ) FaultKind
+placed labels (instruction.Plain p) = Ok (instruction.Plain p)
+placed labels (instruction.Constant c) = Ok (instruction.Constant c)
+placed labels (instruction.Local l n) = Ok (instruction.Local l n)
+placed labels (instruction.Increment n by) = Ok (instruction.Increment n by)
+placed labels (instruction.Jump j l) = placed_label labels l >>= λ place. Ok (instruction.Jump j place)
+placed labels (instruction.TableSwitch low ls d) = placed_labels labels ls >>= λ places. placed_label labels d >>= λ place. Ok (instruction.TableSwitch low places place)
+placed labels (instruction.LookupSwitch cs d) = placed_cases labels cs >>= λ cases. placed_label labels d >>= λ place. Ok (instruction.LookupSwitch cases place)
+placed labels (instruction.Field f r) = Ok (instruction.Field f r)
+placed labels (instruction.Call c r) = Ok (instruction.Call c r)
+placed labels (instruction.CallInterface r) = Ok (instruction.CallInterface r)
+placed labels (instruction.New name) = Ok (instruction.New name)
+placed labels (instruction.NewArray b) = Ok (instruction.NewArray b)
+placed labels (instruction.TypeUse t r) = Ok (instruction.TypeUse t r)
+
+unfoldable pub all_placed : List (List ℕ × ℕ) → List (Instruction (List ℕ)) → Result (List (Instruction ℕ)) FaultKind
+all_placed labels [] = Ok []
+all_placed labels (i ∷ is) = placed labels i >>= λ j. all_placed labels is >>= λ js. Ok (j ∷ js)
+
+abbrev pub handler_of : Option (List ℕ) → ℕ → ℕ → ℕ → Handler
+handler_of class from to handler = record { class = class; from = from; to = to; handler = handler }
+
+-- a row of the handler table with places for its labels
+unfoldable pub placed_catch : List (List ℕ × ℕ) → Catch → Result Handler FaultKind
+placed_catch labels c = placed_label labels c.from >>= λ from. placed_label labels c.to >>= λ to. placed_label labels c.handler >>= λ handler. Ok (handler_of c.class from to handler)
+
+unfoldable pub placed_catches : List (List ℕ × ℕ) → List Catch → Result (List Handler) FaultKind
+placed_catches labels [] = Ok []
+placed_catches labels (c ∷ cs) = placed_catch labels c >>= λ h. placed_catches labels cs >>= λ hs. Ok (h ∷ hs)
+
+-- neither an instruction nor a label nor a row of the handler table
+abbrev pub has_nothing : Body → Bool
+has_nothing b = length b.listing.instructions == 0 && length b.labels == 0 && length b.catches == 0
+
+-- a body is demanded unless abstract stands there, and not allowed under it
+abbrev pub body_of : Body → List (Instruction ℕ) → List Handler → Result (Option Code) FaultKind
+body_of b is hs =
+    if b.access.is_abstract then (if has_nothing b then Ok None else Err fault.BadBody)
+    else if length b.listing.instructions == 0 then Err fault.BadBody
+    else Ok (Some (record { stack = b.stack; locals = b.locals; handlers = hs; instructions = is }))
+
+-- the method, at its end
+unfoldable pub closed : Body → Result Method FaultKind
+closed b = all_placed b.labels b.listing.instructions >>= λ is. placed_catches b.labels b.catches >>= λ hs. body_of b is hs >>= λ code.
+    Ok (record { access = b.access; name = b.name; method_type = b.method_type; code = code })

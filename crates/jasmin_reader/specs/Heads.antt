@@ -1,0 +1,187 @@
+-- The lines that name a class, a field or a method: access words, then the name.
+use Rattle.std.specs.Prelude.{ℕ, Bool, true, false, not, ◌&&◌, ◌||◌, List, [], ◌∷◌, Option, Some, None, is_some, Result, Ok, Err, ◌==◌, if◌then◌else◌, length, codes}
+use Rattle.std.specs.List.{list_any}
+use Rattle.std.specs.Option.{option_map}
+use Rattle.descriptors.specs.Signature.{Signature}
+use Rattle.descriptors.specs.declared.field.FieldType.{FieldType}
+use Rattle.jasmin_words.specs.declared.fault.FaultKind.{FaultKind}
+use Rattle.jasmin_words.specs.declared.fault.FaultKind.TheVariants as fault
+use Rattle.jasmin_words.specs.Gives.{◌>>=◌}
+use Rattle.jasmin_words.specs.Lexing.{Item, Word, LongWord, BadWord, Equals, Colon, Text, BadText}
+use Rattle.jasmin_words.specs.Names.{same_bytes}
+use Rattle.jasmin_text.specs.Spellable.{is_int_type, is_string_type}
+use Rattle.jasmin_text.specs.Tables.{access_of}
+use Rattle.jasmin_text.specs.declared.access.Access.{Access}
+use Rattle.jasmin_text.specs.declared.class_text.ClassKind.{ClassKind}
+use Rattle.jasmin_text.specs.declared.class_text.ClassKind.TheVariants.{Class, Interface}
+use Rattle.jasmin_text.specs.declared.class_text.Constant.{Constant}
+use Rattle.jasmin_text.specs.declared.class_text.Constant.TheVariants as constant
+use Rattle.jasmin_text.specs.declared.class_text.Field.{Field}
+use Rattle.jasmin_text.specs.declared.table.AccessWord.{AccessWord}
+use Rattle.jasmin_text.specs.declared.table.AccessWord.TheVariants as access
+use Rattle.jasmin_reader.specs.declared.head.Place.{Place}
+use Rattle.jasmin_reader.specs.declared.head.Place.TheVariants as place
+use Rattle.jasmin_reader.specs.declared.head.HeadWords.{HeadWords}
+use Rattle.jasmin_reader.specs.declared.table.ClassWord.{ClassWord}
+use Rattle.jasmin_reader.specs.declared.table.ClassWord.TheVariants as class_word
+use Rattle.jasmin_reader.specs.Table.{class_word_at}
+use Rattle.jasmin_reader.specs.Places.{misplaced, word_of, within_limit, operand, string_from, ended_at}
+use Rattle.jasmin_reader.specs.Operands.{class_name_in, member_name_in, integer_in, type_in, typed_in}
+
+-- ---- access words
+
+-- no word yet
+abbrev pub start : ClassKind → HeadWords
+start k = record { kind = k; access = record { public = false; private = false; protected = false; is_static = false; is_final = false; synchronized = false; volatile = false; transient = false; is_abstract = false } }
+
+-- the access words with one more
+abbrev pub with_access : Access → AccessWord → Result Access FaultKind
+with_access a access.Public = Ok (record a { public = true })
+with_access a access.Private = Ok (record a { private = true })
+with_access a access.Protected = Ok (record a { protected = true })
+with_access a access.Static = Ok (record a { is_static = true })
+with_access a access.Final = Ok (record a { is_final = true })
+with_access a access.Synchronized = Ok (record a { synchronized = true })
+with_access a access.Volatile = Ok (record a { volatile = true })
+with_access a access.Transient = Ok (record a { transient = true })
+with_access a access.Abstract = Ok (record a { is_abstract = true })
+with_access a access.Dropped = Ok a
+with_access a access.LeftOut = Err fault.LeftOut
+
+-- abstract and static stand on no method together
+abbrev pub fits_place : Place → Access → Result Access FaultKind
+fits_place place.Method a = if a.is_abstract && a.is_static then Err fault.BadOperand else Ok a
+fits_place other a = Ok a
+
+abbrev pub with_class_word : Place → HeadWords → ClassWord → Result HeadWords FaultKind
+with_class_word p words class_word.Interface = Ok (record words { kind = Interface })
+with_class_word p words (class_word.Access a) = with_access words.access a >>= λ x. fits_place p x >>= λ y. Ok (record words { access = y })
+
+-- what a word says before a name: behind .class the word interface is one more access word
+unfoldable pub head_word_at : Place → List ℕ → Option ClassWord
+head_word_at place.Class w = class_word_at w
+head_word_at other w = option_map class_word.Access (access_of w)
+
+abbrev pub with_known : Place → HeadWords → Option ClassWord → Result HeadWords FaultKind
+with_known p words None = Err fault.BadOperand
+with_known p words (Some c) = with_class_word p words c
+
+-- the words before a name, with one more
+unfoldable pub with_word : Place → HeadWords → List ℕ → Result HeadWords FaultKind
+with_word p words w = with_known p words (head_word_at p w)
+
+abbrev pub is_word : Item → Bool
+is_word (Word w) = true
+is_word (LongWord w) = true
+is_word BadWord = true
+is_word other = false
+
+abbrev pub has_word : List Item → Bool
+has_word items = list_any is_word items
+
+abbrev pub begins_with_word : List Item → Bool
+begins_with_word [] = false
+begins_with_word (t ∷ rest) = is_word t
+
+-- signature ends the words of a field unless a word follows
+abbrev pub is_signature : List Item → Bool
+is_signature [] = false
+is_signature (Word w ∷ rest) = same_bytes w (codes "signature") && not (begins_with_word rest)
+is_signature (other ∷ rest) = false
+
+-- a word that belongs to the access words, the name and the descriptor of a field
+abbrev pub begins_with_part : List Item → Bool
+begins_with_part items = begins_with_word items && not (is_signature items)
+
+abbrev pub behind : List Item → List Item
+behind [] = []
+behind (t ∷ rest) = rest
+
+-- whether the name is still to come, behind the word before these: a field's name is the last word but one of
+-- its words, every other name the last word of its line
+abbrev pub is_before_name : Place → List Item → Bool
+is_before_name place.Field items = begins_with_part items && begins_with_part (behind items)
+is_before_name other items = has_word items
+
+-- the access words, the word in the name's place, and what follows it
+unfoldable pub named_from : Place → HeadWords → List Item → Result (HeadWords × ((List ℕ × Bool) × List Item)) FaultKind
+named_from p words [] = Err fault.BadOperand
+named_from p words (t ∷ rest) = word_of t >>= λ w.
+    if is_before_name p rest then (with_word p words w.0 >>= λ more. within_limit w.1 >>= λ _. named_from p more rest)
+    else Ok (words, (w, rest))
+
+abbrev pub taken_for_access : ClassWord → FaultKind
+taken_for_access (class_word.Access access.LeftOut) = fault.LeftOut
+taken_for_access _ = fault.BadOperand
+
+abbrev pub no_access_by : Option ClassWord → Result (Unit {0}) FaultKind
+no_access_by None = Ok tt
+no_access_by (Some c) = Err (taken_for_access c)
+
+-- Whether a word in the name's place is an access word is decided first: it is then taken as one, and the name is missing.
+unfoldable pub no_access_in : Place → List ℕ → Result (Unit {0}) FaultKind
+no_access_in p w = no_access_by (head_word_at p w)
+
+-- ---- classes
+
+abbrev pub kind_at : Place → ClassKind
+kind_at place.Interface = Interface
+kind_at other = Class
+
+-- behind .class or .interface
+unfoldable pub class_from : Place → List Item → Result (HeadWords × List ℕ) FaultKind
+class_from p items = named_from p (start (kind_at p)) items >>= λ n.
+    no_access_in p n.1.0.0 >>= λ _. class_name_in n.1.0.0 >>= λ name. within_limit n.1.0.1 >>= λ _. ended_at n.1.1 >>= λ _. Ok (n.0, name)
+
+-- ---- fields
+
+-- one signature may stand behind the descriptor; it is skipped
+abbrev pub behind_signature : List Item → Result (List Item) FaultKind
+behind_signature [] = Ok []
+behind_signature (Word w ∷ rest) = if same_bytes w (codes "signature") then (string_from rest >>= λ t. Ok t.1) else Ok (Word w ∷ rest)
+behind_signature (other ∷ rest) = Ok (other ∷ rest)
+
+-- where no value may stand
+abbrev pub no_constant : List Item → Result (Constant × List Item) FaultKind
+no_constant [] = Err fault.BadOperand
+no_constant (t ∷ rest) = Err (misplaced t)
+
+-- a value of a type
+unfoldable pub constant_for : FieldType → List Item → Result (Constant × List Item) FaultKind
+constant_for t items =
+    if is_int_type t then (operand integer_in items >>= λ n. Ok (constant.Int n.0, n.1))
+    else if is_string_type t then (string_from items >>= λ s. Ok (constant.Text s.0, s.1))
+    else no_constant items
+
+abbrev pub value_at : FieldType → List Item → Result (Option Constant) FaultKind
+value_at t [] = Ok None
+value_at t (Equals ∷ rest) = constant_for t rest >>= λ c. ended_at c.1 >>= λ _. Ok (Some c.0)
+value_at t (other ∷ rest) = Err (misplaced other)
+
+-- what stands behind a field's descriptor
+unfoldable pub value_from : FieldType → List Item → Result (Option Constant) FaultKind
+value_from t items = behind_signature items >>= value_at t
+
+abbrev pub field_of : Access → List ℕ → FieldType → Option Constant → Field
+field_of a name t value = record { access = a; name = name; field_type = t; value = value }
+
+-- behind .field
+unfoldable pub field_from : List Item → Result Field FaultKind
+field_from items = named_from place.Field (start Class) items >>= λ n.
+    no_access_in place.Field n.1.0.0 >>= λ _. member_name_in n.1.0.0 >>= λ name. within_limit n.1.0.1 >>= λ _.
+    operand type_in n.1.1 >>= λ t. value_from t.0 t.1 >>= λ value. Ok (field_of n.0.access name t.0 value)
+
+-- ---- methods
+
+-- JVMS SE 8 2.9: an initializer of a class is static, without parameters and without a result
+abbrev pub may_initialize : Access → Signature → Bool
+may_initialize a m = a.is_static && length m.parameters == 0 && not (is_some m.result)
+
+abbrev pub fits_initializer : Access → List ℕ × Signature → Result (Unit {0}) FaultKind
+fits_initializer a m = if same_bytes m.0 (codes "<clinit>") && not (may_initialize a m.1) then Err fault.BadInitializer else Ok tt
+
+-- behind .method: the access words, the name and the type
+unfoldable pub method_from : List Item → Result (Access × (List ℕ × Signature)) FaultKind
+method_from items = named_from place.Method (start Class) items >>= λ n.
+    no_access_in place.Method n.1.0.0 >>= λ _. typed_in member_name_in n.1.0.0 >>= λ m. within_limit n.1.0.1 >>= λ _. fits_initializer n.0.access m >>= λ _.
+    ended_at n.1.1 >>= λ _. Ok (n.0.access, m)

@@ -1,0 +1,213 @@
+-- What single words stand for, and the operands of instructions.
+use Rattle.std.specs.Prelude.{ℕ, zero, suc, ◌+◌, ◌-◌, Bool, true, false, not, ◌&&◌, List, [], ◌∷◌, ◌++◌, take, drop, map, Option, Some, None, Result, Ok, Err, ◌==◌, if◌then◌else◌, nat_le, ℤ, pos, negsuc, ◌+ℤ◌, ◌-ℤ◌, int_le, codes}
+use Rattle.std.specs.Option.{option_map, ok_or}
+use Rattle.descriptors.specs.ClassName.{is_class_name}
+use Rattle.descriptors.specs.Signature.{Signature}
+use Rattle.descriptors.specs.Reading.{field_of_text, method_of_text}
+use Rattle.descriptors.specs.declared.base.BaseType.{BaseType}
+use Rattle.descriptors.specs.declared.fault.DescriptorFault.{DescriptorFault}
+use Rattle.descriptors.specs.declared.fault.DescriptorFault.TheVariants as descriptor
+use Rattle.descriptors.specs.declared.field.FieldType.{FieldType}
+use Rattle.jasmin_words.specs.declared.fault.FaultKind.{FaultKind}
+use Rattle.jasmin_words.specs.declared.fault.FaultKind.TheVariants as fault
+use Rattle.jasmin_words.specs.declared.refusal.Refusal.{Refusal}
+use Rattle.jasmin_words.specs.declared.refusal.Refusal.TheVariants as refusal
+use Rattle.jasmin_words.specs.Gives.{◌>>=◌}
+use Rattle.jasmin_words.specs.Integers.{integer_of}
+use Rattle.jasmin_words.specs.Lexing.{Item, Word, LongWord, BadWord, Equals, Colon, Text, BadText}
+use Rattle.jasmin_words.specs.Names.{is_label, is_member_name}
+use Rattle.jasmin_text.specs.Grammar.{byte_low, short_low}
+use Rattle.jasmin_text.specs.Tables.{find_row}
+use Rattle.jasmin_text.specs.declared.class_text.Constant.{Constant}
+use Rattle.jasmin_text.specs.declared.class_text.Constant.TheVariants as constant
+use Rattle.jasmin_text.specs.declared.form.Form.{Form}
+use Rattle.jasmin_text.specs.declared.form.Form.TheVariants as form
+use Rattle.jasmin_text.specs.declared.instruction.Instruction.{Instruction}
+use Rattle.jasmin_text.specs.declared.instruction.Instruction.TheVariants as instruction
+use Rattle.jasmin_text.specs.declared.instruction.FieldReference.{FieldReference}
+use Rattle.jasmin_text.specs.declared.instruction.MethodReference.{MethodReference}
+use Rattle.jasmin_text.specs.declared.instruction.ReferenceType.{ReferenceType}
+use Rattle.jasmin_text.specs.declared.instruction.ReferenceType.TheVariants as reference
+use Rattle.jasmin_reader.specs.declared.table.BaseWord.{BaseWord}
+use Rattle.jasmin_reader.specs.declared.table.BaseWord.TheVariants as base_word
+use Rattle.jasmin_reader.specs.declared.switch.Switch.{Switch}
+use Rattle.jasmin_reader.specs.declared.switch.Switch.TheVariants as switch
+use Rattle.jasmin_reader.specs.declared.operands.Begun.{Begun}
+use Rattle.jasmin_reader.specs.declared.operands.Begun.TheVariants as begun
+use Rattle.jasmin_reader.specs.Places.{misplaced, word_of, within_limit, next_word, operand, string_from, ended_at, both}
+use Rattle.jasmin_reader.specs.Table.{base_at}
+
+-- ---- words
+
+abbrev pub checked : Bool → List ℕ → Result (List ℕ) FaultKind
+checked b w = if b then Ok w else Err fault.BadOperand
+
+abbrev pub label_in : List ℕ → Result (List ℕ) FaultKind
+label_in w = checked (is_label w) w
+
+abbrev pub class_name_in : List ℕ → Result (List ℕ) FaultKind
+class_name_in w = checked (is_class_name w) w
+
+abbrev pub member_name_in : List ℕ → Result (List ℕ) FaultKind
+member_name_in w = checked (is_member_name w) w
+
+abbrev pub integer_in : List ℕ → Result ℤ FaultKind
+integer_in w = ok_or (integer_of w) fault.BadOperand
+
+-- an int of this range
+unfoldable pub int_in : ℤ → ℤ → List ℕ → Result ℤ FaultKind
+int_in low high w = integer_in w >>= λ n. if int_le low n && int_le n high then Ok n else Err fault.BadOperand
+
+-- at least low; above high is this fault
+abbrev pub number_between : ℕ → ℕ → FaultKind → ℤ → Result ℕ FaultKind
+number_between low high above (pos n) = if not (nat_le low n) then Err fault.BadOperand else if nat_le n high then Ok n else Err above
+number_between low high above (negsuc n) = Err fault.BadOperand
+
+unfoldable pub number_in : ℕ → ℕ → FaultKind → List ℕ → Result ℕ FaultKind
+number_in low high above w = integer_in w >>= number_between low high above
+
+abbrev pub local_in : List ℕ → Result ℕ FaultKind
+local_in = number_in 0 65535 fault.BadOperand
+
+-- the count of invokeinterface
+abbrev pub count_in : List ℕ → Result ℕ FaultKind
+count_in = number_in 1 255 fault.BadOperand
+
+-- a count of operands or locals
+abbrev pub limit_in : List ℕ → Result ℕ FaultKind
+limit_in = number_in 0 1024 fault.LimitExceeded
+
+abbrev pub descriptor_kind : DescriptorFault → FaultKind
+descriptor_kind descriptor.LeftOut = fault.LeftOut
+descriptor_kind other = fault.BadDescriptor
+
+-- want of memory is no fault of the text
+abbrev pub refusal_of : DescriptorFault → Refusal FaultKind
+refusal_of descriptor.NoMemory = refusal.Memory
+refusal_of other = refusal.Fault (descriptor_kind other)
+
+abbrev pub by_descriptor : {A : Type 0} → Result A DescriptorFault → Result A FaultKind
+by_descriptor (Ok t) = Ok t
+by_descriptor (Err f) = Err (descriptor_kind f)
+
+unfoldable pub type_in : List ℕ → Result FieldType FaultKind
+type_in w = by_descriptor (field_of_text w)
+
+unfoldable pub signature_in : List ℕ → Result Signature FaultKind
+signature_in w = by_descriptor (method_of_text w)
+
+-- how many bytes stand before the last slash
+abbrev pub slash_in : List ℕ → Option ℕ
+slash_in [] = None
+slash_in (b ∷ bs) = elim (slash_in bs) [ Some n ↦ Some (n + 1) | None ↦ if b == 47 then Some 0 else None ]
+
+abbrev pub member_at : List ℕ → Option ℕ → Result (List ℕ × List ℕ) FaultKind
+member_at w None = Err fault.BadOperand
+member_at w (Some n) = class_name_in (take n w) >>= λ class. member_name_in (drop (n + 1) w) >>= λ name. Ok (class, name)
+
+-- a class and a member's name; the last slash parts them
+unfoldable pub member_in : List ℕ → Result (List ℕ × List ℕ) FaultKind
+member_in w = member_at w (slash_in w)
+
+-- how many bytes stand before the first (
+abbrev pub name_len : List ℕ → ℕ
+name_len [] = 0
+name_len (b ∷ bs) = if b == 40 then 0 else 1 + name_len bs
+
+-- what stands before the first ( and the descriptor from there on
+unfoldable pub typed_in : {A : Type 0} → (List ℕ → Result A FaultKind) → List ℕ → Result (A × Signature) FaultKind
+typed_in read w = both (read (take (name_len w) w)) (signature_in (drop (name_len w) w))
+
+abbrev pub method_of : (List ℕ × List ℕ) × Signature → MethodReference
+method_of m = record { class = m.0.0; name = m.0.1; method_type = m.1 }
+
+-- a class, a method's name and its descriptor
+abbrev pub method_in : List ℕ → Result MethodReference FaultKind
+method_in w = typed_in member_in w >>= λ m. Ok (method_of m)
+
+abbrev pub base_of : Option BaseWord → Result BaseType FaultKind
+base_of None = Err fault.BadOperand
+base_of (Some (base_word.Known b)) = Ok b
+base_of (Some base_word.LeftOut) = Err fault.LeftOut
+
+-- the word of a base type
+abbrev pub base_in : List ℕ → Result BaseType FaultKind
+base_in w = base_of (base_at w)
+
+abbrev pub begins_with : ℕ → List ℕ → Bool
+begins_with a [] = false
+begins_with a (b ∷ bs) = b == a
+
+-- a class, or the descriptor of an array
+unfoldable pub reference_in : List ℕ → Result ReferenceType FaultKind
+reference_in w =
+    if begins_with 91 w then (type_in w >>= λ t. Ok (reference.Array t))
+    else (class_name_in w >>= λ name. Ok (reference.Class name))
+
+-- ---- operands
+
+-- the last operand of a line
+abbrev pub last_operand : {A : Type 0} → (List ℕ → Result A FaultKind) → List Item → Result A FaultKind
+last_operand read items = operand read items >>= λ x. ended_at x.1 >>= λ _. Ok x.0
+
+-- an int or a string
+abbrev pub constant_from : List Item → Result (Constant × List Item) FaultKind
+constant_from [] = Err fault.BadOperand
+constant_from (Text t ∷ rest) = Ok (constant.Text t, rest)
+constant_from (BadText k ∷ rest) = Err k
+constant_from (other ∷ rest) = operand integer_in (other ∷ rest) >>= λ n. Ok (constant.Int n.0, n.1)
+
+abbrev pub field_reference : List ℕ × List ℕ → FieldType → FieldReference
+field_reference m t = record { class = m.0; name = m.1; field_type = t }
+
+abbrev pub field_from : List Item → Result FieldReference FaultKind
+field_from items = operand member_in items >>= λ m. last_operand type_in m.1 >>= λ t. Ok (field_reference m.0 t)
+
+-- an optional count, which has no effect
+abbrev pub count_at : List Item → Result (Unit {0}) FaultKind
+count_at [] = Ok tt
+count_at (t ∷ rest) = last_operand count_in (t ∷ rest) >>= λ _. Ok tt
+
+abbrev pub interface_from : List Item → Result MethodReference FaultKind
+interface_from items = operand method_in items >>= λ m. count_at m.1 >>= λ _. Ok m.0
+
+-- how many labels a tableswitch may have
+abbrev pub labels_between : ℤ → ℤ → Result ℕ FaultKind
+labels_between low high = elim ((high +ℤ pos 1) -ℤ low) [ pos n ↦ Ok n | negsuc n ↦ Err fault.BadOperand ]
+
+unfoldable pub room_in : ℤ → List ℕ → Result ℕ FaultKind
+room_in low w = integer_in w >>= labels_between low
+
+-- the last key of a tableswitch, where it is given
+abbrev pub room_at : ℤ → List Item → Result (Option ℕ) FaultKind
+room_at low [] = Ok None
+room_at low (t ∷ rest) = last_operand (room_in low) (t ∷ rest) >>= λ n. Ok (Some n)
+
+abbrev pub table_of : ℤ → Option ℕ → Switch
+table_of low room = switch.Table (record { low = low; room = room; labels = [] })
+
+abbrev pub table_from : List Item → Result Switch FaultKind
+table_from items = operand integer_in items >>= λ low. room_at low.0 low.1 >>= λ room. Ok (table_of low.0 room)
+
+abbrev pub raw : Instruction (List ℕ) → Result Begun FaultKind
+raw i = Ok (begun.Whole i)
+
+-- an instruction by what its word asks for, or the head of a switch
+unfoldable pub begun_at : Form → List Item → Result Begun FaultKind
+begun_at (form.Plain p) items = ended_at items >>= λ _. raw (instruction.Plain p)
+begun_at (form.Number n) items = ended_at items >>= λ _. raw (instruction.Constant (constant.Int n))
+begun_at form.Byte items = last_operand (int_in byte_low (pos 127)) items >>= λ n. raw (instruction.Constant (constant.Int n))
+begun_at form.Short items = last_operand (int_in short_low (pos 32767)) items >>= λ n. raw (instruction.Constant (constant.Int n))
+begun_at form.Constant items = constant_from items >>= λ c. ended_at c.1 >>= λ _. raw (instruction.Constant c.0)
+begun_at (form.Local l) items = last_operand local_in items >>= λ n. raw (instruction.Local l n)
+begun_at (form.LocalAt l n) items = ended_at items >>= λ _. raw (instruction.Local l n)
+begun_at form.Increment items = operand local_in items >>= λ n. last_operand (int_in short_low (pos 32767)) n.1 >>= λ by. raw (instruction.Increment n.0 by)
+begun_at (form.Jump j) items = last_operand label_in items >>= λ l. raw (instruction.Jump j l)
+begun_at form.TableSwitch items = table_from items >>= λ s. Ok (begun.Opens s)
+begun_at form.LookupSwitch items = ended_at items >>= λ _. Ok (begun.Opens (switch.Lookup []))
+begun_at (form.Field f) items = field_from items >>= λ r. raw (instruction.Field f r)
+begun_at (form.Call c) items = last_operand method_in items >>= λ m. raw (instruction.Call c m)
+begun_at form.CallInterface items = interface_from items >>= λ r. raw (instruction.CallInterface r)
+begun_at form.New items = last_operand class_name_in items >>= λ name. raw (instruction.New name)
+begun_at form.NewArray items = last_operand base_in items >>= λ b. raw (instruction.NewArray b)
+begun_at (form.TypeUse t) items = last_operand reference_in items >>= λ r. raw (instruction.TypeUse t r)

@@ -1,0 +1,270 @@
+//! A method that is not at its end.
+
+ghost use Rattle.std.specs.Prelude.{◌≡◌, is_some, None, true, codes};
+ghost use Rattle.jasmin_words.specs.Gives.{Gives};
+ghost use Rattle.jasmin_reader.specs.Places.{IsFaultOr};
+ghost use Rattle.jasmin_words.specs.Lexing.{views};
+ghost use Rattle.jasmin_reader.specs.Bodies.{label_at, end_from, no_directive, labelled_at, plain_by, statement_by, statement_at, outside_switch, limit_at, caught_in, label_behind, catch_from, catch_at};
+ghost use Rattle.jasmin_reader.specs.Listing.{behind_colon as behind_colon_of};
+
+use crate::labels::Labels;
+use crate::listing::{Listing, behind_colon};
+use crate::place::{FromWord, LineError, bad_operand, ended, first, next, operand, within};
+use crate::values::{begins, limit};
+use descriptors::{ClassName, MethodType};
+use jasmin_text::Access;
+use jasmin_text::form::{Directive, directive_of};
+use jasmin_words::name::{MemberName, is_label, same};
+use jasmin_words::{FaultKind, Refusal, Token};
+use sequence::{Sequence, Text};
+use std::alloc::Global;
+
+/// A row of the handler table by labels.
+#[derive(Debug, Drop)]
+pub(crate) struct Catch {
+    /// The class that is caught, `None` for all.
+    pub class: Option<ClassName>,
+    /// The label of the range's beginning.
+    pub from: Text,
+    /// The label of the place behind the range.
+    pub to: Text,
+    /// The label of the handler.
+    pub handler: Text,
+}
+
+/// A method that is not at its end.
+#[derive(Drop)]
+pub(crate) struct Body {
+    pub access: Access,
+    pub name: MemberName,
+    pub method_type: MethodType,
+    pub stack: u16,
+    pub locals: u16,
+    pub labels: Labels,
+    pub catches: Sequence<Catch>,
+    pub listing: Listing,
+}
+
+/// What stands behind `.end method`.
+#[tactic(auto, unfolding(crate::specs::Bodies::end_from))]
+pub(crate) fn behind_end<'a, 't>(tokens: &'t [Token<'a>]) -> Result<&'t [Token<'a>], LineError>
+    ensures { Gives (λ x. views x.now) result (end_from (views tokens.now)) }
+{
+    let ((word, is_long), rest) = next(tokens)?;
+    if !same(word, b"method") {
+        return Err(Refusal::Fault(FaultKind::LeftOut));
+    }
+    within(is_long)?;
+    Ok(rest)
+}
+
+/// The fault of a directive where none may stand.
+#[tactic(auto, unfolding(crate::specs::Bodies::no_directive))]
+fn stray(directive: Directive, rest: &[Token<'_>]) -> LineError
+    ensures { IsFaultOr result (no_directive directive (views rest.now)) }
+{
+    match directive {
+        Directive::LeftOut => Refusal::Fault(FaultKind::LeftOut),
+        Directive::End => match behind_end(rest) {
+            Err(error) => error,
+            Ok(_) => Refusal::Fault(FaultKind::Misplaced),
+        },
+        _ => Refusal::Fault(FaultKind::Misplaced),
+    }
+}
+
+impl FromWord for Option<ClassName> {
+    ghost use Rattle.jasmin_reader.specs.Bodies.{caught_in};
+
+    ghost read = { caught_in };
+
+    fn from_word(alloc: Global, word: &[u8]) -> Result<Option<ClassName>, LineError> {
+        if same(word, b"all") {
+            return Ok(None);
+        }
+        Ok(Some(ClassName::from_word(alloc, word)?))
+    }
+}
+
+/// A label behind this word.
+fn label_after<'a, 't>(
+    alloc: Global,
+    keyword: &[u8],
+    tokens: &'t [Token<'a>],
+) -> Result<(Text, &'t [Token<'a>]), LineError>
+    ensures { Gives (λ x. (x.0, views x.1.now)) result (label_behind keyword.now (views tokens.now)) }
+{
+    let ((word, is_long), rest) = next(tokens)?;
+    if !same(word, keyword) {
+        return Err(bad_operand());
+    }
+    within(is_long)?;
+    operand::<Text>(alloc, rest)
+}
+
+/// The row of the handler table behind `.catch`.
+#[tactic(auto, unfolding(crate::specs::Bodies::catch_from))]
+fn handler_row(alloc: Global, tokens: &[Token<'_>]) -> Result<Catch, LineError>
+    ensures { Gives (λ x. x) result (catch_from (views tokens.now)) }
+{
+    let (class, rest) = operand::<Option<ClassName>>(alloc, tokens)?;
+    let (from, rest) = label_after(alloc, b"from", rest)?;
+    let (to, rest) = label_after(alloc, b"to", rest)?;
+    let (handler, rest) = label_after(alloc, b"using", rest)?;
+    ended(rest)?;
+    Ok(Catch {
+        class,
+        from,
+        to,
+        handler,
+    })
+}
+
+impl Body {
+    /// Whether the lines of a switch are still to come.
+    pub(crate) fn is_in_switch(&self) -> bool
+        ensures { result ≡ is_some self.now.listing.switch }
+    {
+        self.listing.is_in_switch()
+    }
+
+    /// No directive stands in a switch.
+    pub(crate) fn not_in_switch(&self) -> Result<(), LineError>
+        ensures { Gives (λ x. x) result (outside_switch self.now) }
+    {
+        if self.listing.is_in_switch() {
+            return Err(Refusal::Fault(FaultKind::Misplaced));
+        }
+        Ok(())
+    }
+
+    /// A label before the next instruction.
+    #[tactic(auto, unfolding(crate::specs::Bodies::label_at))]
+    fn label(&mut self, alloc: Global, word: &[u8], is_long: bool) -> Result<(), LineError>
+        ensures listing { self.new.listing ≡ self.old.listing }
+        ensures gives { Gives (λ _. self.new) result (label_at self.old (word.now, is_long)) }
+    {
+        if !is_label(word) {
+            return Err(Refusal::Fault(FaultKind::UnknownInstruction));
+        }
+        if self.labels.place(word).is_some() {
+            return Err(Refusal::Fault(FaultKind::RepeatedLabel));
+        }
+        within(is_long)?;
+        let place = self.listing.place();
+        self.labels.add(alloc, word, place)?;
+        Ok(())
+    }
+
+    /// What stands behind a label on its line.
+    #[tactic(auto, unfolding(crate::specs::Bodies::labelled_at))]
+    fn labelled(&mut self, alloc: Global, tokens: &[Token<'_>]) -> Result<(), LineError>
+        requires closed { self.old.listing.switch ≡ None }
+        ensures { Gives (λ _. self.new) result (labelled_at self.old (views tokens.now)) }
+    {
+        match tokens {
+            [] => Ok(()),
+            [token, rest @ ..] => {
+                let (word, is_long) = first(FaultKind::UnknownInstruction, token)?;
+                match directive_of(word) {
+                    Some(directive) => Err(stray(directive, rest)),
+                    None => {
+                        if begins(b'.', word) {
+                            return Err(Refusal::Fault(FaultKind::UnknownDirective));
+                        }
+                        self.listing.instruction(alloc, word, is_long, rest)
+                    }
+                }
+            }
+        }
+    }
+
+    /// A line outside of a switch that begins with this word.
+    fn plain(
+        &mut self,
+        alloc: Global,
+        word: &[u8],
+        is_long: bool,
+        rest: &[Token<'_>],
+    ) -> Result<(), LineError>
+        requires closed { self.old.listing.switch ≡ None }
+        ensures { Gives (λ _. self.new) result (plain_by self.old (word.now, is_long) (views rest.now) (behind_colon_of (views rest.now))) }
+    {
+        match behind_colon(rest) {
+            Some(after) => {
+                self.label(alloc, word, is_long)?;
+                self.labelled(alloc, after)
+            }
+            None => self.listing.instruction(alloc, word, is_long, rest),
+        }
+    }
+
+    /// A line in a switch that begins with this word.
+    fn switch_line(
+        &mut self,
+        alloc: Global,
+        word: &[u8],
+        is_long: bool,
+        rest: &[Token<'_>],
+    ) -> Result<(), LineError>
+        requires open { is_some self.old.listing.switch ≡ true }
+        ensures { Gives (λ _. self.new) result (statement_by self.old (word.now, is_long) (views rest.now) self.old.listing.switch) }
+    {
+        match self.listing.take_switch() {
+            Some(switch) => self.listing.switch_line(alloc, switch, word, is_long, rest),
+            None => unreachable!(),
+        }
+    }
+
+    /// A line that begins with this word, which is no directive.
+    #[tactic(auto, unfolding(crate::specs::Bodies::statement_at))]
+    pub(crate) fn statement(
+        &mut self,
+        alloc: Global,
+        word: &[u8],
+        is_long: bool,
+        rest: &[Token<'_>],
+    ) -> Result<(), LineError>
+        ensures { Gives (λ _. self.new) result (statement_at self.old (word.now, is_long) (views rest.now)) }
+    {
+        if self.is_in_switch() {
+            self.switch_line(alloc, word, is_long, rest)
+        } else {
+            self.plain(alloc, word, is_long, rest)
+        }
+    }
+
+    /// What stands behind `.limit`.
+    #[tactic(auto, unfolding(crate::specs::Bodies::limit_at))]
+    pub(crate) fn limit(&mut self, tokens: &[Token<'_>]) -> Result<(), LineError>
+        ensures { Gives (λ _. self.new) result (limit_at self.old (views tokens.now)) }
+    {
+        self.not_in_switch()?;
+        let ((word, is_long), rest) = next(tokens)?;
+        let is_stack = same(word, b"stack") && !is_long;
+        if !is_stack && !(same(word, b"locals") && !is_long) {
+            return Err(bad_operand());
+        }
+        let ((word, is_long), rest) = next(rest)?;
+        let count = limit(word)?;
+        within(is_long)?;
+        ended(rest)?;
+        if is_stack {
+            self.stack = count;
+        } else {
+            self.locals = count;
+        }
+        Ok(())
+    }
+
+    /// What stands behind `.catch`.
+    #[tactic(auto, unfolding(crate::specs::Bodies::catch_at))]
+    pub(crate) fn catch(&mut self, alloc: Global, tokens: &[Token<'_>]) -> Result<(), LineError>
+        ensures { Gives (λ _. self.new) result (catch_at self.old (views tokens.now)) }
+    {
+        self.not_in_switch()?;
+        let row = handler_row(alloc, tokens)?;
+        self.catches.push(row)?;
+        Ok(())
+    }
+}

@@ -1,0 +1,282 @@
+//! The lines that name a class, a field or a method.
+
+ghost use Rattle.std.specs.Prelude.{◌≡◌};
+ghost use Rattle.jasmin_words.specs.Gives.{Gives};
+ghost use Rattle.jasmin_words.specs.Lexing.{view, views};
+ghost use Rattle.jasmin_reader.specs.Heads.{start, with_access, fits_place, head_word_at, with_class_word, with_word, is_word, has_word, begins_with_word, is_signature, begins_with_part, behind, is_before_name, named_from, no_access_in, taken_for_access, class_from};
+
+use crate::place::{FromWord, LineError, PlacedWord, bad_operand, ended, placed_word, within};
+use crate::table::{ClassWord, class_word_of};
+use descriptors::ClassName;
+use jasmin_text::table::{AccessWord, access_of};
+use jasmin_text::{Access, ClassKind};
+use jasmin_words::name::same;
+use jasmin_words::{FaultKind, Refusal, Token};
+use std::alloc::Global;
+
+/// What a line names.
+#[derive(Clone, Copy, Debug, PartialEq, Eq)]
+pub(crate) enum Place {
+    /// `.class`
+    Class,
+    /// `.interface`
+    Interface,
+    /// `.field`
+    Field,
+    /// `.method`
+    Method,
+}
+
+/// The words before a name, so far.
+#[derive(Clone, Copy, Debug, PartialEq, Eq)]
+pub(crate) struct HeadWords {
+    /// Whether `.interface` or the word `interface` stands there.
+    pub kind: ClassKind,
+    /// The access words.
+    pub access: Access,
+}
+
+/// No word yet.
+pub(crate) fn no_words(kind: ClassKind) -> HeadWords
+    ensures { result ≡ start kind }
+{
+    HeadWords {
+        kind,
+        access: Access::NONE,
+    }
+}
+
+/// The access words with one more.
+fn add_access(access: Access, word: AccessWord) -> Result<Access, LineError>
+    ensures { Gives (λ x. x) result (with_access access word) }
+{
+    Ok(match word {
+        AccessWord::Public => Access {
+            public: true,
+            ..access
+        },
+        AccessWord::Private => Access {
+            private: true,
+            ..access
+        },
+        AccessWord::Protected => Access {
+            protected: true,
+            ..access
+        },
+        AccessWord::Static => Access {
+            is_static: true,
+            ..access
+        },
+        AccessWord::Final => Access {
+            is_final: true,
+            ..access
+        },
+        AccessWord::Synchronized => Access {
+            synchronized: true,
+            ..access
+        },
+        AccessWord::Volatile => Access {
+            volatile: true,
+            ..access
+        },
+        AccessWord::Transient => Access {
+            transient: true,
+            ..access
+        },
+        AccessWord::Abstract => Access {
+            is_abstract: true,
+            ..access
+        },
+        AccessWord::Dropped => access,
+        AccessWord::LeftOut => return Err(Refusal::Fault(FaultKind::LeftOut)),
+    })
+}
+
+/// Whether these access words may stand together: `abstract` and `static` on no method.
+fn together(place: Place, access: Access) -> Result<Access, LineError>
+    ensures { Gives (λ x. x) result (fits_place place access) }
+{
+    match place {
+        Place::Method if access.is_abstract && access.is_static => Err(bad_operand()),
+        _ => Ok(access),
+    }
+}
+
+fn add_class_word(place: Place, words: HeadWords, word: ClassWord) -> Result<HeadWords, LineError>
+    ensures { Gives (λ x. x) result (with_class_word place words word) }
+{
+    let HeadWords { kind, access } = words;
+    match word {
+        ClassWord::Interface => Ok(HeadWords {
+            kind: ClassKind::Interface,
+            access,
+        }),
+        ClassWord::Access(more) => {
+            let access = together(place, add_access(access, more)?)?;
+            Ok(HeadWords { kind, access })
+        }
+    }
+}
+
+/// What the word says before a name, if it is an access word there.
+#[tactic(auto, unfolding(crate::specs::Heads::head_word_at))]
+fn head_word(place: Place, word: &[u8]) -> Option<ClassWord>
+    ensures { result ≡ head_word_at place word.now }
+{
+    match place {
+        Place::Class => class_word_of(word),
+        _ => match access_of(word) {
+            Some(access) => Some(ClassWord::Access(access)),
+            None => None,
+        },
+    }
+}
+
+/// The words with one more.
+#[tactic(auto, unfolding(crate::specs::Heads::with_word))]
+fn add_word(place: Place, words: HeadWords, word: &[u8]) -> Result<HeadWords, LineError>
+    ensures { Gives (λ x. x) result (with_word place words word.now) }
+{
+    match head_word(place, word) {
+        Some(known) => add_class_word(place, words, known),
+        None => Err(bad_operand()),
+    }
+}
+
+fn is_a_word(token: &Token<'_>) -> bool
+    ensures { result ≡ is_word (view token.now) }
+{
+    match token {
+        Token::Word(_) | Token::LongWord(_) | Token::BadWord => true,
+        _ => false,
+    }
+}
+
+fn holds_word(tokens: &[Token<'_>]) -> bool
+    ensures { result ≡ has_word (views tokens.now) }
+{
+    let mut rest = tokens;
+    while let [first, after @ ..] = rest {
+        if is_a_word(first) {
+            return true;
+        }
+        rest = after;
+    }
+    false
+}
+
+fn starts_with_word(tokens: &[Token<'_>]) -> bool
+    ensures { result ≡ begins_with_word (views tokens.now) }
+{
+    match tokens {
+        [] => false,
+        [first, ..] => is_a_word(first),
+    }
+}
+
+/// Whether `signature` ends the words of a field here.
+fn is_at_signature(tokens: &[Token<'_>]) -> bool
+    ensures { result ≡ is_signature (views tokens.now) }
+{
+    match tokens {
+        [] => false,
+        [first, rest @ ..] => match first {
+            Token::Word(word) => same(word, b"signature") && !starts_with_word(rest),
+            _ => false,
+        },
+    }
+}
+
+/// Whether a word of a field's access words, name and descriptor stands next.
+fn starts_with_part(tokens: &[Token<'_>]) -> bool
+    ensures { result ≡ begins_with_part (views tokens.now) }
+{
+    starts_with_word(tokens) && !is_at_signature(tokens)
+}
+
+fn second_on<'a, 't>(tokens: &'t [Token<'a>]) -> &'t [Token<'a>]
+    ensures { views result.now ≡ behind (views tokens.now) }
+{
+    match tokens {
+        [] => tokens,
+        [_, rest @ ..] => rest,
+    }
+}
+
+/// Whether the name is still to come, behind the word before these.
+fn name_follows(place: Place, tokens: &[Token<'_>]) -> bool
+    ensures { result ≡ is_before_name place (views tokens.now) }
+{
+    match place {
+        Place::Field => starts_with_part(tokens) && starts_with_part(second_on(tokens)),
+        _ => holds_word(tokens),
+    }
+}
+
+/// The access words, the word in the name's place, and what follows it.
+#[derive(Drop)]
+pub(crate) struct Named<'a, 't> {
+    pub words: HeadWords,
+    pub name: PlacedWord<'a>,
+    pub rest: &'t [Token<'a>],
+}
+
+/// The access words, the word in the name's place, and what follows it.
+#[tactic(auto, unfolding(crate::specs::Heads::named_from))]
+pub(crate) fn read_name<'a, 't>(
+    place: Place,
+    words: HeadWords,
+    tokens: &'t [Token<'a>],
+) -> Result<Named<'a, 't>, LineError>
+    ensures { Gives (λ x. (x.words, ((x.name.0.now, x.name.1), views x.rest.now))) result (named_from place words (views tokens.now)) }
+{
+    let mut words = words;
+    let mut rest = tokens;
+    while let [first, after @ ..] = rest {
+        let name = placed_word(first)?;
+        if !name_follows(place, after) {
+            return Ok(Named {
+                words,
+                name,
+                rest: after,
+            });
+        }
+        words = add_word(place, words, name.0)?;
+        within(name.1)?;
+        rest = after;
+    }
+    Err(bad_operand())
+}
+
+/// The fault of an access word in the name's place, if one stands there: it is taken as one, and the name is missing.
+#[tactic(auto, unfolding(crate::specs::Heads::no_access_in))]
+pub(crate) fn no_access_word(place: Place, word: &[u8]) -> Result<(), LineError>
+    ensures { Gives (λ x. x) result (no_access_in place word.now) }
+{
+    match head_word(place, word) {
+        None => Ok(()),
+        Some(ClassWord::Access(AccessWord::LeftOut)) => Err(Refusal::Fault(FaultKind::LeftOut)),
+        Some(_) => Err(bad_operand()),
+    }
+}
+
+/// A class's access words and its name, behind `.class` or `.interface`.
+#[tactic(auto, unfolding(crate::specs::Heads::class_from))]
+pub(crate) fn class_head(
+    alloc: Global,
+    place: Place,
+    tokens: &[Token<'_>],
+) -> Result<(HeadWords, ClassName), LineError>
+    ensures { Gives (λ x. x) result (class_from place (views tokens.now)) }
+{
+    let kind = match place {
+        Place::Interface => ClassKind::Interface,
+        _ => ClassKind::Class,
+    };
+    let named = read_name(place, no_words(kind), tokens)?;
+    no_access_word(place, named.name.0)?;
+    let name = ClassName::from_word(alloc, named.name.0)?;
+    within(named.name.1)?;
+    ended(named.rest)?;
+    Ok((named.words, name))
+}

@@ -1,0 +1,181 @@
+//! The lines of fields and methods.
+
+ghost use Rattle.std.specs.Prelude.{◌≡◌};
+ghost use Rattle.jasmin_words.specs.Gives.{Gives};
+ghost use Rattle.jasmin_words.specs.Lexing.{views};
+ghost use Rattle.jasmin_text.specs.Spellable.{is_int_type, is_string_type};
+ghost use Rattle.jasmin_reader.specs.Heads.{behind_signature, constant_for, value_at, value_from, field_from, may_initialize, fits_initializer, method_from};
+
+use crate::head::{Place, no_access_word, no_words, read_name};
+use crate::place::{FromWord, LineError, bad_operand, ended, fault_at, operand, string, within};
+use crate::values::typed;
+use descriptors::{ElementType, FieldType, MethodType};
+use jasmin_text::{Access, ClassKind, Constant, Field};
+use jasmin_words::name::{MemberName, same};
+use jasmin_words::{FaultKind, Refusal, Token};
+use sequence::Text;
+use std::alloc::Global;
+
+/// What stands behind the one signature that a field's line may have, which is skipped.
+fn skip_signature<'a, 't>(tokens: &'t [Token<'a>]) -> Result<&'t [Token<'a>], LineError>
+    ensures { Gives (λ x. views x.now) result (behind_signature (views tokens.now)) }
+{
+    match tokens {
+        [] => Ok(tokens),
+        [first, rest @ ..] => match first {
+            Token::Word(word) => {
+                if same(word, b"signature") {
+                    let (_text, rest) = string(rest)?;
+                    Ok(rest)
+                } else {
+                    Ok(tokens)
+                }
+            }
+            _ => Ok(tokens),
+        },
+    }
+}
+
+/// Whether values of the type are ints.
+fn takes_int(field_type: &FieldType) -> bool
+    ensures { result ≡ is_int_type field_type.now }
+{
+    match &field_type.element {
+        ElementType::Base(_) => field_type.dimensions == 0,
+        ElementType::Class(_) => false,
+    }
+}
+
+/// Whether values of the type are strings.
+fn takes_string(field_type: &FieldType) -> bool
+    ensures { result ≡ is_string_type field_type.now }
+{
+    match &field_type.element {
+        ElementType::Base(_) => false,
+        ElementType::Class(name) => {
+            field_type.dimensions == 0 && same(name.as_slice(), b"java/lang/String")
+        }
+    }
+}
+
+/// A value of the type.
+#[tactic(auto, unfolding(crate::specs::Heads::constant_for))]
+fn constant<'a, 't>(
+    alloc: Global,
+    field_type: &FieldType,
+    tokens: &'t [Token<'a>],
+) -> Result<(Constant, &'t [Token<'a>]), LineError>
+    ensures { Gives (λ x. (x.0, views x.1.now)) result (constant_for field_type.now (views tokens.now)) }
+{
+    if takes_int(field_type) {
+        let (number, rest) = operand::<i32>(alloc, tokens)?;
+        return Ok((Constant::Int(number), rest));
+    }
+    if takes_string(field_type) {
+        let (text, rest) = string(tokens)?;
+        return Ok((Constant::Text(Text::copied(alloc, text)?), rest));
+    }
+    match tokens {
+        [] => Err(bad_operand()),
+        [first, ..] => Err(Refusal::Fault(fault_at(first))),
+    }
+}
+
+/// The value behind a field's descriptor and its signature.
+fn value_behind(
+    alloc: Global,
+    field_type: &FieldType,
+    tokens: &[Token<'_>],
+) -> Result<Option<Constant>, LineError>
+    ensures { Gives (λ x. x) result (value_at field_type.now (views tokens.now)) }
+{
+    match tokens {
+        [] => Ok(None),
+        [first, rest @ ..] => match first {
+            Token::Equals => {
+                let (value, rest) = constant(alloc, field_type, rest)?;
+                ended(rest)?;
+                Ok(Some(value))
+            }
+            _ => Err(Refusal::Fault(fault_at(first))),
+        },
+    }
+}
+
+/// What stands behind a field's descriptor.
+#[tactic(auto, unfolding(crate::specs::Heads::value_from))]
+fn value(
+    alloc: Global,
+    field_type: &FieldType,
+    tokens: &[Token<'_>],
+) -> Result<Option<Constant>, LineError>
+    ensures { Gives (λ x. x) result (value_from field_type.now (views tokens.now)) }
+{
+    let rest = skip_signature(tokens)?;
+    value_behind(alloc, field_type, rest)
+}
+
+/// The field behind `.field`.
+#[tactic(auto, unfolding(crate::specs::Heads::field_from))]
+pub(crate) fn field(alloc: Global, tokens: &[Token<'_>]) -> Result<Field, LineError>
+    ensures { Gives (λ x. x) result (field_from (views tokens.now)) }
+{
+    let named = read_name(Place::Field, no_words(ClassKind::Class), tokens)?;
+    no_access_word(Place::Field, named.name.0)?;
+    let name = MemberName::from_word(alloc, named.name.0)?;
+    within(named.name.1)?;
+    let (field_type, rest) = operand::<FieldType>(alloc, named.rest)?;
+    let value = value(alloc, &field_type, rest)?;
+    Ok(Field {
+        access: named.words.access,
+        name,
+        field_type,
+        value,
+    })
+}
+
+/// Whether such a method may be the initializer of a class (JVMS SE 8 2.9).
+fn is_fit(access: Access, method_type: &MethodType) -> bool
+    ensures { result ≡ may_initialize access method_type.now }
+{
+    access.is_static && method_type.parameters().is_empty() && method_type.result().is_none()
+}
+
+fn fit_initializer(
+    access: Access,
+    name: &MemberName,
+    method_type: &MethodType,
+) -> Result<(), LineError>
+    ensures { Gives (λ x. x) result (fits_initializer access (name.now, method_type.now)) }
+{
+    if same(name.as_slice(), b"<clinit>") && !is_fit(access, method_type) {
+        return Err(Refusal::Fault(FaultKind::BadInitializer));
+    }
+    Ok(())
+}
+
+/// The access words, the name and the type behind `.method`.
+#[derive(Drop)]
+pub(crate) struct MethodHead {
+    pub access: Access,
+    pub name: MemberName,
+    pub method_type: MethodType,
+}
+
+/// The access words, the name and the type behind `.method`.
+#[tactic(auto, unfolding(crate::specs::Heads::method_from))]
+pub(crate) fn method_head(alloc: Global, tokens: &[Token<'_>]) -> Result<MethodHead, LineError>
+    ensures { Gives (λ x. (x.access, (x.name, x.method_type))) result (method_from (views tokens.now)) }
+{
+    let named = read_name(Place::Method, no_words(ClassKind::Class), tokens)?;
+    no_access_word(Place::Method, named.name.0)?;
+    let (name, method_type) = typed::<MemberName>(alloc, named.name.0)?;
+    within(named.name.1)?;
+    fit_initializer(named.words.access, &name, &method_type)?;
+    ended(named.rest)?;
+    Ok(MethodHead {
+        access: named.words.access,
+        name,
+        method_type,
+    })
+}

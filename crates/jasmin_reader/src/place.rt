@@ -1,0 +1,153 @@
+//! Words in their places.
+
+ghost use Rattle.std.specs.Prelude.{◌≡◌, Result, List, ℕ};
+ghost use Rattle.jasmin_words.specs.declared.fault.FaultKind.{FaultKind};
+ghost use Rattle.jasmin_words.specs.declared.fault.FaultKind.TheVariants as faults;
+ghost use Rattle.jasmin_words.specs.declared.refusal.Refusal.TheVariants as refusals;
+ghost use Rattle.jasmin_words.specs.Gives.{Gives};
+ghost use Rattle.jasmin_words.specs.Lexing.{view, views};
+ghost use Rattle.jasmin_reader.specs.Places.{misplaced, word_of, within_limit, next_word, operand as operand_of, string_from, ended_at, first_word, lowest as lowest_of};
+ghost use Rattle.jasmin_reader.specs.Operands.{last_operand as last_operand_of};
+
+use jasmin_words::{FaultKind, Refusal, Token};
+use std::alloc::Global;
+
+/// Why a line is refused.
+pub(crate) type LineError = Refusal<FaultKind>;
+
+/// The bytes of a word, and whether they are too many.
+pub(crate) type PlacedWord<'a> = (&'a [u8], bool);
+
+/// An operand that is missing, superfluous or not of its form.
+pub(crate) fn bad_operand() -> LineError
+    ensures { result ≡ refusals.Fault faults.BadOperand }
+{
+    Refusal::Fault(FaultKind::BadOperand)
+}
+
+/// The fault of a word that may not stand in its place.
+pub(crate) fn fault_at(token: &Token<'_>) -> FaultKind
+    ensures { result ≡ misplaced (view token.now) }
+{
+    match token {
+        Token::BadWord | Token::BadText(FaultKind::BadByte) => FaultKind::BadByte,
+        _ => FaultKind::BadOperand,
+    }
+}
+
+/// A word in a place where one is wanted.
+pub(crate) fn placed_word<'a>(token: &Token<'a>) -> Result<PlacedWord<'a>, LineError>
+    ensures { Gives (λ x. (x.0.now, x.1)) result (word_of (view token.now)) }
+{
+    match token {
+        Token::Word(word) => Ok((*word, false)),
+        Token::LongWord(word) => Ok((*word, true)),
+        _ => Err(Refusal::Fault(fault_at(token))),
+    }
+}
+
+/// A word's length, which is looked at where nothing lower is wrong with it.
+pub(crate) fn within(is_long: bool) -> Result<(), LineError>
+    ensures { Gives (λ x. x) result (within_limit is_long) }
+{
+    if is_long {
+        Err(Refusal::Fault(FaultKind::LimitExceeded))
+    } else {
+        Ok(())
+    }
+}
+
+/// The next word, and what follows it.
+pub(crate) fn next<'a, 't>(
+    tokens: &'t [Token<'a>],
+) -> Result<(PlacedWord<'a>, &'t [Token<'a>]), LineError>
+    ensures { Gives (λ x. ((x.0.0.now, x.0.1), views x.1.now)) result (next_word (views tokens.now)) }
+{
+    match tokens {
+        [] => Err(bad_operand()),
+        [first, rest @ ..] => Ok((placed_word(first)?, rest)),
+    }
+}
+
+/// The characters of a string, and what follows it.
+pub(crate) fn string<'a, 't>(
+    tokens: &'t [Token<'a>],
+) -> Result<(&'t [u8], &'t [Token<'a>]), LineError>
+    ensures { Gives (λ x. (x.0.now, views x.1.now)) result (string_from (views tokens.now)) }
+{
+    match tokens {
+        [] => Err(bad_operand()),
+        [first, rest @ ..] => match first {
+            Token::Text(text) => Ok((text.as_slice(), rest)),
+            Token::BadText(kind) => Err(Refusal::Fault(*kind)),
+            _ => Err(Refusal::Fault(fault_at(first))),
+        },
+    }
+}
+
+/// Nothing more stands on the line.
+pub(crate) fn ended(tokens: &[Token<'_>]) -> Result<(), LineError>
+    ensures { Gives (λ x. x) result (ended_at (views tokens.now)) }
+{
+    match tokens {
+        [] => Ok(()),
+        [other, ..] => Err(Refusal::Fault(fault_at(other))),
+    }
+}
+
+/// The word by which a line begins; `other` is the fault where none does.
+pub(crate) fn first<'a>(other: FaultKind, token: &Token<'a>) -> Result<PlacedWord<'a>, LineError>
+    ensures { Gives (λ x. (x.0.now, x.1)) result (first_word other (view token.now)) }
+{
+    match token {
+        Token::Word(word) => Ok((*word, false)),
+        Token::LongWord(word) => Ok((*word, true)),
+        Token::BadWord | Token::BadText(FaultKind::BadByte) => {
+            Err(Refusal::Fault(FaultKind::BadByte))
+        }
+        _ => Err(Refusal::Fault(other)),
+    }
+}
+
+/// The lower of two kinds.
+pub(crate) fn lowest(one: FaultKind, other: FaultKind) -> FaultKind
+    ensures { result ≡ lowest_of one other }
+{
+    if one.number() <= other.number() {
+        one
+    } else {
+        other
+    }
+}
+
+/// What one word stands for.
+pub(crate) trait FromWord: Drop {
+    /// The value, or the fault of the word's bytes.
+    ghost read: { List ℕ → Result Self FaultKind };
+
+    /// The value of a word.
+    fn from_word(alloc: Global, word: &[u8]) -> Result<Self, LineError>
+        ensures { Gives (λ x. x) result (read word.now) };
+}
+
+/// An operand that is one word: what it stands for, and what follows it.
+pub(crate) fn operand<'a, 't, T: FromWord>(
+    alloc: Global,
+    tokens: &'t [Token<'a>],
+) -> Result<(T, &'t [Token<'a>]), LineError>
+    ensures { Gives (λ x. (x.0, views x.1.now)) result (operand_of T.read (views tokens.now)) }
+{
+    let ((word, is_long), rest) = next(tokens)?;
+    let value = T::from_word(alloc, word)?;
+    within(is_long)?;
+    Ok((value, rest))
+}
+
+/// The last operand of a line.
+pub(crate) fn last_operand<T: FromWord>(alloc: Global, tokens: &[Token<'_>]) -> Result<T, LineError>
+    ensures { Gives (λ x. x) result (last_operand_of T.read (views tokens.now)) }
+{
+    let (value, rest) = operand(alloc, tokens)?;
+    ended(rest)?;
+    Ok(value)
+}

@@ -1,0 +1,73 @@
+-- The labels of places: each place has its own, and a place that is named is found by its label.
+use Rattle.std.proofs.Common.{◌≡◌, ℕ, ◌+◌, ◌<◌, ◌≤◌, Bool, true, false, eqb, List, [], ◌∷◌, ◌++◌, length, Some, None, inl, inr, refl, sym, subst, ap, ◌∙◌, arith}
+use Rattle.std.specs.Fmt.{decimal}
+use Rattle.std.specs.Str.Parse.{digits_value}
+use Rattle.std.proofs.lemmas.Bool.{and_from, eq-eqb, cases_eq, false_from_ne_true}
+use Rattle.std.proofs.lemmas.Fmt.{decimal_is_IsNumeral}
+use Rattle.jasmin_words.specs.Names.{same_bytes}
+use Rattle.jasmin_text.specs.Canonical.{label_text, is_named}
+use Rattle.jasmin_text.specs.Grammar.{place_of, are_distinct}
+use Rattle.jasmin_text.specs.declared.instruction.Instruction.{Instruction}
+use Rattle.jasmin_text.proofs.WordBytes.{same_is}
+
+-- ---- a label for each place
+
+own_label : (p q : ℕ) → p < 65536 → q < 65536 → label_text p ≡ label_text q → p ≡ q
+unfolding label_text
+own_label p q h k e =
+    let d : decimal p ≡ decimal q = cc in
+    sym (decimal_is_IsNumeral p (omega arith)).1 ∙ ap (digits_value 10) d ∙ (decimal_is_IsNumeral q (omega arith)).1
+
+same_self : (w : List ℕ) → same_bytes w w ≡ true
+same_self [] = refl
+same_self (b ∷ w) = and_from (eqb b b) (same_bytes w w) (eq-eqb b b refl) (same_self w)
+
+other_label : (p q : ℕ) → p < 65536 → q < 65536 → (p ≡ q → ⊥) → same_bytes (label_text p) (label_text q) ≡ false
+other_label p q h k n = false_from_ne_true (same_bytes (label_text p) (label_text q)) (λ e. n (own_label p q h k (same_is (label_text p) (label_text q) e)))
+
+-- ---- the labels of a body
+
+abbrev pub labels_if : Bool → ℕ → List (List ℕ × ℕ)
+labels_if true place = (label_text place, place) ∷ []
+labels_if false place = []
+
+-- the labels from a place on
+abbrev pub labels_from : List ℕ → ℕ → List (Instruction ℕ) → List (List ℕ × ℕ)
+labels_from places place [] = labels_if (is_named places place) place ++ []
+labels_from places place (i ∷ is) = labels_if (is_named places place) place ++ labels_from places (place + 1) is
+
+passed : (b : Bool) (place p : ℕ) (rest : List (List ℕ × ℕ)) → p < 65536 → place < 65536 → (p ≡ place → ⊥) → place_of (labels_if b place ++ rest) (label_text p) ≡ place_of rest (label_text p)
+passed true place p rest h k n = rw (other_label p place h k n) refl
+passed false place p rest h k n = refl
+
+here : (b : Bool) (place : ℕ) (rest : List (List ℕ × ℕ)) → b ≡ true → place_of (labels_if b place ++ rest) (label_text place) ≡ Some place
+here true place rest e = rw (same_self (label_text place)) refl
+here false place rest e = absurd cc
+
+not_behind : (places : List ℕ) (place : ℕ) (is : List (Instruction ℕ)) (p : ℕ) → p < place → place + length is < 65536 → place_of (labels_from places place is) (label_text p) ≡ None
+not_behind places place [] p less fit = passed (is_named places place) place p [] (omega arith) (omega arith) (λ e. omega arith)
+not_behind places place (i ∷ is) p less fit =
+    passed (is_named places place) place p (labels_from places (place + 1) is) (omega arith) (omega arith) (λ e. omega arith) ∙ not_behind places (place + 1) is p (omega arith) (omega arith)
+
+abbrev Finds : List ℕ → ℕ → List (Instruction ℕ) → ℕ → Type 0
+Finds places place is p = place_of (labels_from places place is) (label_text p) ≡ Some p
+
+pub found : (places : List ℕ) (place : ℕ) (is : List (Instruction ℕ)) (p : ℕ) → is_named places p ≡ true → place ≤ p → p ≤ place + length is → place + length is < 65536 → place_of (labels_from places place is) (label_text p) ≡ Some p
+found places place [] p n low high fit =
+    let same : p ≡ place = omega arith in
+    subst (Finds places place []) (sym same) (here (is_named places place) place [] (subst (λ (q : ℕ). is_named places q ≡ true) same n))
+found places place (i ∷ is) p n low high fit = elim (cases_eq p place) as (λ _. Finds places place (i ∷ is) p) [
+  | inl same ↦ subst (Finds places place (i ∷ is)) (sym same) (here (is_named places place) place (labels_from places (place + 1) is) (subst (λ (q : ℕ). is_named places q ≡ true) same n))
+  | inr other ↦
+      let low_then : place + 1 ≤ p = omega arith in
+      passed (is_named places place) place p (labels_from places (place + 1) is) (omega arith) (omega arith) other ∙ found places (place + 1) is p n low_then (omega arith) (omega arith)
+]
+
+one_distinct : (b : Bool) (place : ℕ) (rest : List (List ℕ × ℕ)) → place_of rest (label_text place) ≡ None → are_distinct rest ≡ true → are_distinct (labels_if b place ++ rest) ≡ true
+one_distinct true place rest n d = rw (n, d) refl
+one_distinct false place rest n d = d
+
+pub distinct : (places : List ℕ) (place : ℕ) (is : List (Instruction ℕ)) → place + length is < 65536 → are_distinct (labels_from places place is) ≡ true
+distinct places place [] fit = one_distinct (is_named places place) place [] refl refl
+distinct places place (i ∷ is) fit =
+    one_distinct (is_named places place) place (labels_from places (place + 1) is) (not_behind places (place + 1) is place (omega arith) (omega arith)) (distinct places (place + 1) is (omega arith))

@@ -1,0 +1,2 @@
+pub mod BankState
+pub mod Statics
