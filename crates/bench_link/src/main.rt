@@ -8,7 +8,7 @@
 
 use descriptors::{BaseType, ClassName, ElementType, FieldType, MethodType};
 use hierarchy::link;
-use jasmin_text::{Access, ClassKind, ClassParts, Field, Method};
+use jasmin_text::{Access, ClassKind, ClassParts, ClassText, Field, Method};
 use jasmin_words::name::MemberName;
 use sequence::Sequence;
 use std::alloc::{AllocError, Global};
@@ -47,7 +47,10 @@ fn field(alloc: Global, number: usize) -> Result<Field, AllocError> {
 // The method of that number, without parameters, void and abstract.
 fn method(alloc: Global, number: usize) -> Result<Method, AllocError> {
     Ok(Method {
-        access: Access::NONE,
+        access: Access {
+            is_abstract: true,
+            ..Access::NONE
+        },
         name: member_name(alloc, "m", number)?,
         method_type: MethodType::new(Sequence::new(alloc), None),
         code: None,
@@ -63,8 +66,16 @@ fn superclass(alloc: Global, number: usize) -> Result<ClassName, AllocError> {
     class_name(alloc, text.as_bytes())
 }
 
+// The text of a class that a file can spell.
+fn class_text(alloc: Global, parts: ClassParts) -> Result<ClassText, AllocError> {
+    match ClassText::new(alloc, parts)? {
+        Some(text) => Ok(text),
+        None => Err(AllocError),
+    }
+}
+
 // The class of that number, with so many members: half fields, half methods.
-fn class(alloc: Global, number: usize, members: usize) -> Result<ClassParts, AllocError> {
+fn class(alloc: Global, number: usize, members: usize) -> Result<ClassText, AllocError> {
     let mut fields = Sequence::new(alloc);
     let mut methods = Sequence::new(alloc);
     for place in 0..members / 2 {
@@ -72,18 +83,21 @@ fn class(alloc: Global, number: usize, members: usize) -> Result<ClassParts, All
         methods.push(method(alloc, place)?)?;
     }
     let text = format!(in alloc; "C{number}")?;
-    Ok(ClassParts {
-        kind: ClassKind::Class,
-        access: Access::NONE,
-        name: class_name(alloc, text.as_bytes())?,
-        superclass: superclass(alloc, number)?,
-        interfaces: Sequence::new(alloc),
-        fields,
-        methods,
-    })
+    class_text(
+        alloc,
+        ClassParts {
+            kind: ClassKind::Class,
+            access: Access::NONE,
+            name: class_name(alloc, text.as_bytes())?,
+            superclass: superclass(alloc, number)?,
+            interfaces: Sequence::new(alloc),
+            fields,
+            methods,
+        },
+    )
 }
 
-fn classes(alloc: Global, count: usize) -> Result<Vec<ClassParts>, AllocError> {
+fn classes(alloc: Global, count: usize) -> Result<Vec<ClassText>, AllocError> {
     let mut all = Vec::new(alloc);
     for number in 0..count {
         all.push(class(alloc, number, count)?)?;

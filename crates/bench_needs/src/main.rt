@@ -10,7 +10,7 @@
 use descriptors::{ClassName, MethodType};
 use hierarchy::{ClassId, Program, link};
 use init_order::needs;
-use jasmin_text::{Access, ClassKind, ClassParts, Code, Instruction, Method, Plain};
+use jasmin_text::{Access, ClassKind, ClassParts, ClassText, Code, Instruction, Method, Plain};
 use jasmin_words::name::MemberName;
 use sequence::Sequence;
 use std::alloc::{AllocError, Global};
@@ -63,32 +63,51 @@ fn below(alloc: Global, rung: usize) -> Result<Sequence<ClassName>, AllocError> 
     Ok(names)
 }
 
-fn interface(alloc: Global, side: &str, rung: usize) -> Result<ClassParts, AllocError> {
+// The text of a class that a file can spell.
+fn class_text(alloc: Global, parts: ClassParts) -> Result<ClassText, AllocError> {
+    match ClassText::new(alloc, parts)? {
+        Some(text) => Ok(text),
+        None => Err(AllocError),
+    }
+}
+
+fn interface(alloc: Global, side: &str, rung: usize) -> Result<ClassText, AllocError> {
     let mut methods = Sequence::new(alloc);
     methods.push(default_method(alloc)?)?;
-    Ok(ClassParts {
-        kind: ClassKind::Interface,
-        access: Access::NONE,
-        name: rung_name(alloc, side, rung)?,
-        superclass: class_name(alloc, b"java/lang/Object")?,
-        interfaces: below(alloc, rung)?,
-        fields: Sequence::new(alloc),
-        methods,
-    })
+    class_text(
+        alloc,
+        ClassParts {
+            kind: ClassKind::Interface,
+            access: Access::NONE,
+            name: rung_name(alloc, side, rung)?,
+            superclass: class_name(alloc, b"java/lang/Object")?,
+            interfaces: below(alloc, rung)?,
+            fields: Sequence::new(alloc),
+            methods,
+        },
+    )
+}
+
+// The class on a ladder of so many rungs.
+fn top(alloc: Global, rungs: usize) -> Result<ClassText, AllocError> {
+    class_text(
+        alloc,
+        ClassParts {
+            kind: ClassKind::Class,
+            access: Access::NONE,
+            name: class_name(alloc, b"Top")?,
+            superclass: class_name(alloc, b"java/lang/Object")?,
+            interfaces: below(alloc, rungs)?,
+            fields: Sequence::new(alloc),
+            methods: Sequence::new(alloc),
+        },
+    )
 }
 
 // A ladder of so many rungs, and a class on its top, which is the first.
-fn ladder(alloc: Global, rungs: usize) -> Result<Vec<ClassParts>, AllocError> {
+fn ladder(alloc: Global, rungs: usize) -> Result<Vec<ClassText>, AllocError> {
     let mut all = Vec::new(alloc);
-    all.push(ClassParts {
-        kind: ClassKind::Class,
-        access: Access::NONE,
-        name: class_name(alloc, b"Top")?,
-        superclass: class_name(alloc, b"java/lang/Object")?,
-        interfaces: below(alloc, rungs)?,
-        fields: Sequence::new(alloc),
-        methods: Sequence::new(alloc),
-    })?;
+    all.push(top(alloc, rungs)?)?;
     for rung in 0..rungs {
         all.push(interface(alloc, "A", rung)?)?;
         all.push(interface(alloc, "B", rung)?)?;

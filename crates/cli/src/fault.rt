@@ -10,15 +10,17 @@ use std::io;
 /// Why the program stops, once its command line has been read.
 #[derive(Debug, Drop)]
 pub enum Fault<'a> {
+    /// An option with a subcommand that doesn't take it.
+    Words,
     /// More than 256 files, or one over 1 MiB.
     Files,
     /// A file can't be read, or the trace can't be written.
     Io(&'a str),
     /// A file isn't in the Jasmin form that is read.
     Jasmin { file: &'a str, fault: ReadFault },
-    /// The classes can't be linked.
+    /// The classes can't be linked, for another reason than want of memory.
     Link(LinkFault),
-    /// A main class is unknown, there is none, or there are too many.
+    /// The main class is unknown, there is none, or more than one is named.
     Mains,
     /// A method has a body, which isn't run yet.
     Body,
@@ -46,7 +48,8 @@ impl Fault<'_> {
         ensures { result ≤ 3 }
     {
         match self {
-            Fault::Files | Fault::Jasmin { .. } | Fault::Link(_) | Fault::Mains | Fault::Body => 2,
+            Fault::Words | Fault::Files | Fault::Jasmin { .. } => 2,
+            Fault::Link(_) | Fault::Mains | Fault::Body => 2,
             Fault::Io(_) | Fault::Memory | Fault::Output => 3,
         }
     }
@@ -54,6 +57,7 @@ impl Fault<'_> {
     /// Writes the one line that tells of the fault.
     pub fn tell<W: io::Write>(&self, err: &mut W) -> io::Result<()> {
         match self {
+            Fault::Words => writeln!(err, "cli: words"),
             Fault::Files => writeln!(err, "cli: files"),
             Fault::Io(name) => writeln!(err, "io: {name}"),
             Fault::Jasmin { file, fault } => {

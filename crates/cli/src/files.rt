@@ -4,7 +4,7 @@ ghost use Rattle.std.specs.Prelude.{◌≤◌, vec_len, IfOk};
 
 use crate::fault::Fault;
 use jasmin_reader::read_class;
-use jasmin_text::ClassParts;
+use jasmin_text::ClassText;
 use jasmin_words::FaultKind;
 use std::alloc::Global;
 
@@ -45,7 +45,7 @@ fn read_text<'a, N: Named>(
     alloc: Global,
     named: &mut N,
     file: &'a str,
-) -> Result<ClassParts, Fault<'a>> {
+) -> Result<ClassText, Fault<'a>> {
     let bytes = match named.read(alloc, file, MOST_BYTES + 1) {
         Ok(bytes) => bytes,
         Err(fault) => return Err(fault_of(fault, file)),
@@ -54,7 +54,7 @@ fn read_text<'a, N: Named>(
         return Err(Fault::Files);
     }
     match read_class(alloc, &bytes) {
-        Ok(text) => Ok(text.into_parts()),
+        Ok(text) => Ok(text),
         Err(fault) => match fault.kind {
             FaultKind::NoMemory => Err(Fault::Memory),
             _ => Err(Fault::Jasmin { file, fault }),
@@ -67,7 +67,7 @@ pub(crate) fn read_texts<'a, N: Named>(
     alloc: Global,
     named: &mut N,
     files: &[&'a str],
-) -> Result<Vec<ClassParts>, Fault<'a>> {
+) -> Result<Vec<ClassText>, Fault<'a>> {
     if files.len() > MOST_FILES {
         return Err(Fault::Files);
     }

@@ -22,4 +22,8 @@ pub use serving::serve;
 pub use words::{Asked, Run, parse};
 
 #[cfg(test)]
+mod fault_tests;
+#[cfg(test)]
+mod test_files;
+#[cfg(test)]
 mod tests;

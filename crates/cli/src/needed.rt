@@ -6,7 +6,7 @@ ghost use Rattle.cli.specs.NeedsText.{names_text, needs_line, needs_text};
 use hierarchy::{ClassId, Program};
 use init_order::needs;
 use std::alloc::{AllocError, Global};
-use trace::write_class;
+use trace::write_class_name;
 
 /// Adds a space and the name of each of these classes.
 fn write_names(out: &mut Vec<u8>, program: &Program, classes: &[ClassId]) -> Result<(), AllocError>
@@ -14,7 +14,7 @@ fn write_names(out: &mut Vec<u8>, program: &Program, classes: &[ClassId]) -> Res
 {
     for class in classes {
         out.push(b' ')?;
-        write_class(out, program, *class)?;
+        write_class_name(out, program, *class)?;
     }
     Ok(())
 }
@@ -29,7 +29,7 @@ fn write_line(
     ensures { OnOk result (out.new.items ≡ out.old.items ++ needs_line program.now class) }
 {
     let needed = needs(alloc, program, class)?;
-    write_class(out, program, class)?;
+    write_class_name(out, program, class)?;
     out.push(b':')?;
     write_names(out, program, &needed)?;
     out.push(b'\n')?;

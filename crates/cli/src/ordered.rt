@@ -4,7 +4,9 @@ ghost use Rattle.std.specs.Prelude.{◌≡◌, ℕ, ◌<◌, ◌≤◌, [], ◌�
 ghost use Rattle.hierarchy.specs.declared.class.ClassId.{ClassId};
 ghost use Rattle.hierarchy.specs.Hierarchy.{IsAcyclic};
 ghost use Rattle.init_core.specs.Interleaving.{IsLegal, of_thread, labels_of as all_labels};
-ghost use Rattle.init_core.specs.ProcedureWord.{ThreadWord};
+ghost use Rattle.init_core.specs.ProcedureWord.{ProcedureWord};
+ghost use Rattle.init_core.specs.declared.frames.Outcome.TheVariants.{Normal};
+ghost use Rattle.init_world.specs.EmptyBodies.{HaveEmptyBodies};
 ghost use Rattle.init_world.specs.PlainSteps.{ArePlainSteps};
 ghost use Rattle.trace.specs.declared.report.ThreadOutcome.TheVariants as outcomes;
 
@@ -15,7 +17,7 @@ use sequence::{Sequence, Text};
 use std::alloc::{AllocError, Global};
 use trace::{Report, ThreadOutcome};
 
-/// A world in which thread 0 has done the procedure for `main`, with all that it needs, and its main.
+/// A world in which thread 0 has done the procedure for `main`, with all that it needs, and nothing else.
 ///
 /// Each turn makes one event, or comes to a body, which is empty and ends at once.
 fn run_alone(alloc: Global, program: &Program, main: ClassId) -> Result<World, AllocError>
@@ -23,7 +25,8 @@ fn run_alone(alloc: Global, program: &Program, main: ClassId) -> Result<World, A
     requires main { main.number < length program.now.classes }
     ensures program { IfOk result (λ world. world.program ≡ program.now) }
     ensures one { IfOk result (λ world. length world.threads ≡ 1) }
-    ensures word { IfOk result (λ world. ThreadWord program.now 0 main (of_thread 0 world.events)) }
+    ensures word { IfOk result (λ world. ProcedureWord program.now 0 main (of_thread 0 world.events) Normal) }
+    ensures bodies { IfOk result (λ world. HaveEmptyBodies world.events) }
     ensures steps { IfOk result (λ world. ArePlainSteps world.events) }
 {
     let mut world = World::new(alloc, program, 1)?;
@@ -52,14 +55,17 @@ fn labels_of(alloc: Global, program: &Program, world: &World) -> Result<Sequence
 
 /// Initializes the main class of a program on one thread, thread 0, with all that it needs, and runs its main.
 ///
-/// No class has an initializer or a `main` of its own, so that all bodies are empty. An `Err` is want of
-/// memory.
+/// No class has an initializer or a `main` of its own, so that all bodies are empty: the procedure for the main class,
+/// completed normally, is all that the thread does, and step 10 of each class comes directly behind its step 9
+/// (JLS SE 8 12.4.2). An `Err` is want of memory.
 pub fn run_ordered(alloc: Global, program: &Program, main: ClassId) -> Result<Report, AllocError>
     requires main { main.number < length program.now.classes }
     ensures legal { IfOk result (λ report. IsLegal program.now (main ∷ []) report.events) }
     ensures labels { IfOk result (λ report. report.labels ≡ all_labels program.now report.events) }
     ensures outcomes { IfOk result (λ report. report.outcomes ≡ outcomes.Normal ∷ []) }
     ensures output { IfOk result (λ report. report.output ≡ []) }
+    ensures word { IfOk result (λ report. ProcedureWord program.now 0 main (of_thread 0 report.events) Normal) }
+    ensures bodies { IfOk result (λ report. HaveEmptyBodies report.events) }
     ensures steps { IfOk result (λ report. ArePlainSteps report.events) }
 {
     // Each way up the hierarchy ends, as the number of classes tells.

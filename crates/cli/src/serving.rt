@@ -1,8 +1,11 @@
 //! The program's body.
 
-ghost use Rattle.std.specs.Prelude.{◌≡◌, ◌≤◌, ◌<◌, IfOk, IfSome, length};
+ghost use Rattle.std.specs.Prelude.{◌≡◌, ◌≤◌, ◌<◌, IfErr, IfOk, IfSome, false, length};
+ghost use Rattle.std.specs.Option.{option_map};
+ghost use Rattle.hierarchy.specs.FirstFault.{LinksTo};
+ghost use Rattle.hierarchy.specs.LinkedProgram.{class_named};
 ghost use Rattle.cli.specs.Bodiless.{has_code, declares_code, holds_code};
-ghost use Rattle.cli.specs.Served.{IsLegalRun};
+ghost use Rattle.cli.specs.Served.{IsLegalRun, IsToldOf, holds_comma, told_of};
 
 use crate::fault::Fault;
 use crate::files::{Named, read_texts, write_named};
@@ -10,17 +13,43 @@ use crate::needed::write_needs;
 use crate::ordered::run_ordered;
 use crate::words::{Asked, Run, parse};
 use clap::error::ErrorKind;
-use hierarchy::{Class, ClassId, Program, link};
-use jasmin_text::{ClassParts, Method};
+use hierarchy::{Class, ClassId, LinkFault, LinkFaultKind, Program, link};
+use jasmin_text::{ClassText, Method};
 use std::alloc::{AllocError, Global};
 use std::io;
 use trace::{Report, write_trace};
 
-/// The one main class of the program that `--mains` names.
-fn main_of(program: &Program, mains: Option<&str>) -> Option<ClassId>
-    ensures { IfSome result (λ main. main.number < length program.now.classes) }
+/// What a fault of linking is told as: want of memory has a line of its own.
+fn fault_of_linking<'a>(fault: LinkFault) -> Fault<'a>
+    ensures { result ≡ told_of fault }
 {
-    let name = mains?;
+    match fault.kind {
+        LinkFaultKind::NoMemory => Fault::Memory,
+        _ => Fault::Link(fault),
+    }
+}
+
+/// The program of all class texts.
+fn link_texts<'a>(alloc: Global, texts: Vec<ClassText>) -> Result<Program, Fault<'a>>
+    ensures linked { IfOk result (LinksTo texts.items) }
+    ensures told { IfErr result (IsToldOf texts.items) }
+{
+    match link(alloc, texts) {
+        Ok(program) => Ok(program),
+        Err(fault) => Err(fault_of_linking(fault)),
+    }
+}
+
+/// The class of the files that this text of `--mains` names. A comma parts names, and so far one main class
+/// is run: a text with a comma names none.
+fn main_of(program: &Program, name: &str) -> Option<ClassId>
+    ensures within { IfSome result (λ main. main.number < length program.now.classes) }
+    ensures named { IfSome result (λ main. class_named program.now name.now ≡ Some main) }
+    ensures one { IfSome result (λ _. holds_comma name.now ≡ false) }
+{
+    if name.as_bytes().contains(&b',') {
+        return None;
+    }
     let main = program.class_named(name.as_bytes())?;
     if main.number < program.len() {
         Some(main)
@@ -55,19 +84,24 @@ struct Ran {
     report: Report,
 }
 
-/// Links the classes and runs their main class.
+/// Links the classes and runs the main class that `mains` names.
+///
+/// The program is what linking makes of the class texts. The report is of a legal interleaving of the program
+/// and that main class, which is one of the files, with each class's label; no class has code.
+/// The faults are looked for in this order: those of linking, the main class, a body.
 fn run_texts<'a>(
     alloc: Global,
-    texts: Vec<ClassParts>,
+    texts: Vec<ClassText>,
     mains: Option<&str>,
 ) -> Result<Ran, Fault<'a>>
-    ensures { IfOk result (λ ran. IsLegalRun ran.program ran.report) }
+    ensures linked { IfOk result (λ ran. LinksTo texts.items ran.program) }
+    ensures legal { IfOk result (λ ran. IsLegalRun (option_map (λ name. name.now) mains.entry) ran.program ran.report) }
 {
-    let program = match link(alloc, texts) {
-        Ok(program) => program,
-        Err(fault) => return Err(Fault::Link(fault)),
+    let program = link_texts(alloc, texts)?;
+    let Some(name) = mains else {
+        return Err(Fault::Mains);
     };
-    let Some(main) = main_of(&program, mains) else {
+    let Some(main) = main_of(&program, name) else {
         return Err(Fault::Mains);
     };
     if has_body(&program) {
@@ -104,10 +138,7 @@ fn tell_needs<'a, N: Named, O: io::Write>(
     out: &mut O,
 ) -> Result<(), Fault<'a>> {
     let texts = read_texts(alloc, named, files)?;
-    let program = match link(alloc, texts) {
-        Ok(program) => program,
-        Err(fault) => return Err(Fault::Link(fault)),
-    };
+    let program = link_texts(alloc, texts)?;
     let text = write_needs(alloc, &program)?;
     if out.write_all(&text).is_err() || out.flush().is_err() {
         return Err(Fault::Output);
@@ -125,6 +156,7 @@ fn answer<'a, N: Named, O: io::Write>(
     match asked {
         Asked::Run(words) => run(alloc, words, named, out),
         Asked::Needs(files) => tell_needs(alloc, files, named, out),
+        Asked::Unfit => Err(Fault::Words),
     }
 }
 

@@ -6,7 +6,7 @@ use std::alloc::{AllocError, Global};
 /// What `jinit run` asks for.
 #[derive(Debug, Drop)]
 pub struct Run<'a> {
-    /// The text of `--mains`: main classes, parted by commas.
+    /// The text of `--mains`: the main class. Commas will part several.
     pub mains: Option<&'a str>,
     /// The text of `--trace`: the file that the trace is written to.
     pub trace: Option<&'a str>,
@@ -21,6 +21,8 @@ pub enum Asked<'a> {
     Run(Run<'a>),
     /// `jinit needs`, with the Jasmin files in order.
     Needs(Vec<&'a str>),
+    /// Nothing that can be done: an option of one subcommand stands with another, which doesn't take it.
+    Unfit,
 }
 
 fn files_argument<'a>(alloc: Global) -> Arg<'a> {
@@ -31,24 +33,32 @@ fn files_argument<'a>(alloc: Global) -> Arg<'a> {
         .num_args(0..)
 }
 
-/// The program's command line.
-fn command<'a>(alloc: Global) -> Result<Command<'a>, AllocError> {
-    let mains = Arg::new(alloc, "mains")
+fn mains_argument<'a>(alloc: Global) -> Arg<'a> {
+    Arg::new(alloc, "mains")
         .long("mains")
-        .value_name("CLASSES")
-        .help("Main classes, one thread each, parted by commas");
-    let trace = Arg::new(alloc, "trace")
+        .value_name("CLASS")
+        .help("The main class, as its file names it")
+}
+
+fn trace_argument<'a>(alloc: Global) -> Arg<'a> {
+    Arg::new(alloc, "trace")
         .long("trace")
         .value_name("FILE")
-        .help("Writes every initialization step to FILE");
+        .help("Writes every initialization step to FILE")
+}
+
+/// The program's command line. A subcommand knows the options of the others too, but doesn't show them.
+fn command<'a>(alloc: Global) -> Result<Command<'a>, AllocError> {
     let run = Command::new(alloc, "run")
-        .about("Runs each main class on a thread of its own")
-        .arg(mains)?
-        .arg(trace)?
+        .about("Initializes the main class, with all that it needs, and writes the trace")
+        .arg(mains_argument(alloc))?
+        .arg(trace_argument(alloc))?
         .arg(files_argument(alloc))?;
     let needs = Command::new(alloc, "needs")
         .about("Writes for each class what is initialized before its own initializer runs")
-        .arg(files_argument(alloc).required(true))?;
+        .arg(mains_argument(alloc).hide(true))?
+        .arg(trace_argument(alloc).hide(true))?
+        .arg(files_argument(alloc))?;
     Command::new(alloc, "jinit")
         .about("Initializes Java classes as JLS SE 8 12.4.2 demands, and tells each step")
         .version("0.1.0")
@@ -73,15 +83,17 @@ fn files_of<'a>(alloc: Global, matches: &ArgMatches<'a>) -> Result<Vec<&'a str>,
 /// memory is a kind of its own there.
 pub fn parse<'a>(alloc: Global, words: &'a [&'a str]) -> Result<Asked<'a>, Error> {
     let matches = command(alloc)?.try_get_matches_from(words)?;
-    if let Some(needs) = matches.subcommand_matches("needs") {
-        return Ok(Asked::Needs(files_of(alloc, needs)?));
+    if let Some(run) = matches.subcommand_matches("run") {
+        return Ok(Asked::Run(Run {
+            mains: run.get_str("mains"),
+            trace: run.get_str("trace"),
+            files: files_of(alloc, run)?,
+        }));
     }
-    let Some(run) = matches.subcommand_matches("run") else {
-        return Ok(Asked::Needs(Vec::new(alloc)));
-    };
-    Ok(Asked::Run(Run {
-        mains: run.get_str("mains"),
-        trace: run.get_str("trace"),
-        files: files_of(alloc, run)?,
-    }))
+    match matches.subcommand_matches("needs") {
+        Some(needs) if !needs.contains_id("mains") && !needs.contains_id("trace") => {
+            Ok(Asked::Needs(files_of(alloc, needs)?))
+        }
+        _ => Ok(Asked::Unfit),
+    }
 }

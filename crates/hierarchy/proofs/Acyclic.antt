@@ -117,9 +117,6 @@ first_from_clear p n all found h s a e = record {
   first = λ m l. clear_not_cyclic p (id m) (clear_from p n all s m l);
 }
 
-pub searched_none : (p : LinkedProgram) (all : List (List ClassId)) → all ≡ [] → HasSupertypes p 0 all
-searched_none p all e = rw e (record { count_is = refl; are = λ n found g. absurd cc; clear = λ n found g. absurd cc })
-
 pub searched_more : (p : LinkedProgram) (n : ℕ) (all next : List (List ClassId)) (found : List ClassId) → HasSupertypes p n all → AreSupertypes p (id n) found → is_among (id n) found ≡ false → next ≡ all ++ found ∷ [] → HasSupertypes p (n + 1) next
 searched_more p n all next found s a f e = rw e (record {
   count_is = let l = s.count_is in omega (arith, length-append all (found ∷ []), l);

@@ -1,5 +1,5 @@
 -- Ancestries, where each way up ends.
-use Rattle.std.proofs.Common.{◌≡◌, ℕ, zero, suc, ◌+◌, ◌-◌, ◌≤◌, arith, ◌⊎◌, inl, inr, true, Option, Some, None, List, [], ◌∷◌, length, slice_get, refl, sym, ap, subst, ◌∙◌, append-nil, sub-one}
+use Rattle.std.proofs.Common.{◌≡◌, ℕ, zero, suc, ◌+◌, ◌-◌, arith, ◌⊎◌, inl, inr, true, Option, Some, None, List, [], ◌∷◌, length, slice_get, refl, sym, ap, subst, ◌∙◌, append-nil, sub-one}
 use Rattle.std.specs.List.{flat_map}
 use Rattle.std.specs.Option.{option_or, option_to_list}
 use Rattle.hierarchy.specs.declared.class.Class.{Class}
@@ -107,10 +107,6 @@ pub skipped_order : (p : LinkedProgram) (above : ClassId → List ClassId) → I
 skipped_order p above u a xs c w e =
     sym (add_all-there xs (ancestry p above c) (w c (ancestry-self p above u a c) (among_from_true c xs e)))
 
--- nothing was found yet
-pub whole_none : (p : LinkedProgram) (above : ClassId → List ClassId) (c : ClassId) (xs : List ClassId) → xs ≡ [] → IsWholeAbove p above c xs
-whole_none p above c xs e = rw e (λ d m n. elim n [ ])
-
 -- after c itself and some of those above it, the next may be walked
 pub whole_next : (p : LinkedProgram) (above : ClassId → List ClassId) → IsUpward p above → IsAcyclic p → (start now next done : List ClassId) (c x : ClassId) → IsWholeAbove p above c start → Among x (above c) →
     next ≡ add_new start c → now ≡ add_all next (flat_map (ancestry p above) done) → IsWholeAbove p above x now
@@ -140,9 +136,6 @@ pub within_next : (p : LinkedProgram) (above : ClassId → List ClassId) → IsU
 within_next p above u n k c x w m =
     let e : (n - k) - 1 ≡ n - (k + 1) = omega arith in
     subst (λ z. IsWithin z p x) e (within_up p above u (n - k) c x w m)
-
-pub within_none : (p : LinkedProgram) (n k : ℕ) (c : ClassId) → IsWithin (n - k) p c → n ≤ k → ⊥
-within_none p n k c w h = let e : n - k ≡ 0 = omega arith in subst (λ z. IsWithin z p c) e w
 
 -- what an ancestry gives first, step by step
 pub given_here : {X : Type 0} (f : ClassId → Option X) (p : LinkedProgram) (above : ClassId → List ClassId) → IsUpward p above → IsAcyclic p → (c : ClassId) (y : X) → f c ≡ Some y → Some y ≡ first_given f (ancestry p above c)

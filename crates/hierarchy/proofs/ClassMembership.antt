@@ -33,14 +33,6 @@ among_cases [] h = inr h
 among_cases (y ∷ xs) first = inl first
 among_cases (y ∷ xs) (later h) = elim (among_cases xs h) [ inl k ↦ inl (later k) | inr k ↦ inr k ]
 
-pub every_left : (P : ClassId → Type 0) (xs ys : List ClassId) → Every P (xs ++ ys) → Every P xs
-every_left P [] ys h = tt
-every_left P (x ∷ xs) ys h = (h.0, every_left P xs ys h.1)
-
-pub every_right : (P : ClassId → Type 0) (xs ys : List ClassId) → Every P (xs ++ ys) → Every P ys
-every_right P [] ys h = h
-every_right P (x ∷ xs) ys h = every_right P xs ys h.1
-
 pub every_at : {x : ClassId} {xs : List ClassId} (P : ClassId → Type 0) → Every P xs → Among x xs → P x
 every_at P h first = h.0
 every_at P h (later k) = every_at P h.1 k

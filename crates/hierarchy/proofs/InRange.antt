@@ -18,6 +18,10 @@ use Rattle.hierarchy.specs.ClassLists.{Among, first, later}
 use Rattle.hierarchy.specs.Hierarchy.{supers_in, supers_of_built_in, built_in_list, IsInRange}
 use Rattle.hierarchy.specs.Supertypes.{known, known_at, known_file, known_built_in, superclass_id, built_in_superclass, interface_id, interface_ids, joined}
 use Rattle.hierarchy.specs.Linking.{names_of, kinds_of, class_from, class_by, class_of, classes_from, classes_of}
+use Rattle.std.specs.List.{All}
+use Rattle.std.proofs.lemmas.List.Elements.{All-nil, All-cons, All-head, All-tail, All-same}
+use Rattle.jasmin_text.specs.Spellable.{IsSpellable}
+use Rattle.hierarchy.specs.SpellableClass.{IsSpellableClass}
 use Rattle.hierarchy.proofs.BuiltIns.{number-small}
 
 -- a file's class that is known has its place below their number
@@ -115,6 +119,11 @@ class_below names kinds t c e =
       ap (λ (z : Class). z.name) r.4,
     )
 
+class_spellable : (names : List (List ℕ)) (kinds : List ClassKind) (t : ClassParts) (c : Class) → IsSpellable t → class_from names kinds t ≡ Ok c → IsSpellableClass c
+class_spellable names kinds t c s e =
+    let r = class_ok t (superclass_id (length kinds) t.kind (known names kinds t.superclass)) (interface_ids names kinds t.interfaces) c e in
+    subst IsSpellableClass (sym r.4) (record { text = t; spellable = s; same = refl })
+
 first_or : (n : ℕ) (x : Class) (xs : List Class) (c : Class) → AreBelow n (x.superclass ∷ x.interfaces) → ((k : ℕ) → slice_get xs k ≡ Some c → AreBelow n (c.superclass ∷ c.interfaces)) →
     (i : ℕ) → slice_get (x ∷ xs) i ≡ Some c → AreBelow n (c.superclass ∷ c.interfaces)
 first_or n x xs c here there zero h = let same : x ≡ c = cc in subst (λ (z : Class). AreBelow n (z.superclass ∷ z.interfaces)) same here
@@ -133,6 +142,13 @@ named_alike names kinds [] classes e = let none : classes ≡ [] = cc in rw none
 named_alike names kinds (t ∷ texts) classes e =
     let r = joined_ok (class_from names kinds t) (classes_from names kinds texts) classes e in
     ap class_names r.4 ∙ ap (λ n. n ∷ class_names r.1) (class_below names kinds t r.0 r.2).1 ∙ ap (λ ns. t.name ∷ ns) (named_alike names kinds texts r.1 r.3)
+
+-- classes of texts that a file can spell are such classes
+pub spellable_all : (names : List (List ℕ)) (kinds : List ClassKind) (texts : List ClassParts) (classes : List Class) → All IsSpellable texts → classes_from names kinds texts ≡ Ok classes → All IsSpellableClass classes
+spellable_all names kinds [] classes a e = let none : classes ≡ [] = cc in All-same IsSpellableClass _ _ none (All-nil IsSpellableClass)
+spellable_all names kinds (t ∷ texts) classes a e =
+    let r = joined_ok (class_from names kinds t) (classes_from names kinds texts) classes e in
+    All-same IsSpellableClass _ _ r.4 (All-cons IsSpellableClass r.0 r.1 (class_spellable names kinds t r.0 (All-head IsSpellable t texts a) r.2) (spellable_all names kinds texts r.1 (All-tail IsSpellable t texts a) r.3))
 
 pub as_many : (texts : List ClassParts) (classes : List Class) → classes_of texts ≡ Ok classes → length classes ≡ length texts
 as_many texts classes e =

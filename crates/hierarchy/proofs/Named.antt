@@ -1,5 +1,5 @@
 -- Names noted in file order, and the first that is repeated.
-use Rattle.std.proofs.Common.{◌≡◌, ℕ, zero, suc, ◌<◌, ◌+◌, inl, inr, true, false, cond, List, [], ◌∷◌, ◌++◌, length, take, get_or, sym, ap, subst, ◌∙◌, arith}
+use Rattle.std.proofs.Common.{◌≡◌, ℕ, zero, suc, ◌<◌, ◌+◌, inl, inr, false, cond, List, [], ◌∷◌, ◌++◌, length, take, get_or, sym, ap, subst, ◌∙◌, arith}
 use Rattle.std.proofs.lemmas.Bool.{cases_lt}
 use Rattle.std.proofs.lemmas.List.{take_more, length-map}
 use Rattle.jasmin_text.specs.declared.class_text.ClassParts.{ClassParts}
@@ -11,9 +11,6 @@ pub name_at : (texts : List ClassParts) (i : ℕ) (t : ClassParts) → i < lengt
 name_at [] i t h e = absurd (omega (arith, h))
 name_at (x ∷ xs) zero t h e = ap (λ z. z.name) (sym e)
 name_at (x ∷ xs) (suc i) t h e = name_at xs i t (omega (arith, h)) e
-
-pub repeated_here : (texts : List ClassParts) (names : List (List ℕ)) (i : ℕ) (t : ClassParts) → i < length texts → t ≡ get_or texts i t → names ≡ take i (names_of texts) → has_text t.name names ≡ true → IsRepeated texts i
-repeated_here texts names i t h e n r = (h, rw (name_at texts i t h e, ← n) r)
 
 pub not_repeated_more : (texts : List ClassParts) (names : List (List ℕ)) (i : ℕ) (t : ClassParts) → i < length texts → t ≡ get_or texts i t → names ≡ take i (names_of texts) → has_text t.name names ≡ false →
     ((j : ℕ) → j < i → IsRepeated texts j → ⊥) → (j : ℕ) → j < i + 1 → IsRepeated texts j → ⊥

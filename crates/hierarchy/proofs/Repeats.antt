@@ -11,8 +11,8 @@ use Rattle.std.proofs.lemmas.List.Folds.{list_any-append}
 use Rattle.std.proofs.lemmas.Slice.Eq.{bytes_eq-Decides}
 use Rattle.std.specs.List.{list_any}
 use Rattle.std.specs.Str.{bytes_eq}
-use Rattle.hierarchy.specs.Members.{repeats, Noted, field_name, method_name, same_field_member, same_method_member}
-use Rattle.hierarchy.specs.Texts.{has_text, note_text}
+use Rattle.hierarchy.specs.Members.{repeats, Noted, same_field_member, same_method_member}
+use Rattle.hierarchy.specs.Texts.{has_text}
 
 or_four : (a b c d : Bool) → (a || (b || false)) || (c || d) ≡ (a || c) || (b || d)
 or_four true b c d = refl
@@ -41,14 +41,6 @@ repeats-left same (x ∷ xs) ys e =
       | inl h ↦ or_left (list_any (same x) (xs ++ ys)) (repeats same (xs ++ ys)) (list_any-append (same x) xs ys ∙ or_left (list_any (same x) xs) (list_any (same x) ys) h)
       | inr h ↦ or_right (list_any (same x) (xs ++ ys)) (repeats same (xs ++ ys)) (repeats-left same xs ys h)
     ]
-
-pub noted_none : {X : Type 0} (named : X → List ℕ) (names : List (List ℕ)) → names ≡ [] → Noted {X = X} named names []
-noted_none named names e n = rw e refl
-
-pub noted_new : {X : Type 0} (named : X → List ℕ) (names next : List (List ℕ)) (xs : List X) (y : X) → Noted named names xs → has_text (named y) names ≡ false → next ≡ note_text names (named y) → Noted named next (xs ++ y ∷ [])
-noted_new named names next xs y s e m n =
-    ap (has_text n) (m ∙ rw e refl) ∙ list_any-append (bytes_eq n) names (named y ∷ []) ∙ ap (λ b. b || (bytes_eq n (named y) || false)) (s n) ∙
-    sym (list_any-append (λ x. bytes_eq n (named x)) xs (y ∷ []))
 
 pub noted_again : {X : Type 0} (named : X → List ℕ) (names : List (List ℕ)) (xs : List X) (y : X) → Noted named names xs → has_text (named y) names ≡ true → Noted named names (xs ++ y ∷ [])
 noted_again named names xs y s e n =

@@ -1,7 +1,5 @@
 -- The walk over superinterfaces: it adds the enumeration, and leaves out what was found before.
-use Rattle.std.proofs.Common.{◌≡◌, ℕ, zero, suc, ◌+◌, ◌-◌, ◌<◌, true, List, [], ◌∷◌, ◌++◌, length, take, get_or, refl, sym, ap, ◌∙◌, arith, append-nil, sub-one, length-append, inl, inr}
-use Rattle.std.proofs.lemmas.Grind.{flat_map-append}
-use Rattle.std.proofs.lemmas.List.{take_more}
+use Rattle.std.proofs.Common.{◌≡◌, ℕ, zero, suc, ◌+◌, ◌-◌, ◌<◌, true, List, [], ◌∷◌, ◌++◌, length, get_or, sym, ap, ◌∙◌, arith, sub-one, length-append, inl, inr}
 use Rattle.std.specs.List.{flat_map}
 use Rattle.hierarchy.specs.declared.class.ClassId.{ClassId}
 use Rattle.hierarchy.specs.LinkedProgram.{LinkedProgram, id}
@@ -28,13 +26,6 @@ enumeration-self p i a = rw (enumeration-law p i a) (among_right _ first)
 pub skipped : (p : LinkedProgram) (xs : List ClassId) (i : ClassId) → IsAcyclic p → IsClosed p xs → is_among i xs ≡ true → xs ≡ add_all xs (enumeration p i)
 skipped p xs i a c e = sym (add_all-there xs (enumeration p i) (c i (among_from_true i xs e)))
 
--- the step of the walk over the interfaces
-pub walked_more : (p : LinkedProgram) (start items now next : List ClassId) (k : ℕ) → k < length items → now ≡ add_all start (flat_map (enumeration p) (take k items)) →
-    next ≡ add_all now (enumeration p (get_or items k none_id)) → next ≡ add_all start (flat_map (enumeration p) (take (k + 1) items))
-walked_more p start items now next k h e n =
-    rw (take_more items k none_id h, flat_map-append (enumeration p) (take k items) (get_or items k none_id ∷ []), append-nil (enumeration p (get_or items k none_id)), add_all-append start (flat_map (enumeration p) (take k items)) (enumeration p (get_or items k none_id)))
-    (rw e at n)
-
 pub within_step : (p : LinkedProgram) (d : ℕ) (i : ClassId) (items : List ClassId) (k : ℕ) → IsWithin d p i → interfaces_of p i ≡ items → k < length items → IsWithin (d - 1) p (get_or items k none_id)
 within_step p zero i items k w e h = absurd w
 within_step p (suc d) i items k w e h =
@@ -48,9 +39,6 @@ walked_all p start now next i a e n =
 pub within_positive : (p : LinkedProgram) (d : ℕ) (i : ClassId) → IsWithin d p i → d - 1 < d
 within_positive p zero i w = absurd w
 within_positive p (suc d) i w = omega arith
-
-pub table_none : (f : ClassId → List ClassId) (all : List (List ClassId)) → all ≡ [] → IsTable f 0 all
-table_none f all e = rw e (record { count_is = refl; are = λ n found g. absurd cc })
 
 -- one class more
 pub table_more : (f : ClassId → List ClassId) (n : ℕ) (all next : List (List ClassId)) (found : List ClassId) → IsTable f n all → found ≡ f (id n) → next ≡ all ++ found ∷ [] → IsTable f (n + 1) next

@@ -1,10 +1,9 @@
 -- The built-in classes: their numbers, names and superclasses.
-use Rattle.std.specs.Prelude.{ℕ, ◌+◌, ◌==◌, nat_lt, Bool, ◌||◌, List, [], ◌∷◌, Option, Some, None, map, slice_get, if◌then◌else◌}
+use Rattle.std.specs.Prelude.{ℕ, ◌+◌, ◌==◌, nat_lt, Bool, ◌||◌, List, [], ◌∷◌, Option, Some, None, map, slice_get, codes, if◌then◌else◌}
 use Rattle.std.specs.Borrow.{Bor}
 use Rattle.std.specs.Str.{bytes_eq}
 use Rattle.hierarchy.specs.declared.built_in.BuiltIn.{BuiltIn}
 use Rattle.hierarchy.specs.declared.built_in.BuiltIn.TheVariants.{Object, System, String, PrintStream, Throwable, Exception, Error, RuntimeException, ArithmeticException, NullPointerException, IndexOutOfBoundsException, NegativeArraySizeException, ClassCastException, ArrayStoreException, IllegalMonitorStateException, IllegalArgumentException, IllegalStateException, UnsupportedOperationException, ArrayIndexOutOfBoundsException, LinkageError, VirtualMachineError, NoClassDefFoundError, ExceptionInInitializerError, IncompatibleClassChangeError, VerifyError, NoSuchFieldError, NoSuchMethodError, AbstractMethodError, InstantiationError, OutOfMemoryError, StackOverflowError, InternalError}
-use Rattle.hierarchy.specs.declared.built_in.TheConstants.{BUILT_IN_NAMES, BUILT_INS}
 
 -- the place of a class among the built-in ones
 abbrev pub number_of : BuiltIn → ℕ
@@ -80,9 +79,53 @@ superclass_of_built_in InternalError = Some VirtualMachineError
 abbrev pub plain : List (Bor (List ℕ)) → List (List ℕ)
 plain names = map (λ name. name.now) names
 
+-- the internal name
+abbrev pub name_of : BuiltIn → List ℕ
+name_of Object = codes "java/lang/Object"
+name_of System = codes "java/lang/System"
+name_of String = codes "java/lang/String"
+name_of PrintStream = codes "java/io/PrintStream"
+name_of Throwable = codes "java/lang/Throwable"
+name_of Exception = codes "java/lang/Exception"
+name_of Error = codes "java/lang/Error"
+name_of RuntimeException = codes "java/lang/RuntimeException"
+name_of ArithmeticException = codes "java/lang/ArithmeticException"
+name_of NullPointerException = codes "java/lang/NullPointerException"
+name_of IndexOutOfBoundsException = codes "java/lang/IndexOutOfBoundsException"
+name_of NegativeArraySizeException = codes "java/lang/NegativeArraySizeException"
+name_of ClassCastException = codes "java/lang/ClassCastException"
+name_of ArrayStoreException = codes "java/lang/ArrayStoreException"
+name_of IllegalMonitorStateException = codes "java/lang/IllegalMonitorStateException"
+name_of IllegalArgumentException = codes "java/lang/IllegalArgumentException"
+name_of IllegalStateException = codes "java/lang/IllegalStateException"
+name_of UnsupportedOperationException = codes "java/lang/UnsupportedOperationException"
+name_of ArrayIndexOutOfBoundsException = codes "java/lang/ArrayIndexOutOfBoundsException"
+name_of LinkageError = codes "java/lang/LinkageError"
+name_of VirtualMachineError = codes "java/lang/VirtualMachineError"
+name_of NoClassDefFoundError = codes "java/lang/NoClassDefFoundError"
+name_of ExceptionInInitializerError = codes "java/lang/ExceptionInInitializerError"
+name_of IncompatibleClassChangeError = codes "java/lang/IncompatibleClassChangeError"
+name_of VerifyError = codes "java/lang/VerifyError"
+name_of NoSuchFieldError = codes "java/lang/NoSuchFieldError"
+name_of NoSuchMethodError = codes "java/lang/NoSuchMethodError"
+name_of AbstractMethodError = codes "java/lang/AbstractMethodError"
+name_of InstantiationError = codes "java/lang/InstantiationError"
+name_of OutOfMemoryError = codes "java/lang/OutOfMemoryError"
+name_of StackOverflowError = codes "java/lang/StackOverflowError"
+name_of InternalError = codes "java/lang/InternalError"
+
+-- the built-in classes, in the order of the numbers
+unfoldable pub built_ins : List BuiltIn
+built_ins =
+    Object ∷ System ∷ String ∷ PrintStream ∷ Throwable ∷ Exception ∷ Error ∷ RuntimeException ∷ ArithmeticException ∷ NullPointerException
+    ∷ IndexOutOfBoundsException ∷ NegativeArraySizeException ∷ ClassCastException ∷ ArrayStoreException ∷ IllegalMonitorStateException
+    ∷ IllegalArgumentException ∷ IllegalStateException ∷ UnsupportedOperationException ∷ ArrayIndexOutOfBoundsException ∷ LinkageError
+    ∷ VirtualMachineError ∷ NoClassDefFoundError ∷ ExceptionInInitializerError ∷ IncompatibleClassChangeError ∷ VerifyError ∷ NoSuchFieldError
+    ∷ NoSuchMethodError ∷ AbstractMethodError ∷ InstantiationError ∷ OutOfMemoryError ∷ StackOverflowError ∷ InternalError ∷ []
+
 -- the internal names, in the order of the numbers
 unfoldable pub built_in_names : List (List ℕ)
-built_in_names = map (λ name. name.now) BUILT_IN_NAMES
+built_in_names = map name_of built_ins
 
 abbrev pub place_from : ℕ → List (List ℕ) → List ℕ → Option ℕ
 place_from k [] name = None
@@ -91,10 +134,6 @@ place_from k (other ∷ others) name = if bytes_eq other name then Some k else p
 -- the place of the first of these names that is the one
 abbrev pub place_of : List (List ℕ) → List ℕ → Option ℕ
 place_of names name = place_from 0 names name
-
--- the built-in classes, in the order of the numbers
-unfoldable pub built_ins : List BuiltIn
-built_ins = BUILT_INS
 
 abbrev pub built_in_at : Option ℕ → Option BuiltIn
 built_in_at None = None

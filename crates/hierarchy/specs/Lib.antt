@@ -15,6 +15,7 @@ pub mod Methods
 pub mod Quoted
 pub mod Searched
 pub mod Selection
+pub mod SpellableClass
 pub mod Subclasses
 pub mod Superinterfaces
 pub mod Supertypes

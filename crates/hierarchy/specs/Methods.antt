@@ -1,5 +1,5 @@
 -- Methods as their classes declare them, and where they are looked up (JVMS SE 8 5.4.3.3, 5.4.3.4).
-use Rattle.std.specs.Prelude.{ℕ, ◌+◌, ◌-◌, Bool, true, false, not, ◌&&◌, List, [], ◌∷◌, Option, Some, None, length, slice_get, nat_eq, if◌then◌else◌}
+use Rattle.std.specs.Prelude.{ℕ, ◌-◌, Bool, true, false, not, ◌&&◌, List, Option, Some, None, length, slice_get, nat_eq, if◌then◌else◌}
 use Rattle.std.specs.List.{flat_map, list_any, filter, filter_map}
 use Rattle.std.specs.Option.{is_some}
 use Rattle.std.specs.Cmp.Lexicographic.{pointwise}

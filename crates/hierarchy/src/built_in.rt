@@ -4,7 +4,8 @@ ghost use Rattle.std.specs.Prelude.{◌≡◌, ◌<◌, length, slice_get, optio
 ghost use Rattle.hierarchy.specs.BuiltIn.{number_of, superclass_of_built_in, built_ins, built_in_named, may_be_superclass, built_in_names, plain, place_of};
 
 /// A class that belongs to no file: it counts as initialized from the start (JVMS SE 8 5.5 has nothing left
-/// to do for it) and gives no event. The variants stand in the order of their numbers.
+/// to do for it) and gives no event. Each variant is the class of that name in java/lang, but for PrintStream, which is
+/// java/io/PrintStream; they stand in the order of their numbers.
 #[derive(Clone, Copy, Debug, PartialEq, Eq)]
 pub enum BuiltIn {
     Object,
@@ -197,7 +198,7 @@ fn class_in(classes: &[BuiltIn], place: usize) -> Option<BuiltIn>
 }
 
 /// The name of the built-in class at that place.
-#[tactic(auto, unfolding(crate::specs::BuiltIn::built_in_names))]
+#[tactic(auto, unfolding(crate::specs::BuiltIn::built_in_names, crate::specs::BuiltIn::built_ins))]
 pub(crate) fn built_in_name(place: usize) -> Option<&'static [u8]>
     ensures { option_copied result ≡ slice_get built_in_names place }
 {
@@ -214,7 +215,7 @@ fn name_in<'a>(names: &[&'a [u8]], place: usize) -> Option<&'a [u8]>
 }
 
 /// The place of the built-in class of that name.
-#[tactic(auto, unfolding(crate::specs::BuiltIn::built_in_names))]
+#[tactic(auto, unfolding(crate::specs::BuiltIn::built_in_names, crate::specs::BuiltIn::built_ins))]
 pub(crate) fn place_built_in(name: &[u8]) -> Option<usize>
     ensures place { result ≡ place_of built_in_names name.now }
     ensures within { IfSome result (λ place. place < 32) }
@@ -237,27 +238,4 @@ fn place_among(names: &[&[u8]], name: &[u8]) -> Option<usize>
         rest = after;
     }
     None
-}
-
-#[cfg(test)]
-mod tests {
-    use super::*;
-
-    #[test]
-    fn names_stand_at_their_numbers(rt: HostRuntime) {
-        let rows = [
-            (BuiltIn::Object, b"java/lang/Object".as_slice()),
-            (BuiltIn::PrintStream, b"java/io/PrintStream"),
-            (BuiltIn::Error, b"java/lang/Error"),
-            (
-                BuiltIn::NoClassDefFoundError,
-                b"java/lang/NoClassDefFoundError",
-            ),
-            (BuiltIn::OutOfMemoryError, b"java/lang/OutOfMemoryError"),
-            (BuiltIn::InternalError, b"java/lang/InternalError"),
-        ];
-        for (class, name) in rows {
-            assert!(rt; BUILT_IN_NAMES.get(class.number()) == Some(&name));
-        }
-    }
 }

@@ -1,14 +1,14 @@
 //! Linked classes.
 //!
-//! Enter by [`link`]: it takes the parts of all files' classes, in order, and answers the [`Program`] that they
+//! Enter by [`link`]: it takes the class texts of all files, in order, and answers the [`Program`] that they
 //! make, or the first fault with its class (JVMS SE 8 5.3.5, 5.4). A program numbers its classes in file order
 //! and the built-in ones behind them; a [`ClassId`] is such a number, and everything above speaks of classes
 //! by it.
 //!
 //! Contracts see a program as one value, the list of its linked classes. In every program each way up the
 //! hierarchy ends, which [`Program::len`] tells. What linking found out beside the classes, as the supertypes
-//! and the superinterfaces of each, is kept in the program and is no part of that value: so no call searches up
-//! the hierarchy, and what is resolved later can be kept there too.
+//! and the superinterfaces of each, is kept in the program and is no part of that value: so no call goes up the
+//! hierarchy by more than one way, that of the superclasses, and what is resolved later can be kept there too.
 //!
 //! Members are found by [`Program::resolve_field`] and [`Program::resolve_method`], and the method that a call
 //! runs by [`Program::select`]; a [`FieldId`] or a [`MethodId`] names the class that declares it, and its place there.
@@ -57,18 +57,3 @@ pub use methods::Invoke;
 pub use program::Program;
 pub use selection::Call;
 pub use value::Value;
-
-#[cfg(test)]
-mod fault_tests;
-#[cfg(test)]
-mod field_tests;
-#[cfg(test)]
-mod method_classes;
-#[cfg(test)]
-mod method_tests;
-#[cfg(test)]
-mod selection_tests;
-#[cfg(test)]
-mod test_program;
-#[cfg(test)]
-mod tests;

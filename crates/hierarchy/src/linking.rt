@@ -1,8 +1,11 @@
 //! Class texts linked to a program.
 
 ghost use Rattle.std.specs.Prelude.{◌≡◌, ◌⊎◌, ℕ, ◌+◌, ◌<◌, ◌≤◌, Some, None, Ok, Err, IfOk, IfErr, length, slice_get, vec_len};
+ghost use Rattle.std.specs.List.{All};
+ghost use Rattle.jasmin_text.specs.Spellable.{IsSpellable};
 ghost use Rattle.hierarchy.specs.LinkedProgram.{linked, class_names};
 ghost use Rattle.hierarchy.specs.Hierarchy.{IsAcyclic, IsInRange};
+ghost use Rattle.hierarchy.specs.SpellableClass.{IsSpellableClass};
 ghost use Rattle.hierarchy.specs.Tables.{AreTables};
 ghost use Rattle.hierarchy.specs.Linking.{names_of, kinds_of, classes_of, classes_from, IsFirst, IsRepeated};
 ghost use Rattle.hierarchy.specs.FirstFault.{HasNames, IsNameFault, HasNoCycle, HasDistinctMembers, FitsHeap, IsClassFault, IsFirstFault, LinksTo, IsMemory, name_in_text, name_in_class};
@@ -19,7 +22,7 @@ use crate::supertypes::{SearchResult, search};
 use crate::tables::{Tables, tables_with};
 use crate::texts::Texts;
 use descriptors::ClassName;
-use jasmin_text::{ClassKind, ClassParts};
+use jasmin_text::{ClassKind, ClassParts, ClassText};
 use std::alloc::Global;
 
 /// A fault of the class at a place.
@@ -152,6 +155,7 @@ fn program_of(alloc: Global, names: Texts, classes: Vec<Class>) -> Result<Progra
     requires few { vec_len classes ≤ 1024 }
     requires in_range { IsInRange (linked classes.items) }
     requires names { names ≡ class_names classes.items }
+    requires spellable { All IsSpellableClass classes.items }
     ensures program { IfOk result (λ program. program ≡ linked classes.items) }
     ensures cycles { IfOk result (λ program. HasNoCycle classes.items) }
     ensures members { IfOk result (λ program. HasDistinctMembers classes.items) }
@@ -167,17 +171,9 @@ fn program_of(alloc: Global, names: Texts, classes: Vec<Class>) -> Result<Progra
     }
 }
 
-/// Links the classes of all files, in order, to a program, or tells the first fault and its class
-/// (JVMS SE 8 5.3.5, 5.4).
-///
-/// The passes, each over the classes in file order: over 1,024 classes; a name under java/; a name twice;
-/// then of each class its superclass and its superinterfaces in order, of one name first whether it is known
-/// and then whether it is of the right kind; then cycles, told of the first class that itself stands on one;
-/// then a member twice; then the heap's share, which is one cell for each of three ready objects and one for
-/// each distinct quoted text of a static field or of `ldc`, of 1,000,000 cells.
-///
-/// Want of memory is [`LinkFaultKind::NoMemory`], may come before any fault, and leaves its class open.
-pub fn link(alloc: Global, texts: Vec<ClassParts>) -> Result<Program, LinkFault>
+/// Links the parts of classes that a file can spell.
+fn link_parts(alloc: Global, texts: Vec<ClassParts>) -> Result<Program, LinkFault>
+    requires { All IsSpellable texts.items }
     ensures linked { IfOk result (LinksTo texts.items) }
     ensures fault { IfErr result (λ f. IsMemory f ⊎ IsFirstFault texts.items f) }
 {
@@ -195,5 +191,46 @@ pub fn link(alloc: Global, texts: Vec<ClassParts>) -> Result<Program, LinkFault>
             kind: at.kind,
             class: name_of_text(texts, at.place),
         }),
+    }
+}
+
+/// The parts of class texts, in order.
+fn parts_of(alloc: Global, texts: Vec<ClassText>) -> Result<Vec<ClassParts>, LinkFault>
+    ensures parts { IfOk result (λ parts. parts.items ≡ texts.items) }
+    ensures spellable { IfOk result (λ parts. All IsSpellable parts.items) }
+    ensures fault { IfErr result IsMemory }
+{
+    let mut parts = Vec::new(alloc);
+    for text in texts {
+        match parts.push(text.into_parts()) {
+            Ok(()) => (),
+            Err(refused) => {
+                return Err(LinkFault {
+                    kind: LinkFaultKind::NoMemory,
+                    class: refused.value.name,
+                });
+            }
+        }
+    }
+    Ok(parts)
+}
+
+/// Links the classes of all files, in order, to a program, or tells the first fault and its class
+/// (JVMS SE 8 5.3.5, 5.4). Of no class it makes the program that has the built-in classes alone.
+///
+/// The passes, each over the classes in file order: over 1,024 classes; a name under java/; a name twice;
+/// then of each class its superclass and its superinterfaces in order, of one name first whether it is known
+/// and then whether it is of the right kind; then cycles, told of the first class that itself stands on one;
+/// then a member twice; then the heap's share, which is one cell for each of three ready objects and one for
+/// each distinct quoted text of a static field or of `ldc`, of 1,000,000 cells.
+///
+/// Want of memory is [`LinkFaultKind::NoMemory`], may come before any fault, and leaves its class open.
+pub fn link(alloc: Global, texts: Vec<ClassText>) -> Result<Program, LinkFault>
+    ensures linked { IfOk result (LinksTo texts.items) }
+    ensures fault { IfErr result (λ f. IsMemory f ⊎ IsFirstFault texts.items f) }
+{
+    match parts_of(alloc, texts) {
+        Ok(parts) => link_parts(alloc, parts),
+        Err(fault) => Err(fault),
     }
 }

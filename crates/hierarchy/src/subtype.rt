@@ -1,4 +1,4 @@
-//! Subtypes, which a program answers without a search up the hierarchy.
+//! Subtypes, which a program looks up among the supertypes that it keeps of each class.
 
 ghost use Rattle.std.specs.Prelude.{◌≡◌, ◌↔◌, ◌≤◌, IsTrue, length, slice_get, option_copied};
 ghost use Rattle.hierarchy.specs.LinkedProgram.{linked, built_in};

@@ -1,4 +1,4 @@
-//! What a program keeps beside its classes, so that no call searches up the hierarchy.
+//! What a program keeps beside its classes, so that no call goes up the hierarchy by more than one way.
 
 ghost use Rattle.std.specs.Prelude.{◌≡◌, ◌≤◌, [], IfOk, length};
 ghost use Rattle.hierarchy.specs.LinkedProgram.{linked};

@@ -2,9 +2,9 @@
 -- what stands where no class is open.
 use Rattle.std.proofs.Common.{◌≡◌, ℕ, List, [], ◌∷◌, ◌++◌, Option, Some, None, Bool, true, false, refl, sym, subst, append-nil, append_assoc}
 use Rattle.hierarchy.specs.declared.class.ClassId.{ClassId}
-use Rattle.hierarchy.specs.declared.built_in.BuiltIn.TheVariants.{OutOfMemoryError}
+use Rattle.hierarchy.specs.declared.built_in.BuiltIn.TheVariants.{OutOfMemoryError, Throwable}
 use Rattle.hierarchy.specs.LinkedProgram.{LinkedProgram, built_in}
-use Rattle.hierarchy.specs.Subclasses.{IsError}
+use Rattle.hierarchy.specs.Subclasses.{IsError, itself}
 use Rattle.init_order.specs.Needs.{needs}
 use Rattle.init_core.specs.declared.event.Decision.{Decision}
 use Rattle.init_core.specs.declared.event.Decision.TheVariants as decision
@@ -13,16 +13,16 @@ use Rattle.init_core.specs.declared.event.Kind.{Kind}
 use Rattle.init_core.specs.declared.event.Kind.TheVariants as kind
 use Rattle.init_core.specs.declared.procedure.Answer.{Answer}
 use Rattle.init_core.specs.declared.procedure.Answer.TheVariants as answer
-use Rattle.init_core.specs.declared.procedure.Completed.{Completed}
-use Rattle.init_core.specs.declared.procedure.Ending.{Ending}
-use Rattle.init_core.specs.declared.procedure.Ending.TheVariants as ending
-use Rattle.init_core.specs.declared.procedure.Frame.{Frame}
-use Rattle.init_core.specs.declared.procedure.Outcome.{Outcome}
-use Rattle.init_core.specs.declared.procedure.Outcome.TheVariants.{Normal, Abrupt, Ended}
-use Rattle.init_core.specs.declared.procedure.Phase.{Phase}
-use Rattle.init_core.specs.declared.procedure.Phase.TheVariants.{Looking, Needing, Running, EndingBy}
+use Rattle.init_core.specs.declared.frames.Completed.{Completed}
+use Rattle.init_core.specs.declared.frames.Ending.{Ending}
+use Rattle.init_core.specs.declared.frames.Ending.TheVariants as ending
+use Rattle.init_core.specs.declared.frames.Frame.{Frame}
+use Rattle.init_core.specs.declared.frames.Outcome.{Outcome}
+use Rattle.init_core.specs.declared.frames.Outcome.TheVariants.{Normal, Abrupt, Ended}
+use Rattle.init_core.specs.declared.frames.Phase.{Phase}
+use Rattle.init_core.specs.declared.frames.Phase.TheVariants.{Looking, Needing, Running, EndingBy}
 use Rattle.init_core.specs.Decisions.{event, entered}
-use Rattle.init_core.specs.ProcedureWord.{ProcedureWord, word, AfterWait, recurs, finds_initialized, finds_erroneous, gives_up, completes, fails, is_ended, need_fails, need_is_ended, lacks_memory, Begun, begins, and_then, Items, no_items, requests, uses, prints, Body, stops, stops_ended, wait, completed, given_up, ended_by, GoesOn, IsUse, IsMachineError, printed}
+use Rattle.init_core.specs.ProcedureWord.{ProcedureWord, word, AfterWait, recurs, finds_initialized, finds_erroneous, gives_up, completes, fails, is_ended, need_fails, need_is_ended, lacks_memory, Begun, begins, and_then, Items, no_items, requests, uses, prints, Body, stops, stops_ended, wait, completed, given_up, ended_by, GoesOn, IsOfFiles, IsUse, IsMachineError, printed}
 use Rattle.init_core.specs.Standing.{Standing}
 use Rattle.init_core.specs.Leads.{frame, standing, kind_of_ending, outcome_of, Before, outermost, needed, used, Leads, idle, looking, not_run, running, ending_by}
 use Rattle.init_core.specs.Advance.{advanced, advanced_in, asked, events_of, events_in, Fits, FitsIn, FitsBody, decided, after_word, after_needs, IsAtBody, ending_of, is_given_up}
@@ -41,19 +41,19 @@ module _ (p : LinkedProgram) (t : ℕ) (Outer : ClassId → List Event → Type 
   -- the innermost procedure is completed
   pub returned : {fs : List Frame} {c : ClassId} {xs w : List Event} (r : Outcome) → Before p t Outer fs c xs → ProcedureWord p t c w r → Leads p t Outer Idle (after_word fs c r) (xs ++ w)
   returned r (outermost o) x = idle (goes _ _ _ r o x)
-  returned r (used waited b g i on) x = simp append_assoc (running waited b g (requests i on x))
+  returned r (used waited b g i on within) x = simp append_assoc (running waited b g (requests i on within x))
   returned Normal (needed {rest = []} waited b e g) x = simp append_assoc (not_run waited b (all_begun e g x))
   returned Normal (needed {rest = d ∷ rest} waited b e g) x = simp append_assoc (look_first (needed waited b (regrouped _ _ _ _ _ e) (and_then g x)))
   returned {w = w} (Abrupt e) (needed {b = c} {rest = rest} {begun = begun} waited b q g) x = simp append_assoc (ending_by (ending.SuperFails e) false (wait t c waited ++ (begun ++ w)) b (simp append_assoc (word waited (need_fails rest q g x))))
   returned {w = w} (Ended e) (needed {b = c} {rest = rest} {begun = begun} waited b q g) x = simp append_assoc (ending_by (ending.SuperFails e) true (wait t c waited ++ (begun ++ w)) b (simp append_assoc (word waited (need_is_ended rest q g x))))
 
   -- a request of c
-  pub is_requested : {s : Standing} {xs : List Event} (c : ClassId) → IsAtBody s.frames → GoesOn s.last → (Idle s.last xs → Outer c xs) → Leads p t Outer Idle s xs → Leads p t Outer Idle (standing (frame c (Looking false) ∷ s.frames) None) xs
-  is_requested c body on outer (idle i) = look_first (outermost (outer i))
-  is_requested c body on outer (looking waited b) = absurd body
-  is_requested c body on outer (not_run waited b g) = absurd body
-  is_requested c body on outer (running waited b g i) = look_first (used waited b g i on)
-  is_requested c body on outer (ending_by k m events b x) = absurd body
+  pub is_requested : {s : Standing} {xs : List Event} (c : ClassId) → IsAtBody s.frames → GoesOn s.last → IsOfFiles p c → (Idle s.last xs → Outer c xs) → Leads p t Outer Idle s xs → Leads p t Outer Idle (standing (frame c (Looking false) ∷ s.frames) None) xs
+  is_requested c body on within outer (idle i) = look_first (outermost (outer i))
+  is_requested c body on within outer (looking waited b) = absurd body
+  is_requested c body on within outer (not_run waited b g) = absurd body
+  is_requested c body on within outer (running waited b g i) = look_first (used waited b g i on within)
+  is_requested c body on within outer (ending_by k m events b x) = absurd body
 
   -- step 2
   pub waits : {fs : List Frame} {c : ClassId} {last : Option Completed} {xs : List Event} → Leads p t Outer Idle (standing (frame c (Looking false) ∷ fs) last) xs → Leads p t Outer Idle (standing (frame c (Looking true) ∷ fs) None) (xs ++ event t c kind.Waits ∷ [])
@@ -95,7 +95,7 @@ module _ (p : LinkedProgram) (t : ℕ) (Outer : ClassId → List Event → Type 
   -- a body that is abrupt
   pub body_is_abrupt : {fs : List Frame} {c : ClassId} {last : Option Completed} {xs : List Event} (e : ClassId) → IsError p e → GoesOn last → Leads p t Outer Idle (standing (frame c (Running true) ∷ fs) last) xs → Leads p t Outer Idle (standing (frame c (EndingBy (ending.Fails e) false) ∷ fs) None) xs
   body_is_abrupt {c = c} e is_error on (running {begun = begun} {items = items} waited b g i) =
-      ending_by (ending.Fails e) false (wait t c waited ++ (begun ++ event t c kind.Runs ∷ items)) b (simp append_assoc (word waited (fails g (stops i on tt) is_error)))
+      ending_by (ending.Fails e) false (wait t c waited ++ (begun ++ event t c kind.Runs ∷ items)) b (simp append_assoc (word waited (fails g (stops {r = Abrupt (built_in p Throwable)} i on itself) is_error)))
 
   body_stops : {last : Option Completed} {items : List Event} (e : ClassId) → given_up last ≡ Some e → Items p t last items → Body p t items (Ended e)
   body_stops {last = None} e gone i = cc

@@ -6,16 +6,16 @@ use Rattle.init_order.specs.Needs.{needs}
 use Rattle.init_core.specs.declared.event.Event.{Event}
 use Rattle.init_core.specs.declared.event.Kind.{Kind}
 use Rattle.init_core.specs.declared.event.Kind.TheVariants as kind
-use Rattle.init_core.specs.declared.procedure.Completed.{Completed}
-use Rattle.init_core.specs.declared.procedure.Ending.{Ending}
-use Rattle.init_core.specs.declared.procedure.Ending.TheVariants as ending
-use Rattle.init_core.specs.declared.procedure.Frame.{Frame}
-use Rattle.init_core.specs.declared.procedure.Outcome.{Outcome}
-use Rattle.init_core.specs.declared.procedure.Outcome.TheVariants.{Normal, Abrupt, Ended}
-use Rattle.init_core.specs.declared.procedure.Phase.{Phase}
-use Rattle.init_core.specs.declared.procedure.Phase.TheVariants.{Looking, Needing, Running, EndingBy}
+use Rattle.init_core.specs.declared.frames.Completed.{Completed}
+use Rattle.init_core.specs.declared.frames.Ending.{Ending}
+use Rattle.init_core.specs.declared.frames.Ending.TheVariants as ending
+use Rattle.init_core.specs.declared.frames.Frame.{Frame}
+use Rattle.init_core.specs.declared.frames.Outcome.{Outcome}
+use Rattle.init_core.specs.declared.frames.Outcome.TheVariants.{Normal, Abrupt, Ended}
+use Rattle.init_core.specs.declared.frames.Phase.{Phase}
+use Rattle.init_core.specs.declared.frames.Phase.TheVariants.{Looking, Needing, Running, EndingBy}
 use Rattle.init_core.specs.Decisions.{event}
-use Rattle.init_core.specs.ProcedureWord.{ProcedureWord, Begun, Items, wait, GoesOn}
+use Rattle.init_core.specs.ProcedureWord.{ProcedureWord, Begun, Items, wait, GoesOn, IsOfFiles}
 use Rattle.init_core.specs.Standing.{Standing}
 
 abbrev pub frame : ClassId → Phase → Frame
@@ -46,7 +46,7 @@ pub data Before (p : LinkedProgram) (t : ℕ) (Outer : ClassId → List Event �
       Before p t Outer frames b before → needs p b ≡ first ++ c ∷ rest → Begun p t b first begun →
       Before p t Outer (frame b (Needing rest) ∷ frames) c (before ++ (wait t b waited ++ begun))
   used : {last : Option Completed} {frames : List Frame} {b c : ClassId} {before begun items : List Event} (waited : Bool) →
-      Before p t Outer frames b before → Begun p t b (needs p b) begun → Items p t last items → GoesOn last →
+      Before p t Outer frames b before → Begun p t b (needs p b) begun → Items p t last items → GoesOn last → IsOfFiles p c →
       Before p t Outer (frame b (Running true) ∷ frames) c (before ++ (wait t b waited ++ (begun ++ event t b kind.Runs ∷ items)))
 
 -- A list of events of t leads to where its procedures stand. Idle says what stands where no class is open.
@@ -67,7 +67,7 @@ pub data Leads (p : LinkedProgram) (t : ℕ) (Outer : ClassId → List Event →
 
 -- what may stand before a request in a body
 abbrev pub BeforeRequest : LinkedProgram → ℕ → ClassId → List Event → Type 0
-BeforeRequest p t c xs = (last : Option Completed) × Items p t last xs × GoesOn last
+BeforeRequest p t c xs = (last : Option Completed) × Items p t last xs × GoesOn last × IsOfFiles p c
 
 -- a list of events of t leads to where its procedures stand, where outside of any class it goes as a body does
 abbrev pub LeadsTo : LinkedProgram → ℕ → Standing → List Event → Type 0

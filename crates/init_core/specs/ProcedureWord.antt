@@ -1,18 +1,22 @@
 -- The procedure of JLS SE 8 12.4.2 and JVMS SE 8 5.5 as words: which lists of one thread's events do the procedure
 -- for a class, with which result. A body is what an initializer, or main, does.
-use Rattle.std.specs.Prelude.{◌≡◌, ◌⊎◌, ℕ, List, [], ◌∷◌, ◌++◌, Option, Some, None, Bool, true, false}
+use Rattle.std.specs.Prelude.{◌≡◌, ◌⊎◌, ℕ, ◌<◌, length, List, [], ◌∷◌, ◌++◌, Option, Some, None, Bool, true, false}
 use Rattle.hierarchy.specs.declared.class.ClassId.{ClassId}
 use Rattle.hierarchy.specs.declared.built_in.BuiltIn.TheVariants.{NoClassDefFoundError, InternalError, OutOfMemoryError}
 use Rattle.hierarchy.specs.LinkedProgram.{LinkedProgram, built_in}
-use Rattle.hierarchy.specs.Subclasses.{IsError}
+use Rattle.hierarchy.specs.Subclasses.{IsError, IsThrowable}
 use Rattle.init_order.specs.Needs.{needs}
 use Rattle.init_core.specs.declared.event.Event.{Event}
 use Rattle.init_core.specs.declared.event.Kind.{Kind}
 use Rattle.init_core.specs.declared.event.Kind.TheVariants as kind
-use Rattle.init_core.specs.declared.procedure.Completed.{Completed}
-use Rattle.init_core.specs.declared.procedure.Outcome.{Outcome}
-use Rattle.init_core.specs.declared.procedure.Outcome.TheVariants.{Normal, Abrupt, Ended}
+use Rattle.init_core.specs.declared.frames.Completed.{Completed}
+use Rattle.init_core.specs.declared.frames.Outcome.{Outcome}
+use Rattle.init_core.specs.declared.frames.Outcome.TheVariants.{Normal, Abrupt, Ended}
 use Rattle.init_core.specs.Decisions.{event}
+
+-- a class or interface of the files
+abbrev pub IsOfFiles : LinkedProgram → ClassId → Type 0
+IsOfFiles p c = c.number < length p.classes
 
 -- an error by which the machine itself ends a thread
 abbrev pub IsMachineError : LinkedProgram → ClassId → Type 0
@@ -54,7 +58,7 @@ GoesOn last = given_up last ≡ None
 -- how a body may stop of itself: by returning, by a throwable, or ended by the machine
 abbrev pub IsStop : LinkedProgram → Outcome → Type 0
 IsStop p Normal = Unit {0}
-IsStop p (Abrupt e) = Unit {0}
+IsStop p (Abrupt e) = IsThrowable p e
 IsStop p (Ended e) = IsMachineError p e
 
 mutual
@@ -74,8 +78,8 @@ mutual
     -- steps 6, 7, 9, 10
     completes : {c : ClassId} {begun body : List Event} → Begun p t c (needs p c) begun → Body p t body Normal →
         AfterWait p t c (begun ++ event t c kind.Runs ∷ (body ++ event t c kind.Completes ∷ [])) Normal
-    -- steps 6, 7, 9, 11, 12
-    fails : {c : ClassId} {begun body : List Event} {e : ClassId} → Begun p t c (needs p c) begun → Body p t body (Abrupt e) → IsError p e →
+    -- steps 6, 7, 9, 11, 12: the body throws, and step 11 leaves an error
+    fails : {c : ClassId} {begun body : List Event} {thrown e : ClassId} → Begun p t c (needs p c) begun → Body p t body (Abrupt thrown) → IsError p e →
         AfterWait p t c (begun ++ event t c kind.Runs ∷ (body ++ event t c (kind.Fails e) ∷ [])) (Abrupt e)
     -- the same where the machine ended the body
     is_ended : {c : ClassId} {begun body : List Event} {e : ClassId} → Begun p t c (needs p c) begun → Body p t body (Ended e) →
@@ -103,7 +107,7 @@ mutual
   -- with nothing behind it.
   pub data Items (p : LinkedProgram) (t : ℕ) : Option Completed → List Event → Type 0 where
     no_items : Items p t None []
-    requests : {last : Option Completed} {items w : List Event} {c : ClassId} {r : Outcome} → Items p t last items → GoesOn last → ProcedureWord p t c w r → Items p t (Some (completed c r)) (items ++ w)
+    requests : {last : Option Completed} {items w : List Event} {c : ClassId} {r : Outcome} → Items p t last items → GoesOn last → IsOfFiles p c → ProcedureWord p t c w r → Items p t (Some (completed c r)) (items ++ w)
     uses : {items : List Event} {c : ClassId} (k : Kind) → IsUse k → Items p t (Some (completed c Normal)) items → Items p t None (items ++ event t c k ∷ [])
     prints : {last : Option Completed} {items : List Event} (text : List ℕ) → Items p t last items → GoesOn last → Items p t None (items ++ printed t text ∷ [])
 

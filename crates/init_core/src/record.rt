@@ -1,4 +1,4 @@
-//! What is known of one class's initialization.
+//! What is known of one class's initialization (JLS SE 8 12.4.2, JVMS SE 8 5.5).
 
 ghost use Rattle.std.specs.Prelude.{◌≡◌, ℕ, ◌<◌, ◌≤◌, ◌+◌, ◌++◌, ◌∷◌, [], Some, IfOk, OnOk, OnErr, true, false, length, vec_len, vec_capacity};
 ghost use Rattle.init_core.specs.Label.{label_of, failure_of, owner_of};
@@ -31,14 +31,14 @@ pub struct ClassRecord {
 }
 
 impl Model for ClassRecord {
-    ghost use Rattle.init_core.specs.History.{History, room_in};
+    ghost use Rattle.init_core.specs.History.{History};
     ghost use Rattle.std.specs.Prelude.{◌-◌, vec_len, vec_capacity};
 
     ghost Value = { History };
 
     ghost use Rattle.init_core.specs.Keeps.{IsOfItsHistory};
 
-    ghost view = { λ r. record { class = r.class; fields = r.bank.fields; events = r.history.items; room = room_in r.label; spare = vec_capacity r.history - vec_len r.history } };
+    ghost view = { λ r. record { class = r.class; fields = r.bank.fields; events = r.history.items; spare = vec_capacity r.history - vec_len r.history } };
 
     ghost invariant = { IsOfItsHistory };
 }
@@ -51,7 +51,6 @@ impl ClassRecord {
         ensures class { IfOk result (λ made. made.class ≡ class) }
         ensures fields { IfOk result (λ made. made.fields ≡ statics_of program.now class) }
         ensures events { IfOk result (λ made. made.events ≡ []) }
-        ensures room { IfOk result (λ made. made.room ≡ 0) }
     {
         let bank = Bank::prepared(alloc, program, class)?;
         Ok(ClassRecord {
@@ -109,11 +108,11 @@ impl ClassRecord {
         self.failure
     }
 
-    /// The events of the class, in order.
+    /// The events of the class, in order. While the class is in progress there is room for the event that ends it.
     pub fn history(&self) -> &[Event]
         ensures events { result.now ≡ self.now.events }
         ensures lawful { IsLawful self.now.fields self.now.events }
-        ensures room { self.now.room ≡ room_in (label_of self.now.events) }
+        ensures room { room_in (label_of self.now.events) ≤ self.now.spare }
     {
         self.history.as_slice()
     }
@@ -125,7 +124,6 @@ impl ClassRecord {
         ensures class { self.new.class ≡ self.old.class }
         ensures fields { self.new.fields ≡ self.old.fields }
         ensures events { self.new.events ≡ self.old.events }
-        ensures room { self.new.room ≡ self.old.room }
         ensures spare { OnOk result (2 ≤ self.new.spare) }
         ensures err { OnErr result (self.new ≡ self.old) }
     {

@@ -19,7 +19,9 @@ use std::alloc::Global;
 /// What a table leaves: the records by their places, and the journals in the order of the passes that were handed in.
 #[derive(Drop)]
 pub struct Closed<R: Keeps> {
+    /// The records, by their places.
     pub records: Vec<R>,
+    /// The journals, one a pass.
     pub journals: Vec<Journal<R::Event>>,
 }
 

@@ -102,6 +102,3 @@ pub fn superinterfaces_come_first(program: &Program, id: ClassId)
 {
     let _classes = program.len();
 }
-
-#[cfg(test)]
-mod tests;

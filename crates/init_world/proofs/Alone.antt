@@ -19,27 +19,28 @@ use Rattle.init_core.specs.declared.event.Kind.{Kind}
 use Rattle.init_core.specs.declared.event.Kind.TheVariants as kind
 use Rattle.init_core.specs.declared.event.Label.{Label}
 use Rattle.init_core.specs.declared.event.Label.TheVariants.{Prepared, InProgress, Initialized, Erroneous}
-use Rattle.init_core.specs.declared.procedure.Completed.{Completed}
-use Rattle.init_core.specs.declared.procedure.Ending.{Ending}
-use Rattle.init_core.specs.declared.procedure.Ending.TheVariants as ending
-use Rattle.init_core.specs.declared.procedure.Frame.{Frame}
-use Rattle.init_core.specs.declared.procedure.Outcome.TheVariants.{Normal, Abrupt, Ended}
-use Rattle.init_core.specs.declared.procedure.Phase.{Phase}
-use Rattle.init_core.specs.declared.procedure.Phase.TheVariants.{Looking, Needing, Running, EndingBy}
+use Rattle.init_core.specs.declared.frames.Completed.{Completed}
+use Rattle.init_core.specs.declared.frames.Ending.{Ending}
+use Rattle.init_core.specs.declared.frames.Ending.TheVariants as ending
+use Rattle.init_core.specs.declared.frames.Frame.{Frame}
+use Rattle.init_core.specs.declared.frames.Outcome.TheVariants.{Normal, Abrupt, Ended}
+use Rattle.init_core.specs.declared.frames.Phase.{Phase}
+use Rattle.init_core.specs.declared.frames.Phase.TheVariants.{Looking, Needing, Running, EndingBy}
 use Rattle.init_core.specs.Advance.{after_decision, after_needs, after_word, after_in}
 use Rattle.init_core.specs.Decisions.{event, kind_of, Decides}
 use Rattle.init_core.specs.Interleaving.{of_class, of_thread, is_class}
 use Rattle.init_core.specs.Label.{label_by, label_of, is_failure, is_completion, is_beginning}
 use Rattle.init_core.specs.Lawful.{Allows}
 use Rattle.init_core.specs.Leads.{frame, standing, Before, outermost, needed, used, Leads, looking}
-use Rattle.init_core.specs.ProcedureWord.{completed}
+use Rattle.init_core.specs.ProcedureWord.{completed, IsOfFiles}
 use Rattle.init_core.specs.Standing.{Standing}
 use Rattle.init_world.specs.declared.world.Turn.{Turn}
 use Rattle.init_world.specs.declared.world.Turn.TheVariants as turn
+use Rattle.init_world.specs.EmptyBodies.{HaveEmptyBodies}
 use Rattle.init_world.specs.OpenClasses.{label_at}
 use Rattle.init_world.specs.PlainSteps.{IsPlainStep, ArePlainSteps}
 use Rattle.init_world.specs.Turns.{TurnsTo, looks, still_waits, runs, in_body, ends, is_normal, is_abrupt}
-use Rattle.init_world.proofs.InFiles.{InFiles, needs_in_files}
+use Rattle.init_world.proofs.InFiles.{needs_in_files}
 use Rattle.init_world.proofs.Sound.{label_next, no_more, one_more, class_is}
 
 -- what may stand below the innermost class: no request of a body
@@ -67,7 +68,7 @@ IsCalm s = IsCalmIn s.frames s.last
 
 -- the classes of the files that an open class still names: itself, and what it needs
 abbrev pub NamesFiles : LinkedProgram → Frame → Type 0
-NamesFiles p f = InFiles p f.class × elim f.phase [ Needing rest ↦ AllByRecursion (InFiles p) rest | _ ↦ Unit {0} ]
+NamesFiles p f = IsOfFiles p f.class × elim f.phase [ Needing rest ↦ AllByRecursion (IsOfFiles p) rest | _ ↦ Unit {0} ]
 
 -- the open classes that are begun
 abbrev pub begun_classes : List Frame → List ClassId
@@ -84,12 +85,48 @@ pub plain_more : (h : List Event) (e : Event) → ArePlainSteps h → IsPlainSte
 plain_more [] e a q = (q, tt)
 plain_more (x ∷ h) e a q = (a.0, plain_more h e a.1 q)
 
+-- the body of c is open, and nothing was done in it
+abbrev pub IsOpenBody : ClassId → List Event → Type 0
+IsOpenBody c h = (before : List Event) × HaveEmptyBodies before × (h ≡ before ++ event 0 c kind.Runs ∷ [])
+
+-- each body was empty so far
+abbrev pub AreEmptySoFar : List Frame → List Event → Type 0
+AreEmptySoFar [] h = HaveEmptyBodies h
+AreEmptySoFar (f ∷ fs) h = elim f.phase [ Running true ↦ IsOpenBody f.class h | EndingBy k by_machine ↦ IsOpenBody f.class h | _ ↦ HaveEmptyBodies h ]
+
+empty_more : (h : List Event) (e : Event) → HaveEmptyBodies h → e.kind ≢ kind.Runs → HaveEmptyBodies (h ++ e ∷ [])
+empty_more [] e a other = (λ r. absurd (other r), tt)
+empty_more (x ∷ h) e a other = (λ r. let f = a.0 r in (f.0 ++ e ∷ [], ap (λ (ys : List Event). ys ++ e ∷ []) f.1), empty_more h e a.1 other)
+
+empty_closed : (h : List Event) (c : ClassId) → HaveEmptyBodies h → HaveEmptyBodies ((h ++ event 0 c kind.Runs ∷ []) ++ event 0 c kind.Completes ∷ [])
+empty_closed [] c a = (λ r. ([], refl), (λ r. cc, tt))
+empty_closed (x ∷ h) c a =
+    (λ r. let f = a.0 r in ((f.0 ++ event 0 c kind.Runs ∷ []) ++ event 0 c kind.Completes ∷ [], ap (λ (ys : List Event). (ys ++ event 0 c kind.Runs ∷ []) ++ event 0 c kind.Completes ∷ []) f.1), empty_closed h c a.1)
+
+body_closed : (h : List Event) (c : ClassId) → IsOpenBody c h → HaveEmptyBodies (h ++ event 0 c kind.Completes ∷ [])
+body_closed h c open_body = rw open_body.2 (empty_closed open_body.0 c open_body.1)
+
+needs_empty : (b : ClassId) (rest : List ClassId) (fs : List Frame) (h : List Event) → HaveEmptyBodies h → AreEmptySoFar (after_needs b rest fs).frames h
+needs_empty b [] fs h x = x
+needs_empty b (d ∷ rest) fs h x = x
+
+in_empty : (phase : Phase) (b : ClassId) (fs : List Frame) (c : ClassId) (h : List Event) → IsNeeding phase → HaveEmptyBodies h → AreEmptySoFar (after_in phase b fs c Normal).frames h
+in_empty (Needing rest) b fs c h i x = needs_empty b rest fs h x
+in_empty (Looking w) b fs c h i x = absurd i
+in_empty (Running ran) b fs c h i x = absurd i
+in_empty (EndingBy k m) b fs c h i x = absurd i
+
+word_empty : (fs : List Frame) (c : ClassId) (h : List Event) → AreNeeding fs → HaveEmptyBodies h → AreEmptySoFar (after_word fs c Normal).frames h
+word_empty [] c h n x = x
+word_empty (f ∷ fs) c h n x = in_empty f.phase f.class fs c h n.0 x
+
 -- Thread 0 stands so after these events, which are all that was done.
 pub record StandsAlone (p : LinkedProgram) (s : Standing) (h : List Event) : Type 0 where
   pub calm : IsCalm s
   pub files : AllByRecursion (NamesFiles p) s.frames
   pub known : (c : ClassId) → IsKnown (begun_classes s.frames) c (label_at h c)
   pub plain : ArePlainSteps h
+  pub empty : AreEmptySoFar s.frames h
 
 -- labels after an event: step 4, 9 and any other move nothing
 same_label : (f c b : Option Event) → label_by (option_or f None) (option_or c None) (option_or b None) ≡ label_by f c b
@@ -133,7 +170,7 @@ module _ (p : LinkedProgram) where
   needs_calm b [] fs n = (tt, n, refl)
   needs_calm b (d ∷ rest) fs n = (tt, (tt, n), refl)
 
-  needs_files : (b : ClassId) (rest : List ClassId) (fs : List Frame) → InFiles p b → AllByRecursion (InFiles p) rest → AllByRecursion (NamesFiles p) fs → AllByRecursion (NamesFiles p) (after_needs b rest fs).frames
+  needs_files : (b : ClassId) (rest : List ClassId) (fs : List Frame) → IsOfFiles p b → AllByRecursion (IsOfFiles p) rest → AllByRecursion (NamesFiles p) fs → AllByRecursion (NamesFiles p) (after_needs b rest fs).frames
   needs_files b [] fs x a f = ((x, tt), f)
   needs_files b (d ∷ rest) fs x a f = ((a.0, tt), ((x, a.1), f))
 
@@ -181,7 +218,7 @@ module _ (p : LinkedProgram) where
     below (outermost o) n d a = elim a [ ]
     below (needed {b = b} {c = c} {first = ds} {rest = es} waited before e g) n d a =
         above_need (needs_above p b (subst (λ xs. Among c xs) (sym e) (among_right ds first))) (λ k. below before n.1 d k) a
-    below (used waited before g i on) n d a = absurd n.0
+    below (used waited before g i on within) n d a = absurd n.0
 
     -- a class that is looked at isn't open
     not_open : {fs : List Frame} {c : ClassId} {w : Bool} {last : Option Completed} {xs : List Event} → IsAcyclic p → AreNeeding fs → Leads p t Outer Idle (standing (frame c (Looking w) ∷ fs) last) xs → Among c (begun_classes fs) → ⊥
@@ -233,12 +270,14 @@ module _ (p : LinkedProgram) where
     files = needs_files c (needs p c) fs st.files.0.0 (needs_in_files p c) st.files.1;
     known = λ d. rw (needs_begun c (needs p c) fs) (begin_known h c (begun_classes fs) was d (is_class d (Some c)) refl (st.known d));
     plain = plain_more h (event 0 c kind.Begins) st.plain tt;
+    empty = needs_empty c (needs p c) fs (h ++ event 0 c kind.Begins ∷ []) (empty_more h (event 0 c kind.Begins) st.empty (λ e. cc));
   }
   look_alone h c w fs (finds_initialized was) st = record {
     calm = word_calm fs c st.calm.1;
     files = word_files fs c st.calm.1 st.files.1;
     known = λ d. rw (word_begun fs c st.calm.1) (stays_known h (event 0 c kind.FindsInitialized) d (refl, refl, refl) (st.known d));
     plain = plain_more h (event 0 c kind.FindsInitialized) st.plain tt;
+    empty = word_empty fs c (h ++ event 0 c kind.FindsInitialized ∷ []) st.calm.1 (empty_more h (event 0 c kind.FindsInitialized) st.empty (λ e. cc));
   }
 
   run_alone : (h : List Event) (c : ClassId) (fs : List Frame) → StandsAlone p (standing (frame c (Running false) ∷ fs) None) h → StandsAlone p (standing (frame c (Running true) ∷ fs) None) (h ++ event 0 c kind.Runs ∷ [])
@@ -247,6 +286,7 @@ module _ (p : LinkedProgram) where
     files = st.files;
     known = λ d. stays_known h (event 0 c kind.Runs) d (refl, refl, refl) (st.known d);
     plain = plain_more h (event 0 c kind.Runs) st.plain tt;
+    empty = (h, st.empty, refl);
   }
 
   end_alone : (h : List Event) (c : ClassId) (fs : List Frame) → StandsAlone p (standing (frame c (EndingBy ending.Completes false) ∷ fs) None) h → StandsAlone p (after_word fs c Normal) (h ++ event 0 c kind.Completes ∷ [])
@@ -255,11 +295,12 @@ module _ (p : LinkedProgram) where
     files = word_files fs c st.calm.1 st.files.1;
     known = λ d. rw (word_begun fs c st.calm.1) (done_known h c (begun_classes fs) d (is_class d (Some c)) refl (st.known d));
     plain = plain_more h (event 0 c kind.Completes) st.plain tt;
+    empty = word_empty fs c (h ++ event 0 c kind.Completes ∷ []) st.calm.1 (body_closed h c st.empty);
   }
 
   -- an empty body that ends
   pub body_alone : (h : List Event) (c : ClassId) (fs : List Frame) → StandsAlone p (standing (frame c (Running true) ∷ fs) None) h → StandsAlone p (standing (frame c (EndingBy ending.Completes false) ∷ fs) None) h
-  body_alone h c fs st = record { calm = (tt, st.calm.1, refl); files = st.files; known = st.known; plain = st.plain }
+  body_alone h c fs st = record { calm = (tt, st.calm.1, refl); files = st.files; known = st.known; plain = st.plain; empty = st.empty }
 
   -- neither a wait nor a throwable
   abbrev pub IsCalmTurn : Turn → Type 0

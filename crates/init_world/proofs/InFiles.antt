@@ -9,10 +9,8 @@ use Rattle.jasmin_text.specs.declared.class_text.ClassKind.TheVariants as class_
 use Rattle.hierarchy.specs.declared.class.Class.{Class}
 use Rattle.hierarchy.specs.declared.class.ClassId.{ClassId}
 use Rattle.hierarchy.specs.LinkedProgram.{LinkedProgram, class_at}
+use Rattle.init_core.specs.ProcedureWord.{IsOfFiles}
 use Rattle.init_order.specs.Needs.{needs, needs_in, needs_by, add_all, add_new, is_among, declares_default, declares_default_in, superclass_first, is_in_file, enumeration}
-
-abbrev pub InFiles : LinkedProgram → ClassId → Type 0
-InFiles p c = c.number < length p.classes
 
 pub all_more : (Q : ClassId → Type 0) (ds : List ClassId) (d : ClassId) → AllByRecursion Q ds → Q d → AllByRecursion Q (ds ++ d ∷ [])
 all_more Q [] d a x = (x, tt)
@@ -34,23 +32,23 @@ add_all_keeps : (Q : ClassId → Type 0) (passes : ClassId → Bool) → ((d : C
 add_all_keeps Q passes good [] found a = a
 add_all_keeps Q passes good (c ∷ cs) found a = add_all_keeps Q passes good cs _ (passed Q found c (passes c) a (good c))
 
-default_in : (p : LinkedProgram) (d : ClassId) (o : Option Class) → class_at p d ≡ o → declares_default_in o ≡ true → InFiles p d
+default_in : (p : LinkedProgram) (d : ClassId) (o : Option Class) → class_at p d ≡ o → declares_default_in o ≡ true → IsOfFiles p d
 default_in p d None e q = cc
 default_in p d (Some class) e q = slice_get_within p.classes d.number class e
 
-superclass_in : (p : LinkedProgram) (s : ClassId) (b : Bool) → is_in_file p s ≡ b → AllByRecursion (InFiles p) (if b then s ∷ [] else [])
+superclass_in : (p : LinkedProgram) (s : ClassId) (b : Bool) → is_in_file p s ≡ b → AllByRecursion (IsOfFiles p) (if b then s ∷ [] else [])
 superclass_in p s true e = (ltb-true _ _ e, tt)
 superclass_in p s false e = tt
 
-by_kind : (p : LinkedProgram) (class : Class) (k : ClassKind) → AllByRecursion (InFiles p) (needs_by p class k)
+by_kind : (p : LinkedProgram) (class : Class) (k : ClassKind) → AllByRecursion (IsOfFiles p) (needs_by p class k)
 by_kind p class class_kind.Interface = tt
 by_kind p class class_kind.Class =
-    add_all_keeps (InFiles p) (declares_default p) (λ d q. default_in p d (class_at p d) refl q) (flat_map (enumeration p) class.interfaces) (superclass_first p class.superclass) (superclass_in p class.superclass (is_in_file p class.superclass) refl)
+    add_all_keeps (IsOfFiles p) (declares_default p) (λ d q. default_in p d (class_at p d) refl q) (flat_map (enumeration p) class.interfaces) (superclass_first p class.superclass) (superclass_in p class.superclass (is_in_file p class.superclass) refl)
 
-by_class : (p : LinkedProgram) (o : Option Class) → AllByRecursion (InFiles p) (needs_in p o)
+by_class : (p : LinkedProgram) (o : Option Class) → AllByRecursion (IsOfFiles p) (needs_in p o)
 by_class p None = tt
 by_class p (Some class) = by_kind p class class.kind
 
-pub needs_in_files : (p : LinkedProgram) (c : ClassId) → AllByRecursion (InFiles p) (needs p c)
+pub needs_in_files : (p : LinkedProgram) (c : ClassId) → AllByRecursion (IsOfFiles p) (needs p c)
 unfolding needs
 needs_in_files p c = by_class p (class_at p c)

@@ -7,11 +7,11 @@ use Rattle.init_core.specs.declared.event.Event.{Event}
 use Rattle.init_core.specs.declared.event.Kind.{Kind}
 use Rattle.init_core.specs.declared.event.Kind.TheVariants as kind
 use Rattle.init_core.specs.declared.procedure.Answer.TheVariants as answer
-use Rattle.init_core.specs.declared.procedure.Completed.{Completed}
-use Rattle.init_core.specs.declared.procedure.Ending.TheVariants as ending
-use Rattle.init_core.specs.declared.procedure.Frame.{Frame}
-use Rattle.init_core.specs.declared.procedure.Outcome.{Outcome}
-use Rattle.init_core.specs.declared.procedure.Phase.TheVariants.{Looking, Running, EndingBy}
+use Rattle.init_core.specs.declared.frames.Completed.{Completed}
+use Rattle.init_core.specs.declared.frames.Ending.TheVariants as ending
+use Rattle.init_core.specs.declared.frames.Frame.{Frame}
+use Rattle.init_core.specs.declared.frames.Outcome.{Outcome}
+use Rattle.init_core.specs.declared.frames.Phase.TheVariants.{Looking, Running, EndingBy}
 use Rattle.init_core.specs.Advance.{after_decision}
 use Rattle.init_core.specs.Decisions.{event, kind_of}
 use Rattle.init_core.specs.Interleaving.{of_thread}

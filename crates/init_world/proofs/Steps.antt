@@ -8,14 +8,14 @@ use Rattle.init_order.specs.Needs.{needs}
 use Rattle.init_core.specs.declared.event.Event.{Event}
 use Rattle.init_core.specs.declared.event.Kind.{Kind}
 use Rattle.init_core.specs.declared.event.Kind.TheVariants as kind
-use Rattle.init_core.specs.declared.procedure.Completed.{Completed}
-use Rattle.init_core.specs.declared.procedure.Outcome.{Outcome}
-use Rattle.init_core.specs.declared.procedure.Outcome.TheVariants.{Normal, Abrupt, Ended}
-use Rattle.init_core.specs.declared.procedure.Ending.{Ending}
-use Rattle.init_core.specs.declared.procedure.Ending.TheVariants as ending
-use Rattle.init_core.specs.declared.procedure.Phase.{Phase}
-use Rattle.init_core.specs.declared.procedure.Phase.TheVariants.{Looking, Needing, Running, EndingBy}
-use Rattle.init_core.specs.declared.procedure.Frame.{Frame}
+use Rattle.init_core.specs.declared.frames.Completed.{Completed}
+use Rattle.init_core.specs.declared.frames.Outcome.{Outcome}
+use Rattle.init_core.specs.declared.frames.Outcome.TheVariants.{Normal, Abrupt, Ended}
+use Rattle.init_core.specs.declared.frames.Ending.{Ending}
+use Rattle.init_core.specs.declared.frames.Ending.TheVariants as ending
+use Rattle.init_core.specs.declared.frames.Phase.{Phase}
+use Rattle.init_core.specs.declared.frames.Phase.TheVariants.{Looking, Needing, Running, EndingBy}
+use Rattle.init_core.specs.declared.frames.Frame.{Frame}
 use Rattle.init_core.specs.Standing.{Standing}
 use Rattle.init_core.specs.Decisions.{event}
 use Rattle.init_core.specs.ProcedureWord.{ProcedureWord, word, AfterWait, recurs, finds_initialized, finds_erroneous, gives_up, completes, fails, is_ended, need_fails, need_is_ended, lacks_memory, Begun, begins, and_then, Items, no_items, requests, uses, prints, Body, stops, stops_ended, IsUse, printed, IsMachineError, completed, GoesOn}
@@ -64,10 +64,10 @@ abbrev by_machine : Outcome → Bool
 by_machine (Ended e) = true
 by_machine _ = false
 
--- what is thrown out of an initializer is an error
-abbrev ThrowsError : LinkedProgram → Outcome → Type 0
-ThrowsError p (Abrupt e) = IsError p e
-ThrowsError p _ = Unit {0}
+-- the body throws nothing
+abbrev ThrowsNothing : Outcome → Type 0
+ThrowsNothing (Abrupt e) = ⊥
+ThrowsNothing _ = Unit {0}
 
 module _ (p : LinkedProgram) (t : ℕ) where
   pub then_runs : {s m e : Standing} {xs ys : List Event} → Runs p t s xs m → Runs p t m ys e → Runs p t s (xs ++ ys) e
@@ -107,7 +107,7 @@ module _ (p : LinkedProgram) (t : ℕ) where
     rest_runs finds_erroneous waited fs = emits (answers by_erroneous) no_steps
     rest_runs (gives_up {e = e} m) waited fs = silent (leaves e m) no_steps
     rest_runs (completes {c = c} g b) waited fs = then_runs (begun_runs g [] (sym (append-nil (needs p c))) waited fs) (emits runs (emit_last (body_runs b tt c fs) (closes ending.Completes false)))
-    rest_runs (fails {c = c} {e = e} g b x) waited fs = then_runs (begun_runs g [] (sym (append-nil (needs p c))) waited fs) (emits runs (emit_last (body_runs b x c fs) (closes (ending.Fails e) false)))
+    rest_runs (fails {c = c} {e = e} g b x) waited fs = then_runs (begun_runs g [] (sym (append-nil (needs p c))) waited fs) (emits runs (emit_last (throwing_runs b e x c fs) (closes (ending.Fails e) false)))
     rest_runs (is_ended {c = c} {e = e} g b) waited fs = then_runs (begun_runs g [] (sym (append-nil (needs p c))) waited fs) (emits runs (emit_last (body_runs b tt c fs) (closes (ending.Fails e) true)))
     rest_runs (need_fails {c = c} {next = d} others {e = e} q g x) waited fs = then_runs (begun_runs g (d ∷ others) q waited fs) (emit_last (word_runs x (frame c (Needing others) ∷ fs)) (closes (ending.SuperFails e) false))
     rest_runs (need_is_ended {c = c} {next = d} others {e = e} q g x) waited fs = then_runs (begun_runs g (d ∷ others) q waited fs) (emit_last (word_runs x (frame c (Needing others) ∷ fs)) (closes (ending.SuperFails e) true))
@@ -119,15 +119,19 @@ module _ (p : LinkedProgram) (t : ℕ) where
 
     pub items_run : {last : Option Completed} {w : List Event} → Items p t last w → (frames : List Frame) → IsAtBody frames → Runs p t (standing frames None) w (standing frames last)
     items_run no_items frames h = no_steps
-    items_run (requests {c = c} {r = r} i on x) frames h = then_runs (items_run i frames h) (silent (asks c h on) (rw (← at_body frames c r h) (word_runs x frames)))
+    items_run (requests {c = c} {r = r} i on within x) frames h = then_runs (items_run i frames h) (silent (asks c h on) (rw (← at_body frames c r h) (word_runs x frames)))
     items_run (uses k u i) frames h = emit_last (items_run i frames h) (accesses h u)
     items_run (prints text i on) frames h = emit_last (items_run i frames h) (writes text h on)
 
-    body_runs : {w : List Event} {r : Outcome} → Body p t w r → ThrowsError p r → (c : ClassId) (fs : List Frame) → Runs p t (standing (frame c (Running true) ∷ fs) None) w (standing (frame c (EndingBy (body_ending r) (by_machine r)) ∷ fs) None)
+    body_runs : {w : List Event} {r : Outcome} → Body p t w r → ThrowsNothing r → (c : ClassId) (fs : List Frame) → Runs p t (standing (frame c (Running true) ∷ fs) None) w (standing (frame c (EndingBy (body_ending r) (by_machine r)) ∷ fs) None)
     body_runs (stops {r = Normal} i on h) x c fs = silent_last (items_run i (frame c (Running true) ∷ fs) tt) (body_returns on)
-    body_runs (stops {r = Abrupt e} i on h) x c fs = silent_last (items_run i (frame c (Running true) ∷ fs) tt) (body_throws e x on)
+    body_runs (stops {r = Abrupt e} i on h) x c fs = absurd x
     body_runs (stops {r = Ended e} i on h) x c fs = silent_last (items_run i (frame c (Running true) ∷ fs) tt) (body_gives_up e h on)
     body_runs (stops_ended {e = e} i) x c fs = silent_last (items_run i (frame c (Running true) ∷ fs) tt) (body_is_left e)
+
+    -- a body that throws, and what step 11 left
+    throwing_runs : {w : List Event} {thrown : ClassId} → Body p t w (Abrupt thrown) → (e : ClassId) → IsError p e → (c : ClassId) (fs : List Frame) → Runs p t (standing (frame c (Running true) ∷ fs) None) w (standing (frame c (EndingBy (ending.Fails e) false) ∷ fs) None)
+    throwing_runs (stops i on h) e x c fs = silent_last (items_run i (frame c (Running true) ∷ fs) tt) (body_throws e x on)
 
   -- what was completed last changes nothing of what may follow otherwise
   pub readily : {frames : List Frame} {f : Standing} {xs : List Event} (last : Option Completed) → GoesOn last → IsAtBody frames → Runs p t (standing frames None) xs f → (e : Standing) × Runs p t (standing frames last) xs e

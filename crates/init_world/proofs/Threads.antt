@@ -10,23 +10,23 @@ use Rattle.init_order.specs.Needs.{needs}
 use Rattle.init_core.specs.declared.event.Event.{Event}
 use Rattle.init_core.specs.declared.event.Kind.{Kind}
 use Rattle.init_core.specs.declared.event.Kind.TheVariants as kind
-use Rattle.init_core.specs.declared.procedure.Ending.{Ending}
-use Rattle.init_core.specs.declared.procedure.Ending.TheVariants as ending
-use Rattle.init_core.specs.declared.procedure.Frame.{Frame}
-use Rattle.init_core.specs.declared.procedure.Outcome.{Outcome}
-use Rattle.init_core.specs.declared.procedure.Outcome.TheVariants.{Normal, Abrupt, Ended}
-use Rattle.init_core.specs.declared.procedure.Phase.{Phase}
-use Rattle.init_core.specs.declared.procedure.Phase.TheVariants.{Looking, Needing, Running, EndingBy}
+use Rattle.init_core.specs.declared.frames.Ending.{Ending}
+use Rattle.init_core.specs.declared.frames.Ending.TheVariants as ending
+use Rattle.init_core.specs.declared.frames.Frame.{Frame}
+use Rattle.init_core.specs.declared.frames.Outcome.{Outcome}
+use Rattle.init_core.specs.declared.frames.Outcome.TheVariants.{Normal, Abrupt, Ended}
+use Rattle.init_core.specs.declared.frames.Phase.{Phase}
+use Rattle.init_core.specs.declared.frames.Phase.TheVariants.{Looking, Needing, Running, EndingBy}
 use Rattle.init_core.specs.Advance.{after_word, after_in, after_needs}
 use Rattle.init_core.specs.Decisions.{event, waits, is_wait}
 use Rattle.init_core.specs.Interleaving.{of_thread}
 use Rattle.init_core.specs.Leads.{frame, kind_of_ending, outcome_of, Before, outermost, needed, used, idle, looking, not_run, running, ending_by, LeadsTo}
-use Rattle.init_core.specs.ProcedureWord.{GoesOn, IsUse}
+use Rattle.init_core.specs.ProcedureWord.{GoesOn, IsUse, IsOfFiles}
 use Rattle.init_core.specs.Standing.{Standing}
 use Rattle.init_world.specs.Consistent.{StandsAfter, IsSoundFrame, IsUnended}
 use Rattle.init_world.specs.OpenClasses.{OpenClass, OpenClasses, Any, is_waiting}
 use Rattle.init_world.specs.WorldState.{kept, is_kept}
-use Rattle.init_world.proofs.InFiles.{InFiles, needs_in_files, all_behind}
+use Rattle.init_world.proofs.InFiles.{needs_in_files, all_behind}
 use Rattle.init_world.proofs.Kept.{kept_more, kept_same, waits_more}
 use Rattle.init_world.proofs.Sound.{Agrees, PreparedHasNotRun}
 use Rattle.init_world.proofs.Stacks.{emit_kept, stack_goes, goes_spared}
@@ -56,7 +56,7 @@ module _ (p : LinkedProgram) (t : ℕ) where
   before_outer : {Outer : ClassId → List Event → Type 0} {fs : List Frame} {c : ClassId} {xs : List Event} → Before p t Outer fs c xs → AreOuter fs
   before_outer (outermost o) = tt
   before_outer (needed waited b e g) = (tt, before_outer b)
-  before_outer (used waited b g i on) = (tt, before_outer b)
+  before_outer (used waited b g i on within) = (tt, before_outer b)
 
   pub leads_outer : {s : Standing} {xs : List Event} → LeadsTo p t s xs → AreOuterBelow s.frames
   leads_outer (idle i) = tt
@@ -91,13 +91,13 @@ module _ (p : LinkedProgram) (t : ℕ) where
   IsOwn (Ended e) = ⊥
   IsOwn _ = Unit {0}
 
-  sound_needs : (c : ClassId) (ns : List ClassId) (fs : List Frame) → InFiles p c → AllByRecursion (InFiles p) ns → AreSound fs → AreSound (after_needs c ns fs).frames × GoesOn (after_needs c ns fs).last
+  sound_needs : (c : ClassId) (ns : List ClassId) (fs : List Frame) → IsOfFiles p c → AllByRecursion (IsOfFiles p) ns → AreSound fs → AreSound (after_needs c ns fs).frames × GoesOn (after_needs c ns fs).last
   sound_needs c [] fs x a s = (((x, tt), s), refl)
   sound_needs c (n ∷ ns) fs x a s = (((a.0, tt), ((x, tt), s)), refl)
 
-  sound_in : (h : List Event) (P : ClassId → Type 0) (child : Option ClassId) (phase : Phase) (b : ClassId) (fs : List Frame) (c : ClassId) (r : Outcome) → IsOuter phase → IsOwn r → OpenClass p t h P child phase b → InFiles p b → AreSound fs →
+  sound_in : (h : List Event) (P : ClassId → Type 0) (child : Option ClassId) (phase : Phase) (b : ClassId) (fs : List Frame) (c : ClassId) (r : Outcome) → IsOuter phase → IsOwn r → OpenClass p t h P child phase b → IsOfFiles p b → AreSound fs →
       AreSound (after_in phase b fs c r).frames × GoesOn (after_in phase b fs c r).last
-  sound_in h P child (Needing rest) b fs c Normal o own op x s = sound_needs b rest fs x (all_behind (InFiles p) (op.3.1 ∷ []) rest (all_behind (InFiles p) op.3.0 (op.3.1 ∷ rest) (subst (λ ds. AllByRecursion (InFiles p) ds) op.3.3 (needs_in_files p b)))) s
+  sound_in h P child (Needing rest) b fs c Normal o own op x s = sound_needs b rest fs x (all_behind (IsOfFiles p) (op.3.1 ∷ []) rest (all_behind (IsOfFiles p) op.3.0 (op.3.1 ∷ rest) (subst (λ ds. AllByRecursion (IsOfFiles p) ds) op.3.3 (needs_in_files p b)))) s
   sound_in h P child (Needing rest) b fs c (Abrupt e) o own op x s = (((x, tt), s), refl)
   sound_in h P child (Needing rest) b fs c (Ended e) o own op x s = absurd own
   sound_in h P child (Running true) b fs c Normal o own op x s = (((x, tt), s), refl)

@@ -10,8 +10,8 @@ use Rattle.init_order.specs.Needs.{needs}
 use Rattle.hierarchy.specs.declared.class.ClassId.{ClassId}
 use Rattle.init_core.specs.declared.event.Event.{Event}
 use Rattle.init_core.specs.declared.event.Kind.TheVariants as kind
-use Rattle.init_core.specs.declared.procedure.Outcome.TheVariants.{Normal}
-use Rattle.init_core.specs.declared.procedure.Ending.TheVariants as ending
+use Rattle.init_core.specs.declared.frames.Outcome.TheVariants.{Normal}
+use Rattle.init_core.specs.declared.frames.Ending.TheVariants as ending
 use Rattle.init_core.specs.Standing.{Standing}
 use Rattle.init_core.specs.Decisions.{event}
 use Rattle.init_core.specs.Lawful.{IsOpenTo, AgreesAfter}

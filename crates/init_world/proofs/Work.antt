@@ -15,12 +15,12 @@ use Rattle.init_core.specs.declared.event.Kind.{Kind}
 use Rattle.init_core.specs.declared.event.Kind.TheVariants as kind
 use Rattle.init_core.specs.declared.event.Label.{Label}
 use Rattle.init_core.specs.declared.event.Label.TheVariants.{Prepared, InProgress, Initialized, Erroneous}
-use Rattle.init_core.specs.declared.procedure.Ending.{Ending}
-use Rattle.init_core.specs.declared.procedure.Frame.{Frame}
-use Rattle.init_core.specs.declared.procedure.Outcome.{Outcome}
-use Rattle.init_core.specs.declared.procedure.Outcome.TheVariants.{Normal, Abrupt, Ended}
-use Rattle.init_core.specs.declared.procedure.Phase.{Phase}
-use Rattle.init_core.specs.declared.procedure.Phase.TheVariants.{Looking, Needing, Running, EndingBy}
+use Rattle.init_core.specs.declared.frames.Ending.{Ending}
+use Rattle.init_core.specs.declared.frames.Frame.{Frame}
+use Rattle.init_core.specs.declared.frames.Outcome.{Outcome}
+use Rattle.init_core.specs.declared.frames.Outcome.TheVariants.{Normal, Abrupt, Ended}
+use Rattle.init_core.specs.declared.frames.Phase.{Phase}
+use Rattle.init_core.specs.declared.frames.Phase.TheVariants.{Looking, Needing, Running, EndingBy}
 use Rattle.init_core.specs.Advance.{after_decision, after_needs, after_word, after_in}
 use Rattle.init_core.specs.Decisions.{event, kind_of, Decides}
 use Rattle.init_core.specs.Interleaving.{of_class, is_class}
@@ -28,11 +28,11 @@ use Rattle.init_core.specs.Label.{label_by, label_of, is_failure, is_completion,
 use Rattle.init_core.specs.Leads.{frame, standing, kind_of_ending, outcome_of}
 use Rattle.init_core.specs.Standing.{Standing}
 use Rattle.init_core.proofs.Labels.{label_after}
+use Rattle.init_core.specs.ProcedureWord.{IsOfFiles}
 use Rattle.init_world.specs.declared.world.Turn.{Turn}
 use Rattle.init_world.specs.declared.world.Turn.TheVariants as turn
 use Rattle.init_world.specs.OpenClasses.{label_at}
 use Rattle.init_world.specs.Turns.{TurnsTo, looks, runs, ends}
-use Rattle.init_world.proofs.InFiles.{InFiles}
 use Rattle.init_world.proofs.Sound.{label_next, no_more, one_more, class_is}
 
 -- the events that are left of an open class, those of what it still needs by a look apart
@@ -133,7 +133,7 @@ module _ (p : LinkedProgram) where
   begun_work : (t : ℕ) (h : List Event) (c : ClassId) → label_at h c ≡ Prepared → class_work p c (label_at (h ++ event t c kind.Begins ∷ []) c) ≡ 0
   begun_work t h c was = let after : label_at (h ++ event t c kind.Begins ∷ []) c ≡ InProgress t = label_next h t c kind.Begins (λ d e. let same : c ≡ d = cc in rw (← same) was) in rw after refl
 
-  decision_work : (t : ℕ) (h : List Event) (c : ClassId) (fs : List Frame) (w : Bool) (d : Decision) → InFiles p c → Decides (label_at h c) t d → d ≢ decision.Wait false → (d ≡ decision.Wait true → w ≡ false) →
+  decision_work : (t : ℕ) (h : List Event) (c : ClassId) (fs : List Frame) (w : Bool) (d : Decision) → IsOfFiles p c → Decides (label_at h c) t d → d ≢ decision.Wait false → (d ≡ decision.Wait true → w ≡ false) →
       work p (after_decision p (frame c (Looking w)) fs d) (h ++ event t c (kind_of d) ∷ []) < work p (standing (frame c (Looking w) ∷ fs) None) h
   decision_work t h c fs false (decision.Wait true) x was n new = let y = classes_less 0 (length p.classes) h (event t c kind.Waits) in omega (arith, y)
   decision_work t h c fs true (decision.Wait true) x was n new = absurd (let e : true ≡ false = new refl in cc)
@@ -152,7 +152,7 @@ module _ (p : LinkedProgram) where
   ended_work t h c fs k = let y = classes_less 0 (length p.classes) h (event t c (kind_of_ending k)) in let z = word_work fs c (outcome_of k false) in omega (arith, y, z)
 
   -- a turn with an event
-  pub turn_works : {t : ℕ} {s m : Standing} {made h : List Event} → AllByRecursion (λ f. InFiles p f.class) s.frames → TurnsTo p t h s turn.Event made m → work p m (h ++ made) < work p s h
+  pub turn_works : {t : ℕ} {s m : Standing} {made h : List Event} → AllByRecursion (λ f. IsOfFiles p f.class) s.frames → TurnsTo p t h s turn.Event made m → work p m (h ++ made) < work p s h
   turn_works {t} {h = h} x (looks {c = c} {fs = fs} {waited = w} d ok n new) = decision_work t h c fs w d x.0 ok n new
   turn_works {t} {h = h} x (runs {c = c} {fs = fs}) = let y = classes_less 0 (length p.classes) h (event t c kind.Runs) in omega (arith, y)
   turn_works {t} {h = h} x (ends {c = c} {fs = fs} k) = ended_work t h c fs k

@@ -1,5 +1,5 @@
 -- Steps of readings taken apart and put together.
-use Rattle.std.proofs.Common.{◌≡◌, ℕ, Bool, true, false, not, ◌&&◌, ◌||◌, cond, eqb, List, [], ◌∷◌, Result, Ok, Err, refl, ap, ◌∙◌, arith}
+use Rattle.std.proofs.Common.{◌≡◌, ℕ, Bool, true, false, not, ◌&&◌, cond, eqb, List, [], ◌∷◌, Result, Ok, Err, refl, ap, ◌∙◌, arith}
 use Rattle.std.proofs.lemmas.Bool.{eqb-true}
 use Rattle.jasmin_words.specs.Gives.{◌>>=◌}
 use Rattle.jasmin_words.specs.Names.{same_bytes}
@@ -25,17 +25,9 @@ pub not_true : (b : Bool) → not b ≡ true → b ≡ false
 not_true true e = absurd cc
 not_true false e = refl
 
-pub both_false : (a b : Bool) → (a || b) ≡ false → (a ≡ false) × (b ≡ false)
-both_false true b e = absurd cc
-both_false false b e = (refl, e)
-
 pub test_passed : {A F : Type 0} (b : Bool) (x : A) (k : F) (y : A) → cond b (Ok x) (Err k) ≡ Ok y → (b ≡ true) × (x ≡ y)
 test_passed true x k y e = (refl, cc)
 test_passed false x k y e = absurd cc
-
-pub test_refused : {A F : Type 0} (b : Bool) (x : A) (k : F) (y : A) → cond b (Err k) (Ok x) ≡ Ok y → (b ≡ false) × (x ≡ y)
-test_refused true x k y e = absurd cc
-test_refused false x k y e = (refl, cc)
 
 -- a branch that is known
 pub taken : {A : Type 0} (b : Bool) (x y z : A) → b ≡ true → x ≡ z → cond b x y ≡ z

@@ -26,10 +26,11 @@ use Rattle.jasmin_reader.specs.declared.table.ClassWord.TheVariants as class_wor
 use Rattle.jasmin_reader.specs.Table.{class_word_at}
 use Rattle.jasmin_reader.specs.Places.{word_of, within_limit, operand, string_from, ended_at}
 use Rattle.jasmin_reader.specs.Operands.{class_name_in, member_name_in, integer_in, type_in, typed_in, name_len}
-use Rattle.jasmin_reader.specs.Heads.{start, with_access, fits_place, with_known, head_word_at, with_word, is_before_name, named_from, no_access_by, no_access_in, kind_at, class_from, behind_signature, no_constant, constant_for, value_at, value_from, field_of, field_from, may_initialize, fits_initializer, method_from}
+use Rattle.jasmin_reader.specs.Heads.{start, with_access, fits_place, with_known, head_word_at, with_word, is_before_name, named_from, no_access_by, no_access_in, kind_at, class_from, behind_signature, no_constant, constant_for, value_at, value_from, field_of, described_from, field_from, may_initialize, fits_initializer, method_from}
 use Rattle.jasmin_reader.specs.Reading.{empty_body}
 use Rattle.jasmin_reader.specs.Good.{IsGoodBody}
 use Rattle.jasmin_reader.proofs.GoodWords.{bind_ok, chosen, refused, either, Fits, word_fits, within_ok, operand_ok, string_ok}
+use Rattle.jasmin_reader.proofs.NamesTaken.{described_ok}
 use Rattle.jasmin_reader.proofs.GoodTypes.{integer_ok, type_ok, signature_ok, typed_ok, typed_word}
 
 -- ---- access words
@@ -201,11 +202,11 @@ field_good items f lexed e =
     let a = bind_ok (no_access_by (head_word_at place.Field n.0.1.0.0)) _ f n.2 in
     let m = bind_ok (member_name_in n.0.1.0.0) _ f a.2 in
     let u = bind_ok (within_limit n.0.1.0.1) _ f m.2 in
-    let t = bind_ok (operand type_in n.0.1.1) _ f u.2 in
+    let t = bind_ok (described_from n.0.1.1) _ f u.2 in
     let v = bind_ok (value_from t.0.0 t.0.1) _ f t.2 in
     let named = named_ok place.Field (λ _. Unit {0}) (λ _ _ _ _ _. tt) (start kind.Class) items n.0 lexed tt n.1 in
     let name = chosen (is_member_name n.0.1.0.0) n.0.1.0.0 m.0 fault.BadOperand m.1 in
-    let read = operand_ok type_in n.0.1.1 t.0 named.2 t.1 in
+    let read = operand_ok type_in n.0.1.1 t.0 named.2 (described_ok n.0.1.1 t.0 t.1) in
     let type = type_ok read.0.0 t.0.0 read.0.2 read.0.1 in
     let value = value_ok t.0.0 t.0.1 v.0 read.1 v.1 in
     let same : field_of n.0.0.access m.0 t.0.0 v.0 ≡ f = cc in

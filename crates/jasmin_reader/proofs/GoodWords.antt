@@ -5,11 +5,10 @@ use Rattle.std.specs.Str.{is_utf8}
 use Rattle.std.proofs.lemmas.Bool.{and_from, and_parts}
 use Rattle.jasmin_text.specs.Spellable.{is_string}
 use Rattle.jasmin_words.specs.declared.fault.FaultKind.{FaultKind}
-use Rattle.jasmin_words.specs.declared.fault.FaultKind.TheVariants as fault
 use Rattle.jasmin_words.specs.Gives.{◌>>=◌}
 use Rattle.jasmin_words.specs.Lexing.{Item, Word, LongWord, BadWord, Equals, Colon, Text, BadText, fits}
 use Rattle.jasmin_words.specs.Spelling.{IsLexed, AreLexed}
-use Rattle.jasmin_reader.specs.Places.{word_of, first_word, within_limit, next_word, operand, string_from, ended_at}
+use Rattle.jasmin_reader.specs.Places.{word_of, within_limit, next_word, operand, string_from, ended_at}
 use Rattle.jasmin_reader.specs.Operands.{last_operand}
 
 pub bind_ok : {A B : Type 0} (r : Result A FaultKind) (f : A → Result B FaultKind) (y : B) → (r >>= f) ≡ Ok y → (x : A) × (r ≡ Ok x) × (f x ≡ Ok y)
@@ -36,19 +35,6 @@ word_fits Equals w lexed e = absurd cc
 word_fits Colon w lexed e = absurd cc
 word_fits (Text v) w lexed e = absurd cc
 word_fits (BadText k) w lexed e = absurd cc
-
-pub first_fits : (other : FaultKind) (t : Item) (w : List ℕ × Bool) → IsLexed t → first_word other t ≡ Ok w → Fits w
-first_fits other (Word v) w lexed e = let same : (v, false) ≡ w = cc in λ _. subst (λ (u : List ℕ × Bool). fits u.0 ≡ true) same lexed.1
-first_fits other (LongWord v) w lexed e = let same : (v, true) ≡ w = cc in λ no. absurd cc
-first_fits other BadWord w lexed e = absurd cc
-first_fits other Equals w lexed e = absurd cc
-first_fits other Colon w lexed e = absurd cc
-first_fits other (Text v) w lexed e = absurd cc
-first_fits other (BadText k) w lexed e = by_kind k e
-  where
-    by_kind : (k : FaultKind) → first_word other (BadText k) ≡ Ok w → Fits w
-    by_kind fault.BadByte e = absurd cc
-    by_kind k e = absurd cc
 
 pub within_ok : (b : Bool) (u : Unit {0}) → within_limit b ≡ Ok u → b ≡ false
 within_ok true u e = absurd cc

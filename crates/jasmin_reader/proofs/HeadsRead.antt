@@ -145,7 +145,7 @@ field_head items access rest a name w type value e is h d v free ok =
     let at : is_before_name place.Field (Word w ∷ rest) ≡ false = rw (last_part w rest other, value_no_part rest value v) refl in
     let reads : Reads place.Field name (Word w ∷ rest) a = record { at_name = at; before = field_before name w rest other; known = field_known; fits = λ x y same. refl } in
     subst (λ (i : List Item). field_from i ≡ Ok (record { access = a; name = name; field_type = type; value = value })) (sym e)
-    (rw (named_read place.Field name (Word w ∷ rest) a reads access (start kind.Class) a is refl, field_free name (not_some (access_of name) free), h, type_read w type d, value_read type rest value v ok) refl)
+    (rw (named_read place.Field name (Word w ∷ rest) a reads access (start kind.Class) a is refl, field_free name (not_some (access_of name) free), h, other, type_read w type d, value_read type rest value v ok) refl)
 
 -- ---- methods
 

@@ -1,10 +1,11 @@
 -- Lines of classes, fields and methods that are read are lines of the grammar.
-use Rattle.std.proofs.Common.{◌≡◌, ℕ, Bool, true, false, cond, List, [], ◌∷◌, ◌++◌, Option, Some, None, Result, Ok, refl, sym, ap, subst, ◌∙◌, codes}
+use Rattle.std.proofs.Common.{◌≡◌, ℕ, Bool, true, false, cond, List, [], ◌∷◌, ◌++◌, Option, Some, None, Result, Ok, Err, refl, sym, ap, subst, ◌∙◌, codes}
 use Rattle.descriptors.specs.ClassName.{is_class_name, IsClassName}
 use Rattle.descriptors.specs.Signature.{Signature}
 use Rattle.descriptors.specs.Spelling.{method_spelling}
 use Rattle.descriptors.specs.declared.field.FieldType.{FieldType}
 use Rattle.jasmin_words.specs.declared.fault.FaultKind.{FaultKind}
+use Rattle.jasmin_words.specs.declared.fault.FaultKind.TheVariants as fault
 use Rattle.jasmin_words.specs.Gives.{◌>>=◌}
 use Rattle.jasmin_words.specs.Lexing.{Item, Word, LongWord, BadWord, Equals, Colon, Text, BadText}
 use Rattle.jasmin_words.specs.Names.{same_bytes, is_member_name}
@@ -20,7 +21,7 @@ use Rattle.jasmin_reader.specs.declared.head.Place.TheVariants as place
 use Rattle.jasmin_reader.specs.declared.head.HeadWords.{HeadWords}
 use Rattle.jasmin_reader.specs.Places.{within_limit, operand, string_from, ended_at}
 use Rattle.jasmin_reader.specs.Operands.{class_name_in, member_name_in, integer_in, type_in, typed_in}
-use Rattle.jasmin_reader.specs.Heads.{start, named_from, no_access_by, no_access_in, head_word_at, class_from, constant_for, no_constant, value_at, value_from, field_of, field_from, fits_initializer, method_from}
+use Rattle.jasmin_reader.specs.Heads.{start, named_from, no_access_by, no_access_in, head_word_at, class_from, constant_for, no_constant, value_at, value_from, field_of, is_signature, described_from, field_from, fits_initializer, method_from}
 use Rattle.std.specs.Option.{option_map}
 use Rattle.jasmin_text.specs.Tables.{access_of}
 use Rattle.jasmin_reader.specs.declared.table.ClassWord.{ClassWord}
@@ -181,19 +182,27 @@ value_ok type (BadText k ∷ rest) v e = absurd cc
 abbrev field_is : Access → List ℕ → FieldType → Option Constant → Result Field FaultKind
 field_is a name t v = Ok (field_of a name t v)
 
+-- a descriptor that is read stands there
+pub described_ok : (items : List Item) (x : FieldType × List Item) → described_from items ≡ Ok x → operand type_in items ≡ Ok x
+described_ok items x e = by (is_signature items) e
+  where
+    by : (s : Bool) → cond s (Err fault.BadOperand) (operand type_in items) ≡ Ok x → operand type_in items ≡ Ok x
+    by true h = absurd cc
+    by false h = h
+
 pub field_taken : (items : List Item) (f : Field) → field_from items ≡ Ok f → IsRow (Word (codes ".field") ∷ items) (FieldRow f ∷ [])
 unfolding field_from
 field_taken items f e =
-    let one = bind_ok (named_from place.Field (start kind.Class) items) (λ n. no_access_in place.Field n.1.0.0 >>= λ _. member_name_in n.1.0.0 >>= λ name. within_limit n.1.0.1 >>= λ _. operand type_in n.1.1 >>= λ t. value_from t.0 t.1 >>= λ value. field_is n.0.access name t.0 value) f e in
+    let one = bind_ok (named_from place.Field (start kind.Class) items) (λ n. no_access_in place.Field n.1.0.0 >>= λ _. member_name_in n.1.0.0 >>= λ name. within_limit n.1.0.1 >>= λ _. described_from n.1.1 >>= λ t. value_from t.0 t.1 >>= λ value. field_is n.0.access name t.0 value) f e in
     let x = one.0 in
-    let two = bind_ok (no_access_in place.Field x.1.0.0) (λ _. member_name_in x.1.0.0 >>= λ name. within_limit x.1.0.1 >>= λ _. operand type_in x.1.1 >>= λ t. value_from t.0 t.1 >>= λ value. field_is x.0.access name t.0 value) f one.2 in
-    let three = bind_ok (member_name_in x.1.0.0) (λ name. within_limit x.1.0.1 >>= λ _. operand type_in x.1.1 >>= λ t. value_from t.0 t.1 >>= λ value. field_is x.0.access name t.0 value) f two.2 in
-    let four = bind_ok (within_limit x.1.0.1) (λ _. operand type_in x.1.1 >>= λ t. value_from t.0 t.1 >>= λ value. field_is x.0.access three.0 t.0 value) f three.2 in
-    let five = bind_ok (operand type_in x.1.1) (λ t. value_from t.0 t.1 >>= λ value. field_is x.0.access three.0 t.0 value) f four.2 in
+    let two = bind_ok (no_access_in place.Field x.1.0.0) (λ _. member_name_in x.1.0.0 >>= λ name. within_limit x.1.0.1 >>= λ _. described_from x.1.1 >>= λ t. value_from t.0 t.1 >>= λ value. field_is x.0.access name t.0 value) f one.2 in
+    let three = bind_ok (member_name_in x.1.0.0) (λ name. within_limit x.1.0.1 >>= λ _. described_from x.1.1 >>= λ t. value_from t.0 t.1 >>= λ value. field_is x.0.access name t.0 value) f two.2 in
+    let four = bind_ok (within_limit x.1.0.1) (λ _. described_from x.1.1 >>= λ t. value_from t.0 t.1 >>= λ value. field_is x.0.access three.0 t.0 value) f three.2 in
+    let five = bind_ok (described_from x.1.1) (λ t. value_from t.0 t.1 >>= λ value. field_is x.0.access three.0 t.0 value) f four.2 in
     let six = bind_ok (value_from five.0.0 five.0.1) (λ value. field_is x.0.access three.0 five.0.0 value) f five.2 in
     let n = named_ok place.Field field_knows (start kind.Class) items x one.1 in
     let c = checked_ok (is_member_name x.1.0.0) x.1.0.0 three.0 three.1 in
-    let t = operand_ok type_in x.1.1 five.0 five.1 in
+    let t = operand_ok type_in x.1.1 five.0 (described_ok x.1.1 five.0 five.1) in
     let item = short_item x.1.0 three.0 c.1 (within_ok x.1.0.1 four.0 four.1) in
     let flags : x.0.access ≡ n.meaning = ap (λ (h : HeadWords). h.access) n.whole in
     let k : field_of x.0.access three.0 five.0.0 six.0 ≡ f = (let q = six.2 in cc) in

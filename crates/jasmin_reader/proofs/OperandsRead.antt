@@ -1,5 +1,5 @@
 -- Operands that the grammar allows are read.
-use Rattle.std.proofs.Common.{◌≡◌, ℕ, zero, suc, Bool, true, false, not, ◌&&◌, eqb, List, [], ◌∷◌, ◌++◌, replicate, Some, Result, Ok, refl, sym, ap, subst, ◌∙◌, arith}
+use Rattle.std.proofs.Common.{◌≡◌, ℕ, zero, suc, Bool, true, false, not, ◌&&◌, eqb, List, [], ◌∷◌, ◌++◌, replicate, Ok, refl, sym, ap, subst, ◌∙◌, arith}
 use Rattle.std.specs.Prelude.{ℤ, pos, ◌+ℤ◌, ◌-ℤ◌, nat_le}
 use Rattle.std.proofs.lemmas.Int.{ints}
 use Rattle.descriptors.specs.ClassName.{IsClassName}
@@ -9,28 +9,16 @@ use Rattle.descriptors.specs.declared.base.BaseType.TheVariants as base
 use Rattle.descriptors.specs.declared.field.FieldType.{FieldType}
 use Rattle.jasmin_words.specs.declared.fault.FaultKind.{FaultKind}
 use Rattle.jasmin_words.specs.declared.fault.FaultKind.TheVariants as fault
-use Rattle.jasmin_words.specs.Integers.{integer_of}
-use Rattle.jasmin_words.specs.Lexing.{Item, Word}
-use Rattle.jasmin_words.specs.Names.{is_label}
+use Rattle.jasmin_words.specs.Lexing.{Item}
 use Rattle.jasmin_text.specs.InstructionWords.{base_word}
 use Rattle.jasmin_text.specs.Grammar.{IsIntIn, IsNumberIn, IsDescriptor, IsMemberWord, IsOperands, plain, number, byte, short, int, text, local, local_at, increment, jump, field, call, interface, counted, new, new_array, class as class_use, array}
 use Rattle.jasmin_text.specs.declared.form.Form.{Form}
 use Rattle.jasmin_text.specs.declared.instruction.Instruction.{Instruction}
 use Rattle.jasmin_text.specs.declared.instruction.ReferenceType.TheVariants as reference
 use Rattle.jasmin_reader.specs.declared.operands.Begun.TheVariants as begun
-use Rattle.jasmin_reader.specs.Places.{operand}
-use Rattle.jasmin_reader.specs.Operands.{label_in, class_name_in, integer_in, int_in, number_in, member_in, base_in, begins_with, reference_in, last_operand, labels_between, begun_at}
+use Rattle.jasmin_reader.specs.Operands.{int_in, number_in, member_in, base_in, begins_with, reference_in, labels_between, begun_at}
 use Rattle.jasmin_reader.specs.Table.{base_at, base_words}
 use Rattle.jasmin_reader.proofs.NameParts.{lacks, class_lacks, type_read, member_read, method_read}
-
-pub label_read : (w : List ℕ) → is_label w ≡ true → label_in w ≡ Ok w
-label_read w h = rw h refl
-
-pub class_read : (w : List ℕ) → IsClassName w → class_name_in w ≡ Ok w
-class_read w h = rw h refl
-
-pub integer_read : (w : List ℕ) (n : ℤ) → integer_of w ≡ Some n → integer_in w ≡ Ok n
-integer_read w n h = rw h refl
 
 pub int_read : (low high : ℤ) (w : List ℕ) (n : ℤ) → IsIntIn low high w n → int_in low high w ≡ Ok n
 unfolding int_in
@@ -44,12 +32,6 @@ number_read low high above w n h =
     rw (h.value, from, to) refl
 
 -- ---- places
-
-pub operand_read : {A : Type 0} (read : List ℕ → Result A FaultKind) (w : List ℕ) (rest : List Item) (x : A) → read w ≡ Ok x → operand read (Word w ∷ rest) ≡ Ok (x, rest)
-operand_read read w rest x h = rw h refl
-
-pub last_read : {A : Type 0} (read : List ℕ → Result A FaultKind) (w : List ℕ) (x : A) → read w ≡ Ok x → last_operand read (Word w ∷ []) ≡ Ok x
-last_read read w x h = rw h refl
 
 pub named_member : (v class name : List ℕ) → IsMemberWord v class name → member_in v ≡ Ok (class, name)
 named_member v class name m = subst (λ (w : List ℕ). member_in w ≡ Ok (class, name)) (sym m.parts) (member_read class name m.class_name m.member_name)

@@ -14,7 +14,7 @@ use Rattle.jasmin_text.specs.declared.form.Directive.TheVariants as directive
 use Rattle.jasmin_reader.specs.declared.body.Body.{Body}
 use Rattle.jasmin_reader.specs.declared.head.Place.TheVariants as place
 use Rattle.jasmin_reader.specs.declared.reader.Reader.{Reader}
-use Rattle.jasmin_reader.specs.Places.{within_limit, next_word, ended_at, first_word}
+use Rattle.jasmin_reader.specs.Places.{within_limit, ended_at, first_word}
 use Rattle.jasmin_reader.specs.Operands.{class_name_in, last_operand, begins_with}
 use Rattle.jasmin_reader.specs.Heads.{class_from, field_from, method_from}
 use Rattle.jasmin_reader.specs.Bodies.{statement_at, limit_at, catch_at, end_by, end_from, outside_switch, closed}
@@ -24,7 +24,7 @@ use Rattle.jasmin_reader.proofs.Directives.{allowed_ok, room_ok}
 use Rattle.jasmin_reader.proofs.OperandsTaken.{ended_ok, last_ok, checked_ok, AllRows, find_ok}
 use Rattle.jasmin_reader.proofs.HeadsTaken.{item_of, within_ok}
 use Rattle.jasmin_reader.proofs.NamesTaken.{class_taken, interface_taken, field_taken, method_taken}
-use Rattle.jasmin_reader.proofs.LinesTaken.{BodySays, next_is, limit_taken, catch_taken}
+use Rattle.jasmin_reader.proofs.LinesTaken.{BodySays, limit_taken, catch_taken}
 use Rattle.jasmin_reader.proofs.StatementsTaken.{line_items, first_is, IsShortDefault, statement_taken}
 use Rattle.jasmin_reader.proofs.BareRows.{bare_row, bare_rows, one_row, lifted}
 
@@ -118,9 +118,10 @@ method_ok r s items e =
 
 end_words : (items rest : List Item) → end_from items ≡ Ok rest → items ≡ Word (codes "method") ∷ rest
 unfolding end_from
-end_words items rest e =
-    let one = bind_ok (next_word items) (λ w. end_by (same_bytes w.0.0 (codes "method")) w.0 w.1) rest e in
-    next_is items one.0 one.1 ∙ by one.0.0 one.0.1 (same_bytes one.0.0.0 (codes "method")) refl one.2
+end_words [] rest e = absurd cc
+end_words (t ∷ after) rest e =
+    let one = bind_ok (first_word fault.LeftOut t) (λ w. end_by (same_bytes w.0 (codes "method")) w after) rest e in
+    ap (λ (i : Item). i ∷ after) (first_is fault.LeftOut t one.0 one.1) ∙ by one.0 after (same_bytes one.0.0 (codes "method")) refl one.2
   where
     by : (w : List ℕ × Bool) (others : List Item) (t : Bool) → same_bytes w.0 (codes "method") ≡ t → end_by t w others ≡ Ok rest → item_of w ∷ others ≡ Word (codes "method") ∷ rest
     by w others false p h = absurd cc

@@ -45,8 +45,10 @@ abbrev pub end_by : Bool → List ℕ × Bool → List Item → Result (List Ite
 end_by true w rest = within_limit w.1 >>= λ _. Ok rest
 end_by false w rest = Err fault.LeftOut
 
+-- what stands behind .end; whatever else than the word method stands there is left out
 unfoldable pub end_from : List Item → Result (List Item) FaultKind
-end_from items = next_word items >>= λ w. end_by (same_bytes w.0.0 (codes "method")) w.0 w.1
+end_from [] = Err fault.BadOperand
+end_from (t ∷ rest) = first_word fault.LeftOut t >>= λ w. end_by (same_bytes w.0 (codes "method")) w rest
 
 -- a directive where none may stand; of .end the next word is looked at
 unfoldable pub no_directive : Directive → List Item → FaultKind

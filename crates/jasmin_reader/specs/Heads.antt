@@ -165,11 +165,15 @@ value_from t items = behind_signature items >>= value_at t
 abbrev pub field_of : Access → List ℕ → FieldType → Option Constant → Field
 field_of a name t value = record { access = a; name = name; field_type = t; value = value }
 
+-- a field's descriptor; it is missing where a signature stands in its place
+abbrev pub described_from : List Item → Result (FieldType × List Item) FaultKind
+described_from items = if is_signature items then Err fault.BadOperand else operand type_in items
+
 -- behind .field
 unfoldable pub field_from : List Item → Result Field FaultKind
 field_from items = named_from place.Field (start Class) items >>= λ n.
     no_access_in place.Field n.1.0.0 >>= λ _. member_name_in n.1.0.0 >>= λ name. within_limit n.1.0.1 >>= λ _.
-    operand type_in n.1.1 >>= λ t. value_from t.0 t.1 >>= λ value. Ok (field_of n.0.access name t.0 value)
+    described_from n.1.1 >>= λ t. value_from t.0 t.1 >>= λ value. Ok (field_of n.0.access name t.0 value)
 
 -- ---- methods
 

@@ -1,4 +1,4 @@
--- A class, line by line, with the first fault that is met.
+-- A class, line by line, with the first fault that is met. "Own choice" marks this project's own choice (docs/JASMIN.md).
 use Rattle.std.specs.Prelude.{ℕ, Bool, true, false, not, ◌||◌, ◌+◌, List, [], ◌∷◌, ◌++◌, length, Option, Some, None, is_some, is_none, Result, Ok, Err, ◌==◌, if◌then◌else◌, nat_lt}
 use Rattle.descriptors.specs.Signature.{Signature}
 use Rattle.jasmin_words.specs.declared.fault.FaultKind.{FaultKind}

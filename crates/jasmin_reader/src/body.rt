@@ -50,12 +50,17 @@ pub(crate) struct Body {
 pub(crate) fn behind_end<'a, 't>(tokens: &'t [Token<'a>]) -> Result<&'t [Token<'a>], LineError>
     ensures { Gives (λ x. views x.now) result (end_from (views tokens.now)) }
 {
-    let ((word, is_long), rest) = next(tokens)?;
-    if !same(word, b"method") {
-        return Err(Refusal::Fault(FaultKind::LeftOut));
+    match tokens {
+        [] => Err(bad_operand()),
+        [token, rest @ ..] => {
+            let (word, is_long) = first(FaultKind::LeftOut, token)?;
+            if !same(word, b"method") {
+                return Err(Refusal::Fault(FaultKind::LeftOut));
+            }
+            within(is_long)?;
+            Ok(rest)
+        }
     }
-    within(is_long)?;
-    Ok(rest)
 }
 
 /// The fault of a directive where none may stand.

@@ -152,21 +152,17 @@ impl Body {
         let has_other = labels.len() != 0 || !catches.is_empty();
         let instructions = all_with_places(alloc, &labels, instructions)?;
         let handlers = handlers(alloc, &labels, catches.into_vec())?;
-        let code = if access.is_abstract {
-            if has_instructions || has_other {
-                return Err(Refusal::Fault(FaultKind::BadBody));
-            }
-            None
-        } else {
-            if !has_instructions {
-                return Err(Refusal::Fault(FaultKind::BadBody));
-            }
+        let code = if !access.is_abstract && has_instructions {
             Some(Code {
                 stack,
                 locals,
                 handlers,
                 instructions,
             })
+        } else if access.is_abstract && !has_instructions && !has_other {
+            None
+        } else {
+            return Err(Refusal::Fault(FaultKind::BadBody));
         };
         Ok(Method {
             access,

@@ -6,6 +6,8 @@ use jasmin_words::FaultKind;
 /// is the one at which memory ran out.
 #[derive(Clone, Copy, Debug, PartialEq, Eq)]
 pub struct ReadFault {
+    /// What is wrong.
     pub kind: FaultKind,
+    /// The line, from 1.
     pub line: usize,
 }

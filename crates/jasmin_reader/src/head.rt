@@ -50,46 +50,21 @@ pub(crate) fn no_words(kind: ClassKind) -> HeadWords
 fn add_access(access: Access, word: AccessWord) -> Result<Access, LineError>
     ensures { Gives (λ x. x) result (with_access access word) }
 {
-    Ok(match word {
-        AccessWord::Public => Access {
-            public: true,
-            ..access
-        },
-        AccessWord::Private => Access {
-            private: true,
-            ..access
-        },
-        AccessWord::Protected => Access {
-            protected: true,
-            ..access
-        },
-        AccessWord::Static => Access {
-            is_static: true,
-            ..access
-        },
-        AccessWord::Final => Access {
-            is_final: true,
-            ..access
-        },
-        AccessWord::Synchronized => Access {
-            synchronized: true,
-            ..access
-        },
-        AccessWord::Volatile => Access {
-            volatile: true,
-            ..access
-        },
-        AccessWord::Transient => Access {
-            transient: true,
-            ..access
-        },
-        AccessWord::Abstract => Access {
-            is_abstract: true,
-            ..access
-        },
-        AccessWord::Dropped => access,
+    let mut access = access;
+    match word {
+        AccessWord::Public => access.public = true,
+        AccessWord::Private => access.private = true,
+        AccessWord::Protected => access.protected = true,
+        AccessWord::Static => access.is_static = true,
+        AccessWord::Final => access.is_final = true,
+        AccessWord::Synchronized => access.synchronized = true,
+        AccessWord::Volatile => access.volatile = true,
+        AccessWord::Transient => access.transient = true,
+        AccessWord::Abstract => access.is_abstract = true,
+        AccessWord::Dropped => {}
         AccessWord::LeftOut => return Err(Refusal::Fault(FaultKind::LeftOut)),
-    })
+    }
+    Ok(access)
 }
 
 /// Whether these access words may stand together: `abstract` and `static` on no method.
@@ -175,7 +150,7 @@ fn starts_with_word(tokens: &[Token<'_>]) -> bool
 }
 
 /// Whether `signature` ends the words of a field here.
-fn is_at_signature(tokens: &[Token<'_>]) -> bool
+pub(crate) fn is_at_signature(tokens: &[Token<'_>]) -> bool
     ensures { result ≡ is_signature (views tokens.now) }
 {
     match tokens {

@@ -28,30 +28,3 @@ mod values;
 
 pub use fault::ReadFault;
 pub use file::read_class;
-
-#[cfg(test)]
-mod accepted;
-#[cfg(test)]
-mod accepted_code;
-#[cfg(test)]
-mod refusals;
-#[cfg(test)]
-mod refusals_counts;
-#[cfg(test)]
-mod refusals_ends;
-#[cfg(test)]
-mod refusals_labels;
-#[cfg(test)]
-mod refusals_limits;
-#[cfg(test)]
-mod refusals_lines;
-#[cfg(test)]
-mod refusals_long_words;
-#[cfg(test)]
-mod refusals_methods;
-#[cfg(test)]
-mod refusals_operands;
-#[cfg(test)]
-mod refusals_switches;
-#[cfg(test)]
-mod tests;

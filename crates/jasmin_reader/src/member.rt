@@ -4,9 +4,9 @@ ghost use Rattle.std.specs.Prelude.{◌≡◌};
 ghost use Rattle.jasmin_words.specs.Gives.{Gives};
 ghost use Rattle.jasmin_words.specs.Lexing.{views};
 ghost use Rattle.jasmin_text.specs.Spellable.{is_int_type, is_string_type};
-ghost use Rattle.jasmin_reader.specs.Heads.{behind_signature, constant_for, value_at, value_from, field_from, may_initialize, fits_initializer, method_from};
+ghost use Rattle.jasmin_reader.specs.Heads.{behind_signature, constant_for, value_at, value_from, described_from, field_from, may_initialize, fits_initializer, method_from};
 
-use crate::head::{Place, no_access_word, no_words, read_name};
+use crate::head::{Place, is_at_signature, no_access_word, no_words, read_name};
 use crate::place::{FromWord, LineError, bad_operand, ended, fault_at, operand, string, within};
 use crate::values::typed;
 use descriptors::{ElementType, FieldType, MethodType};
@@ -115,6 +115,19 @@ fn value(
     value_behind(alloc, field_type, rest)
 }
 
+/// The descriptor of a field, which is missing where a signature stands in its place.
+fn descriptor<'a, 't>(
+    alloc: Global,
+    tokens: &'t [Token<'a>],
+) -> Result<(FieldType, &'t [Token<'a>]), LineError>
+    ensures { Gives (λ x. (x.0, views x.1.now)) result (described_from (views tokens.now)) }
+{
+    if is_at_signature(tokens) {
+        return Err(bad_operand());
+    }
+    operand::<FieldType>(alloc, tokens)
+}
+
 /// The field behind `.field`.
 #[tactic(auto, unfolding(crate::specs::Heads::field_from))]
 pub(crate) fn field(alloc: Global, tokens: &[Token<'_>]) -> Result<Field, LineError>
@@ -124,7 +137,7 @@ pub(crate) fn field(alloc: Global, tokens: &[Token<'_>]) -> Result<Field, LineEr
     no_access_word(Place::Field, named.name.0)?;
     let name = MemberName::from_word(alloc, named.name.0)?;
     within(named.name.1)?;
-    let (field_type, rest) = operand::<FieldType>(alloc, named.rest)?;
+    let (field_type, rest) = descriptor(alloc, named.rest)?;
     let value = value(alloc, &field_type, rest)?;
     Ok(Field {
         access: named.words.access,

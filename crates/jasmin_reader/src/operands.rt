@@ -3,6 +3,7 @@
 ghost use Rattle.std.specs.Prelude.{◌≡◌};
 ghost use Rattle.jasmin_words.specs.Gives.{Gives};
 ghost use Rattle.jasmin_words.specs.Lexing.{views};
+ghost use Rattle.jasmin_text.specs.declared.form.Form.TheVariants as forms;
 ghost use Rattle.jasmin_reader.specs.Operands.{constant_from, count_at, labels_between, room_in, room_at, table_from, field_from, interface_from, begun_at};
 
 use crate::place::{LineError, bad_operand, ended, last_operand, next, operand, within};
@@ -125,6 +126,35 @@ fn interface_method(alloc: Global, tokens: &[Token<'_>]) -> Result<MethodReferen
     Ok(method)
 }
 
+/// What the line of an instruction with an int or a string begins.
+#[tactic(auto, unfolding(crate::specs::Operands::begun_at))]
+fn begin_constant(alloc: Global, tokens: &[Token<'_>]) -> Result<Begun, LineError>
+    ensures { Gives (λ b. b) result (begun_at forms.Constant (views tokens.now)) }
+{
+    let (constant, rest) = constant(alloc, tokens)?;
+    ended(rest)?;
+    Ok(Begun::Whole(Instruction::Constant(constant)))
+}
+
+/// What a line of `iinc` begins.
+#[tactic(auto, unfolding(crate::specs::Operands::begun_at))]
+fn begin_increment(alloc: Global, tokens: &[Token<'_>]) -> Result<Begun, LineError>
+    ensures { Gives (λ b. b) result (begun_at forms.Increment (views tokens.now)) }
+{
+    let (number, rest) = operand::<u16>(alloc, tokens)?;
+    let by = last_operand::<i16>(alloc, rest)?;
+    Ok(Begun::Whole(Instruction::Increment(number, by)))
+}
+
+/// What a line of `lookupswitch` begins.
+#[tactic(auto, unfolding(crate::specs::Operands::begun_at))]
+fn begin_lookup(alloc: Global, tokens: &[Token<'_>]) -> Result<Begun, LineError>
+    ensures { Gives (λ b. b) result (begun_at forms.LookupSwitch (views tokens.now)) }
+{
+    ended(tokens)?;
+    Ok(Begun::Opens(Switch::Lookup(Cases::new(alloc))))
+}
+
 /// What an instruction's line begins, by what its word asks for.
 #[tactic(auto, unfolding(crate::specs::Operands::begun_at))]
 pub(crate) fn begin(alloc: Global, form: Form, tokens: &[Token<'_>]) -> Result<Begun, LineError>
@@ -144,23 +174,14 @@ pub(crate) fn begin(alloc: Global, form: Form, tokens: &[Token<'_>]) -> Result<B
             Instruction::Local(local, number)
         }
         Form::Byte => {
-            let number = last_operand::<i8>(alloc, tokens)?;
-            Instruction::Constant(Constant::Int(number as i32))
+            Instruction::Constant(Constant::Int(last_operand::<i8>(alloc, tokens)? as i32))
         }
         Form::Short => {
-            let number = last_operand::<i16>(alloc, tokens)?;
-            Instruction::Constant(Constant::Int(number as i32))
+            Instruction::Constant(Constant::Int(last_operand::<i16>(alloc, tokens)? as i32))
         }
-        Form::Constant => {
-            let (constant, rest) = constant(alloc, tokens)?;
-            ended(rest)?;
-            Instruction::Constant(constant)
-        }
+        Form::Constant => return begin_constant(alloc, tokens),
         Form::Local(local) => Instruction::Local(local, last_operand::<u16>(alloc, tokens)?),
-        Form::Increment => {
-            let (number, rest) = operand::<u16>(alloc, tokens)?;
-            Instruction::Increment(number, last_operand::<i16>(alloc, rest)?)
-        }
+        Form::Increment => return begin_increment(alloc, tokens),
         Form::Jump(jump) => Instruction::Jump(jump, last_operand::<Text>(alloc, tokens)?),
         Form::Field(access) => Instruction::Field(access, field(alloc, tokens)?),
         Form::Call(call) => Instruction::Call(
@@ -174,10 +195,7 @@ pub(crate) fn begin(alloc: Global, form: Form, tokens: &[Token<'_>]) -> Result<B
             Instruction::TypeUse(use_of, last_operand::<ReferenceType>(alloc, tokens)?)
         }
         Form::TableSwitch => return Ok(Begun::Opens(table(alloc, tokens)?)),
-        Form::LookupSwitch => {
-            ended(tokens)?;
-            return Ok(Begun::Opens(Switch::Lookup(Cases::new(alloc))));
-        }
+        Form::LookupSwitch => return begin_lookup(alloc, tokens),
     };
     Ok(Begun::Whole(instruction))
 }

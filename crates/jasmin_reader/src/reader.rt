@@ -1,4 +1,4 @@
-//! A class, line by line.
+//! A class, line by line. "Own choice" marks this project's own choice (docs/JASMIN.md).
 
 ghost use Rattle.std.specs.Prelude.{◌≡◌, Some, None, Err};
 ghost use Rattle.jasmin_words.specs.Gives.{Gives};

@@ -1,5 +1,5 @@
--- Which lines spell which class: the file form of the Jasmin user guide, with this project's own choices at
--- their places. The document for users, JASMIN.md, tells the same in words.
+-- Which lines spell which class: the file form of the Jasmin user guide. "Own choice" marks this project's own
+-- choice (docs/JASMIN.md), where the form is told in words.
 use Rattle.std.specs.Prelude.{◌≡◌, ℕ, ◌+◌, Bool, true, false, not, ◌&&◌, ◌==◌, List, [], ◌∷◌, ◌++◌, length, map, Option, Some, None, is_some, ℤ, pos, ◌+ℤ◌, int_lt, int_le, neg_ℤ, if◌then◌else◌, codes}
 use Rattle.descriptors.specs.ClassName.{IsClassName}
 use Rattle.descriptors.specs.Signature.{Signature}

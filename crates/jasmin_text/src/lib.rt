@@ -30,6 +30,3 @@ pub use instruction::{
     ReferenceType, TypeUse,
 };
 pub use text::{ClassText, write_class};
-
-#[cfg(test)]
-mod tests;

@@ -10,10 +10,6 @@ pub bind_holds : {A B F : Type 0} (P : A → Type 0) (Q : B → Type 0) (r : Res
 bind_holds P Q (Ok x) f p h = h x refl p
 bind_holds P Q (Err e) f p h = tt
 
-pub then_holds : {A B F : Type 0} (Q : B → Type 0) (r : Result A F) (f : A → Result B F) → ((x : A) → r ≡ Ok x → Holds Q (f x)) → Holds Q (r >>= f)
-then_holds Q (Ok x) f h = h x refl
-then_holds Q (Err e) f h = tt
-
 pub cond_holds : {A F : Type 0} (P : A → Type 0) (b : Bool) (x y : Result A F) → (b ≡ true → Holds P x) → (b ≡ false → Holds P y) → Holds P (cond b x y)
 cond_holds P true x y p q = p refl
 cond_holds P false x y p q = q refl

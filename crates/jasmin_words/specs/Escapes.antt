@@ -1,5 +1,5 @@
 -- The escapes of a string: JLS SE 8 3.10.6, but for the octal ones, and with \u among them as the Jasmin user
--- guide has it. The bytes of a string are UTF-8.
+-- guide has it. The bytes of a string are UTF-8. The choice among them is this project's own (docs/JASMIN.md).
 use Rattle.std.specs.Prelude.{ℕ, suc, zero, ◌+◌, ◌*◌, Bool, ◌&&◌, List, [], ◌∷◌, ◌++◌, length, Option, Some, None, Result, Ok, Err, nat_lt, ◌==◌, if◌then◌else◌}
 use Rattle.std.specs.Char.{digit_value, encode_utf8}
 use Rattle.std.specs.Char.Utf16.{is_high_surrogate, is_low_surrogate, surrogate_pair_char}

@@ -1,5 +1,5 @@
 -- What reading a text gives, and a function that gives it unless memory runs out.
-use Rattle.std.specs.Prelude.{◌≡◌, List, ◌++◌, Result, Ok, Err}
+use Rattle.std.specs.Prelude.{◌≡◌, Result, Ok, Err}
 use Rattle.jasmin_words.specs.declared.refusal.Refusal.{Refusal}
 use Rattle.jasmin_words.specs.declared.refusal.Refusal.TheVariants as refusal
 
@@ -17,7 +17,3 @@ Fails (refusal.Fault f) read = read ≡ Err f
 abbrev pub Gives : {X Y F : Type 0} → (X → Y) → Result X (Refusal F) → Result Y F → Type 0
 Gives view (Ok x) read = read ≡ Ok (view x)
 Gives view (Err e) read = Fails e read
-
--- elements before those that are read
-abbrev pub with_front : {A B F : Type 0} → List A → Result (List A × B) F → Result (List A × B) F
-with_front front read = read >>= λ x. Ok (front ++ x.0, x.1)

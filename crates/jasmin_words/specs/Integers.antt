@@ -1,4 +1,4 @@
--- Integers in words: decimal, or as the pattern of 32 bits.
+-- Integers in words, decimal or as the pattern of 32 bits: this project's own choice (docs/JASMIN.md).
 use Rattle.std.specs.Prelude.{ℕ, ◌+◌, ◌*◌, ◌<◌, ◌≤◌, ◌&&◌, List, [], ◌∷◌, length, Option, Some, None, ℤ, pos, ◌-ℤ◌, neg_ℤ, nat_lt, nat_le, ◌==◌, if◌then◌else◌}
 use Rattle.std.specs.Char.{digit_value}
 use Rattle.std.specs.Str.Parse.{IsNumeral, digits_value}

@@ -1,4 +1,4 @@
--- Names of members, and labels.
+-- Names of members, and labels: this project's own choice (docs/JASMIN.md), within JVMS SE 8 4.2.2.
 use Rattle.std.specs.Prelude.{◌≡◌, ℕ, Bool, true, false, not, ◌&&◌, ◌||◌, List, [], ◌∷◌, nat_lt, ◌==◌, codes}
 use Rattle.std.specs.List.{list_all}
 use Rattle.jasmin_words.specs.Spelling.{is_word_byte}

@@ -19,6 +19,3 @@ pub mod token;
 pub use fault::FaultKind;
 pub use refusal::Refusal;
 pub use token::{Token, words};
-
-#[cfg(test)]
-mod tests;

@@ -1,6 +1,6 @@
 //! The words of a line.
 
-ghost use Rattle.std.specs.Prelude.{◌≡◌, ◌≤◌, List, length, true, false, if◌then◌else◌, IfOk};
+ghost use Rattle.std.specs.Prelude.{◌≡◌, ◌≤◌, ℕ, List, length, true, false, if◌then◌else◌, IfOk};
 ghost use Rattle.std.specs.List.{list_all};
 ghost use Rattle.std.specs.Str.{is_utf8};
 ghost use Rattle.jasmin_words.specs.declared.fault.FaultKind.TheVariants.{BadOperand, Unfinished};
@@ -238,3 +238,9 @@ pub fn words(alloc: Global, line: &[u8]) -> Result<Vec<Token<'_>>, AllocError>
 {
     all_words(alloc, line)
 }
+
+/// A line that words spell is cut into them, and a line of which no word is wrong is spelled by its words.
+pub fn words_are_those_that_spell_the_line()
+    ensures cut { (line : List ℕ) (items : List Item) → IsSpelled true line items → words_of line ≡ items }
+    ensures spelled { (line : List ℕ) → AreWords (words_of line) → IsSpelled true line (words_of line) }
+{}

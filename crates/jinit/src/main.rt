@@ -48,13 +48,39 @@ impl<R: Files> Named for MachineFiles<'_, R> {
     }
 }
 
-fn main(rt: HostRuntime) -> io::Result<ExitCode> {
+/// Tells why the words of the command line can't be had, and answers the exit status: want of memory, or a
+/// word that isn't text.
+fn tell_no_words<E: Write>(error: &io::Error, err: &mut E) -> u8
+    ensures { result ≤ 3 }
+{
+    match error.kind() {
+        io::ErrorKind::OutOfMemory => {
+            let _ = writeln!(err, "memory");
+            3
+        }
+        _ => {
+            let _ = writeln!(err, "error: a word of the command line isn't UTF-8");
+            2
+        }
+    }
+}
+
+/// Does what the words of the command line ask for, and answers the exit status. An `Err` says that there are
+/// no words.
+fn answer(rt: &HostRuntime) -> io::Result<u8> {
     let alloc = rt.alloc();
-    let args: Vec<String> = env::args(&rt)?.collect(alloc)?;
+    let args: Vec<String> = env::args(rt)?.collect(alloc)?;
     let words: Vec<&str> = args.iter().map(|word| word.as_str()).collect(alloc)?;
-    let mut files = MachineFiles { rt: &rt };
+    let mut files = MachineFiles { rt };
     let mut out = rt.stdout();
     let mut err = rt.stderr();
-    let status = serve(alloc, &words, &mut files, &mut out, &mut err);
-    Ok(ExitCode::from(status))
+    Ok(serve(alloc, &words, &mut files, &mut out, &mut err))
+}
+
+fn main(rt: HostRuntime) -> ExitCode {
+    let status = match answer(&rt) {
+        Ok(status) => status,
+        Err(error) => tell_no_words(&error, &mut rt.stderr()),
+    };
+    ExitCode::from(status)
 }

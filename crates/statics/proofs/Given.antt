@@ -3,7 +3,12 @@ use Rattle.std.proofs.Common.{◌≡◌, ℕ, zero, suc, ◌<◌, List, [], ◌�
 use Rattle.hierarchy.specs.declared.value.Value.{Value}
 use Rattle.statics.specs.declared.static_field.StaticField.{StaticField}
 use Rattle.statics.specs.Statics.{with_constant, with_constants}
-use Rattle.statics.specs.BankState.{first_given}
+
+-- the first of these fields have got their constants
+abbrev pub first_given : ℕ → List StaticField → List Value → List Value
+first_given zero fs vs = vs
+first_given (suc k) (f ∷ fs) (v ∷ vs) = with_constant f v ∷ first_given k fs vs
+first_given (suc k) fs vs = vs
 
 pub given_next : (fs : List StaticField) (vs : List Value) (k : ℕ) (f : StaticField) (v : Value) → length fs ≡ length vs → k < length vs → set (first_given k fs vs) k (with_constant (get_or fs k f) (get_or (first_given k fs vs) k v)) ≡ first_given (suc k) fs vs
 given_next fs [] k f v s l = absurd (omega (arith, l))

@@ -122,7 +122,7 @@ impl Bank {
         self.values[place]
     }
 
-    /// Has a field hold a value, which is one that the field keeps as it is ([`crate::narrowed`]). Takes no memory.
+    /// Has a field hold a value as it is handed in: the caller narrows it ([`crate::narrowed`]). Takes no memory.
     pub fn put(&mut self, place: usize, value: Value)
         requires { place < length self.old.fields }
         ensures fields { self.new.fields ≡ self.old.fields }

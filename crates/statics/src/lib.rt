@@ -13,6 +13,3 @@ pub mod static_field;
 
 pub use bank::Bank;
 pub use static_field::{StaticField, narrowed, static_field_at};
-
-#[cfg(test)]
-mod tests;

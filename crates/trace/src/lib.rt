@@ -8,7 +8,4 @@ pub mod report;
 pub mod text;
 
 pub use report::{Limit, Limits, Report, ThreadOutcome};
-pub use text::{write_class, write_trace};
-
-#[cfg(test)]
-mod tests;
+pub use text::{write_class_name, write_trace};

@@ -18,9 +18,11 @@ pub enum Limit {
 /// How a thread ended.
 #[derive(Clone, Copy, Debug, PartialEq, Eq)]
 pub enum ThreadOutcome {
+    /// All that it did completed normally.
     Normal,
     /// By a throwable of this class that nothing caught.
     Abrupt(ClassId),
+    /// By the machine, at a limit or for want of memory.
     Ended(Limit),
 }
 

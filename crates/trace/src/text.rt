@@ -23,7 +23,11 @@ fn write_head(out: &mut Vec<u8>, number: usize, thread: usize) -> Result<(), All
 }
 
 /// Adds the name of a class at the end. An `Err` is want of memory and changes nothing.
-pub fn write_class(out: &mut Vec<u8>, program: &Program, class: ClassId) -> Result<(), AllocError>
+pub fn write_class_name(
+    out: &mut Vec<u8>,
+    program: &Program,
+    class: ClassId,
+) -> Result<(), AllocError>
     ensures ok { OnOk result (out.new.items ≡ out.old.items ++ class_text program.now class) }
     ensures err { OnErr result (out.new.items ≡ out.old.items) }
 {
@@ -41,7 +45,7 @@ fn write_event_class(
     ensures { OnOk result (out.new.items ≡ out.old.items ++ event_class_text program.now class) }
 {
     if let Some(class) = class {
-        write_class(out, program, class)?;
+        write_class_name(out, program, class)?;
     }
     Ok(())
 }
@@ -55,7 +59,7 @@ fn write_throwable(
 {
     if let Some(throwable) = throwable {
         out.extend_from_slice(b" ")?;
-        write_class(out, program, throwable)?;
+        write_class_name(out, program, throwable)?;
     }
     Ok(())
 }

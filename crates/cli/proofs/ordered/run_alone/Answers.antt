@@ -34,7 +34,11 @@ turns-preserved c =
 
 pub returns-in-Normal-clause-word : goal.returns-in-Normal-clause-word
 returns-in-Normal-clause-word c =
-    (lone_turn c.args.program.now c.args.main c.turns.world c.turn.new.self c.in_ok-turn.field-0 c.requires.acyclic c.turns.invariant c.in_ok-turn.ensures.turn).done c.in-Normal.is
+    ((lone_turn c.args.program.now c.args.main c.turns.world c.turn.new.self c.in_ok-turn.field-0 c.requires.acyclic c.turns.invariant c.in_ok-turn.ensures.turn).done c.in-Normal.is).0
+
+pub returns-in-Normal-clause-bodies : goal.returns-in-Normal-clause-bodies
+returns-in-Normal-clause-bodies c =
+    ((lone_turn c.args.program.now c.args.main c.turns.world c.turn.new.self c.in_ok-turn.field-0 c.requires.acyclic c.turns.invariant c.in_ok-turn.ensures.turn).done c.in-Normal.is).1
 
 pub returns-in-Normal-clause-steps : goal.returns-in-Normal-clause-steps
 returns-in-Normal-clause-steps c =

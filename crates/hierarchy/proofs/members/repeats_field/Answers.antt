@@ -1,4 +1,4 @@
-use Rattle.std.proofs.Common.{rules, arith, sym, ◌∙◌}
+use Rattle.std.proofs.Common.{rules, sym, ◌∙◌}
 use Rattle.hierarchy.specs.Members.{same_field_member, field_name}
 use Rattle.hierarchy.proofs.Repeats.{stands, none_more, noted_more}
 use Rattle.hierarchy.proofs.members.repeats_field.Goals as goal

@@ -1,4 +1,4 @@
-use Rattle.std.proofs.Common.{rules, arith, sym, ◌∙◌}
+use Rattle.std.proofs.Common.{rules, sym, ◌∙◌}
 use Rattle.hierarchy.specs.Members.{same_method_member, method_name}
 use Rattle.hierarchy.proofs.Repeats.{stands, none_more, noted_more}
 use Rattle.hierarchy.proofs.members.repeats_method.Goals as goal

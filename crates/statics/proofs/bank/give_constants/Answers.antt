@@ -1,6 +1,5 @@
 use Rattle.std.proofs.Common.{◌≡◌, ℕ, ◌+◌, ◌∙◌, suc, ap, arith, length-set}
-use Rattle.statics.specs.BankState.{first_given}
-use Rattle.statics.proofs.Given.{given_next, all_given}
+use Rattle.statics.proofs.Given.{first_given, given_next, all_given}
 use Rattle.statics.proofs.bank.give_constants.Goals as goal
 
 next_is : (n : ℕ) → suc n ≡ n + 1

@@ -1,5 +1,5 @@
 use Rattle.std.proofs.Common.{◌≡◌, length}
-use Rattle.statics.specs.BankState.{first_given}
+use Rattle.statics.proofs.Given.{first_given}
 use Rattle.statics.proofs.bank.give_constants.Given as goal
 
 abbrev pub invariant-loop-place : goal.invariant-loop-place

@@ -1,0 +1,42 @@
+//! Tests of the crates that stand on linked classes, over programs given as Jasmin files. They stand apart, since a
+//! crate that has tests is proved a second time with them.
+#![tactic(auto)]
+
+#[cfg(test)]
+mod comparing;
+#[cfg(test)]
+mod fields;
+#[cfg(test)]
+mod limits;
+#[cfg(test)]
+mod linking;
+#[cfg(test)]
+mod members;
+#[cfg(test)]
+mod method_classes;
+#[cfg(test)]
+mod methods;
+#[cfg(test)]
+mod needs;
+#[cfg(test)]
+mod procedures;
+#[cfg(test)]
+mod programs;
+#[cfg(test)]
+mod records;
+#[cfg(test)]
+mod schedules;
+#[cfg(test)]
+mod selection;
+#[cfg(test)]
+mod static_fields;
+#[cfg(test)]
+mod static_values;
+#[cfg(test)]
+mod traces;
+#[cfg(test)]
+mod twin;
+#[cfg(test)]
+mod twin_labels;
+#[cfg(test)]
+mod worlds;

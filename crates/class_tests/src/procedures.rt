@@ -1,0 +1,128 @@
+//! One thread's procedure for one class.
+
+use crate::programs::program;
+use hierarchy::{BuiltIn, ClassId, Program};
+use init_core::{Answer, Completed, Decision, Ending, Next, Outcome, Procedure};
+use std::alloc::Global;
+use std::process::Abort;
+use std::test::Fail;
+
+const SOLO: &[&[u8]] = &[b".class Solo"];
+
+const CLASS: ClassId = ClassId { number: 0 };
+
+const ERROR: ClassId = ClassId { number: 7 };
+
+fn refuses(rt: &impl Abort, alloc: Global, program: &Program) -> Result<(), Fail> {
+    let mut procedure = Procedure::new(alloc);
+    assert_eq!(rt; procedure.next(), Next::Idle);
+    procedure.request(CLASS)?;
+    assert_eq!(rt; procedure.next(), Next::Look(CLASS));
+    let next = procedure.advance(
+        alloc,
+        program,
+        Answer::Decided(Decision::Wait { first: true }),
+    )?;
+    assert_eq!(rt; next, Next::Look(CLASS));
+    let next = procedure.advance(alloc, program, Answer::Decided(Decision::Refused))?;
+    assert_eq!(rt; next, Next::Idle);
+    let refused = Outcome::Abrupt(program.built_in(BuiltIn::NoClassDefFoundError));
+    assert_eq!(rt;
+        procedure.last(),
+        Some(Completed {
+            class: CLASS,
+            outcome: refused
+        })
+    );
+    Ok(())
+}
+
+#[test]
+fn steps_of_one_class(rt: HostRuntime) -> Result<(), Fail> {
+    refuses(&rt, rt.alloc(), &program(rt.alloc(), SOLO)?)
+}
+
+fn gives_up(rt: &impl Abort, alloc: Global, program: &Program) -> Result<(), Fail> {
+    let mut procedure = Procedure::new(alloc);
+    let error = program.built_in(BuiltIn::OutOfMemoryError);
+    procedure.request(CLASS)?;
+    let next = procedure.advance(alloc, program, Answer::GaveUp { error, begun: true })?;
+    assert_eq!(rt; next, Next::End(CLASS, Ending::SuperFails(error)));
+    let next = procedure.advance(alloc, program, Answer::Ended)?;
+    assert_eq!(rt; next, Next::Idle);
+    let ended = Completed {
+        class: CLASS,
+        outcome: Outcome::Ended(error),
+    };
+    assert_eq!(rt; procedure.last(), Some(ended));
+    Ok(())
+}
+
+#[test]
+fn gives_up_behind_step_six(rt: HostRuntime) -> Result<(), Fail> {
+    gives_up(&rt, rt.alloc(), &program(rt.alloc(), SOLO)?)
+}
+
+fn waits_and_gives_up(rt: &impl Abort, alloc: Global, program: &Program) -> Result<(), Fail> {
+    let mut procedure = Procedure::new(alloc);
+    let error = program.built_in(BuiltIn::InternalError);
+    procedure.request(CLASS)?;
+    let waits = Answer::Decided(Decision::Wait { first: false });
+    assert_eq!(rt;
+        procedure.advance(alloc, program, waits)?,
+        Next::Look(CLASS)
+    );
+    let next = procedure.advance(
+        alloc,
+        program,
+        Answer::GaveUp {
+            error,
+            begun: false,
+        },
+    )?;
+    assert_eq!(rt; next, Next::Idle);
+    let ended = Completed {
+        class: CLASS,
+        outcome: Outcome::Ended(error),
+    };
+    assert_eq!(rt; procedure.last(), Some(ended));
+    Ok(())
+}
+
+#[test]
+fn gives_up_at_a_look(rt: HostRuntime) -> Result<(), Fail> {
+    waits_and_gives_up(&rt, rt.alloc(), &program(rt.alloc(), SOLO)?)
+}
+
+fn runs_a_body(rt: &impl Abort, alloc: Global, program: &Program) -> Result<(), Fail> {
+    let mut procedure = Procedure::new(alloc);
+    procedure.request(CLASS)?;
+    let next = procedure.advance(alloc, program, Answer::Decided(Decision::Begin))?;
+    assert_eq!(rt; next, Next::Body(CLASS));
+    assert!(rt; !procedure.is_running());
+    if let Next::Body(_) = procedure.next() {
+        if !procedure.is_running() {
+            procedure.run_body();
+        }
+    }
+    assert!(rt; procedure.is_running());
+    Ok(())
+}
+
+fn throws(rt: &impl Abort, alloc: Global, program: &Program) -> Result<(), Fail> {
+    let mut procedure = Procedure::new(alloc);
+    procedure.request(CLASS)?;
+    procedure.advance(alloc, program, Answer::Decided(Decision::Begin))?;
+    if let Next::Body(_) = procedure.next() {
+        procedure.end_body(Some(ERROR));
+    }
+    assert_eq!(rt; procedure.next(), Next::End(CLASS, Ending::Fails(ERROR)));
+    Ok(())
+}
+
+#[test]
+fn a_body_by_itself(rt: HostRuntime) -> Result<(), Fail> {
+    let program = program(rt.alloc(), SOLO)?;
+    runs_a_body(&rt, rt.alloc(), &program)?;
+    throws(&rt, rt.alloc(), &program)
+}

@@ -1,0 +1,135 @@
+//! One class's record, by one thread and by two.
+
+use crate::programs::program;
+use hierarchy::ClassId;
+use init_core::{ClassRecord, Decision, Event, Kind, Label};
+use sequence::Text;
+use std::process::Abort;
+use std::test::Fail;
+
+const SOLO: &[&[u8]] = &[b".class Solo"];
+
+const CLASS: ClassId = ClassId { number: 0 };
+
+const ERROR: ClassId = ClassId { number: 7 };
+
+fn event(thread: usize, kind: Kind) -> Event {
+    Event {
+        thread,
+        class: Some(CLASS),
+        kind,
+    }
+}
+
+/// Each thread in turn looks at the class, and finds this.
+fn finds(
+    rt: &impl Abort,
+    record: &mut ClassRecord,
+    looks: &[(usize, Decision)],
+) -> Result<(), Fail> {
+    for (thread, decision) in looks {
+        assert_eq!(rt; record.enter(*thread)?, *decision);
+    }
+    Ok(())
+}
+
+const BESIDE_THE_OWNER: [(usize, Decision); 3] = [
+    (0, Decision::Recursive),
+    (1, Decision::Wait { first: true }),
+    (1, Decision::Wait { first: false }),
+];
+
+fn completes(rt: &impl Abort, record: &mut ClassRecord) -> Result<(), Fail> {
+    assert_eq!(rt; record.label(), Label::Prepared);
+    assert_eq!(rt; record.class(), CLASS);
+    finds(rt, record, &[(0, Decision::Begin)])?;
+    assert_eq!(rt; record.owner(), Some(0));
+    finds(rt, record, &BESIDE_THE_OWNER)?;
+    let Label::InProgress(0) = record.label() else {
+        return Err(Fail::from("not in progress"));
+    };
+    record.complete(0);
+    assert_eq!(rt; record.label(), Label::Initialized);
+    finds(rt, record, &[(1, Decision::Already)])?;
+    assert_eq!(rt; record.owner(), None);
+    assert_eq!(rt; record.failure(), None);
+    Ok(())
+}
+
+fn kept(rt: &impl Abort, record: &ClassRecord) {
+    let events = [
+        event(0, Kind::Begins),
+        event(0, Kind::Recurs),
+        event(1, Kind::Waits),
+        event(0, Kind::Completes),
+        event(1, Kind::FindsInitialized),
+    ];
+    assert!(rt; record.history() == events.as_slice());
+}
+
+#[test]
+fn completes_for_all_threads(rt: HostRuntime) -> Result<(), Fail> {
+    let program = program(rt.alloc(), SOLO)?;
+    let mut record = ClassRecord::new(rt.alloc(), &program, CLASS)?;
+    completes(&rt, &mut record)?;
+    kept(&rt, &record);
+    Ok(())
+}
+
+fn fails(rt: &impl Abort, record: &mut ClassRecord, by_super: bool) -> Result<(), Fail> {
+    finds(rt, record, &[(3, Decision::Begin)])?;
+    let Label::InProgress(3) = record.label() else {
+        return Err(Fail::from("not in progress"));
+    };
+    if by_super {
+        record.super_failed(3, ERROR);
+    } else {
+        record.fail(3, ERROR);
+    }
+    assert_eq!(rt; record.label(), Label::Erroneous);
+    assert_eq!(rt; record.failure(), Some(ERROR));
+    finds(
+        rt,
+        record,
+        &[(3, Decision::Refused), (0, Decision::Refused)],
+    )?;
+    assert_eq!(rt; record.history().len(), 4);
+    Ok(())
+}
+
+#[test]
+fn fails_for_all_threads(rt: HostRuntime) -> Result<(), Fail> {
+    let program = program(rt.alloc(), SOLO)?;
+    for by_super in [false, true] {
+        fails(
+            &rt,
+            &mut ClassRecord::new(rt.alloc(), &program, CLASS)?,
+            by_super,
+        )?;
+    }
+    Ok(())
+}
+
+fn begins(rt: &impl Abort, record: &mut ClassRecord) -> Result<(), Fail> {
+    record.reserve()?;
+    assert_eq!(rt; record.enter(0)?.kind(), Kind::Begins);
+    Ok(())
+}
+
+#[test]
+fn begins_in_reserved_room(rt: HostRuntime) -> Result<(), Fail> {
+    let program = program(rt.alloc(), SOLO)?;
+    begins(&rt, &mut ClassRecord::new(rt.alloc(), &program, CLASS)?)
+}
+
+#[test]
+fn events_are_copied(rt: HostRuntime) -> Result<(), Fail> {
+    let printed = Event {
+        thread: 2,
+        class: None,
+        kind: Kind::Prints(Text::copied(rt.alloc(), b"2\n")?),
+    };
+    assert!(rt; printed.clone()? == printed);
+    assert!(rt; event(1, Kind::Fails(ERROR)).clone()? == event(1, Kind::Fails(ERROR)));
+    Ok(())
+}

@@ -1,0 +1,137 @@
+//! What static fields hold, by their class's record.
+
+use crate::programs::program;
+use hierarchy::{ClassId, Program, Value};
+use init_core::{ClassRecord, Decision, Event, Kind, Label};
+use std::alloc::Global;
+use std::process::Abort;
+use std::test::Fail;
+use trace::write_trace;
+
+const C: ClassId = ClassId { number: 0 };
+
+const CONSTANTS: &[&[u8]] = &[
+    b".class C\n.field static b B = 300\n.field static z Z = 2\n.field static s Ljava/lang/String; = \"a\"\n.field static n I",
+];
+
+const DEFAULTS: [Value; 4] = [Value::Int(0), Value::Int(0), Value::Null, Value::Int(0)];
+
+const NARROWED: [Value; 4] = [
+    Value::Int(44),
+    Value::Int(0),
+    Value::Reference(3),
+    Value::Int(0),
+];
+
+const CONSTANT_AND_NONE: &[&[u8]] = &[b".class C\n.field static k I = 5\n.field static n S"];
+
+fn get(field: usize, value: Value) -> Event {
+    Event {
+        thread: 0,
+        class: Some(C),
+        kind: Kind::Gets { field, value },
+    }
+}
+
+/// Reads a static field, where the thread may.
+fn read(record: &mut ClassRecord, place: usize) -> Result<Value, Fail> {
+    if let Label::InProgress(0) = record.label() {
+        if place < record.static_fields() {
+            return Ok(record.read_static(0, place)?);
+        }
+    }
+    Err(Fail::from("the field can't be read"))
+}
+
+/// Writes a static field, where the thread may.
+fn write(record: &mut ClassRecord, place: usize, value: Value) -> Result<(), Fail> {
+    if let Label::InProgress(0) = record.label() {
+        if place < record.static_fields() {
+            record.write_static(0, place, value)?;
+            return Ok(());
+        }
+    }
+    Err(Fail::from("the field can't be written"))
+}
+
+/// Reads the fields in order; each holds its value.
+fn reads(rt: &impl Abort, record: &mut ClassRecord, values: &[Value]) -> Result<(), Fail> {
+    for (place, value) in values.iter().enumerate() {
+        assert_eq!(rt; read(record, place)?, *value);
+    }
+    Ok(())
+}
+
+/// Each field holds its value, and is not read.
+fn holds(rt: &impl Abort, record: &ClassRecord, values: &[Value]) {
+    assert_eq!(rt; record.static_fields(), values.len());
+    for (place, value) in values.iter().enumerate() {
+        assert!(rt; place < record.static_fields());
+        assert_eq!(rt; record.value(place), *value);
+    }
+}
+
+/// What the record's history is as a trace.
+const READS: &[u8] = b"0 t0 step6 C
+1 t0 get C b:B 44
+2 t0 get C z:Z 0
+3 t0 get C s:Ljava/lang/String; #3
+4 t0 get C n:I 0
+";
+
+fn begins_with_constants(
+    rt: &impl Abort,
+    alloc: Global,
+    program: &Program,
+    record: &mut ClassRecord,
+) -> Result<(), Fail> {
+    holds(rt, record, &DEFAULTS);
+    assert_eq!(rt; record.enter(0)?, Decision::Begin);
+    reads(rt, record, &NARROWED)?;
+    assert!(rt; write_trace(alloc, program, record.history())?.as_slice() == READS);
+    Ok(())
+}
+
+/// Constants are narrowed to their field's type.
+#[test]
+fn narrowed_constants(rt: HostRuntime) -> Result<(), Fail> {
+    let program = program(rt.alloc(), CONSTANTS)?;
+    let mut record = ClassRecord::new(rt.alloc(), &program, C)?;
+    begins_with_constants(&rt, rt.alloc(), &program, &mut record)
+}
+
+fn reads_within_step_7(rt: &impl Abort, record: &mut ClassRecord) -> Result<(), Fail> {
+    assert_eq!(rt; record.enter(0)?, Decision::Begin);
+    for (place, value) in [Value::Int(5), Value::Int(0)].iter().enumerate() {
+        assert_eq!(rt; record.enter(0)?, Decision::Recursive);
+        assert_eq!(rt; read(record, place)?, *value);
+    }
+    assert!(rt; record.history().get(2) == Some(&get(0, Value::Int(5))));
+    assert!(rt; record.history().get(4) == Some(&get(1, Value::Int(0))));
+    Ok(())
+}
+
+/// From step 6 on constants are there, before anything that the class needs is done.
+#[test]
+fn constants_before_supers(rt: HostRuntime) -> Result<(), Fail> {
+    let program = program(rt.alloc(), CONSTANT_AND_NONE)?;
+    reads_within_step_7(&rt, &mut ClassRecord::new(rt.alloc(), &program, C)?)
+}
+
+fn writes(rt: &impl Abort, record: &mut ClassRecord) -> Result<(), Fail> {
+    assert_eq!(rt; record.enter(0)?, Decision::Begin);
+    write(record, 0, Value::Int(-9))?;
+    write(record, 1, Value::Int(32768))?;
+    reads(rt, record, &[Value::Int(-9), Value::Int(-32768)])?;
+    write(record, 0, Value::Int(8))?;
+    reads(rt, record, &[Value::Int(8), Value::Int(-32768)])?;
+    assert_eq!(rt; record.history().len(), 8);
+    Ok(())
+}
+
+/// A field holds what was written last, as the field keeps it.
+#[test]
+fn writes_are_read_again(rt: HostRuntime) -> Result<(), Fail> {
+    let program = program(rt.alloc(), CONSTANT_AND_NONE)?;
+    writes(&rt, &mut ClassRecord::new(rt.alloc(), &program, C)?)
+}

@@ -1,0 +1,103 @@
+//! Traces by their text.
+
+use crate::programs::program;
+use hierarchy::{BuiltIn, ClassId, Program, Value};
+use init_core::{Event, Kind};
+use sequence::Text;
+use std::alloc::{AllocError, Global};
+use std::process::Abort;
+use std::test::Fail;
+use trace::write_trace;
+
+const SOLO: &[&[u8]] = &[b".class a/Solo"];
+
+const STEPS: &[u8] = b"0 t0 step6 a/Solo
+1 t0 step9 a/Solo
+2 t15 step2 a/Solo
+3 t0 step3 a/Solo
+4 t0 step12 a/Solo java/lang/ExceptionInInitializerError
+5 t15 step5 a/Solo
+6 t1 step4 a/Solo
+7 t1 step7 a/Solo java/lang/ExceptionInInitializerError
+8 t1 step10 a/Solo
+";
+
+const FIELDS: &[&[u8]] = &[
+    b".class C\n.field static b B\n.field i I\n.field static s [[Ljava/lang/String;",
+];
+
+const USES: &[u8] = b"0 t0 get C b:B -44
+1 t3 put C s:[[Ljava/lang/String; #12
+2 t3 get C s:[[Ljava/lang/String; null
+3 t1 print \"a \\\"b\\\"\\n\\u0001\"
+";
+
+fn event(thread: usize, kind: Kind) -> Event {
+    Event {
+        thread,
+        class: Some(ClassId { number: 0 }),
+        kind,
+    }
+}
+
+/// A trace with every step, in which classes fail by this error.
+fn steps(alloc: Global, program: &Program, error: ClassId) -> Result<Vec<u8>, AllocError> {
+    let events = [
+        event(0, Kind::Begins),
+        event(0, Kind::Runs),
+        event(15, Kind::Waits),
+        event(0, Kind::Recurs),
+        event(0, Kind::Fails(error)),
+        event(15, Kind::FindsErroneous),
+        event(1, Kind::FindsInitialized),
+        event(1, Kind::SuperFails(error)),
+        event(1, Kind::Completes),
+    ];
+    write_trace(alloc, program, &events)
+}
+
+fn writes_steps(rt: &impl Abort, alloc: Global, program: &Program) -> Result<(), Fail> {
+    let error = program.built_in(BuiltIn::ExceptionInInitializerError);
+    assert!(rt; steps(alloc, program, error)?.as_slice() == STEPS);
+    assert!(rt; write_trace(alloc, program, &[])?.is_empty());
+    Ok(())
+}
+
+#[test]
+fn writes_each_step(rt: HostRuntime) -> Result<(), Fail> {
+    writes_steps(&rt, rt.alloc(), &program(rt.alloc(), SOLO)?)
+}
+
+fn gets(thread: usize, field: usize, value: Value) -> Event {
+    event(thread, Kind::Gets { field, value })
+}
+
+fn puts(thread: usize, field: usize, value: Value) -> Event {
+    event(thread, Kind::Puts { field, value })
+}
+
+/// A trace with reads, a write and a print of this text.
+fn uses(alloc: Global, program: &Program, text: Text) -> Result<Vec<u8>, AllocError> {
+    let events = [
+        gets(0, 0, Value::Int(-44)),
+        puts(3, 1, Value::Reference(12)),
+        gets(3, 1, Value::Null),
+        Event {
+            thread: 1,
+            class: None,
+            kind: Kind::Prints(text),
+        },
+    ];
+    write_trace(alloc, program, &events)
+}
+
+fn writes_uses(rt: &impl Abort, alloc: Global, program: &Program) -> Result<(), Fail> {
+    let text = Text::copied(alloc, b"a \"b\"\n\x01")?;
+    assert!(rt; uses(alloc, program, text)?.as_slice() == USES);
+    Ok(())
+}
+
+#[test]
+fn writes_reads_writes_and_prints(rt: HostRuntime) -> Result<(), Fail> {
+    writes_uses(&rt, rt.alloc(), &program(rt.alloc(), FIELDS)?)
+}

@@ -1,5 +1,0 @@
-use Rattle.hierarchy.specs.Subclasses.{itself}
-use Rattle.init_world.proofs.schedules.throws.Goals as goal
-
-pub body_ended-requires-clause-thrown : goal.body_ended-requires-clause-thrown
-body_ended-requires-clause-thrown c = rw (c.built_in.ensures, c.requires.program) itself
