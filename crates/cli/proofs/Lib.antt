@@ -1,1 +1,4 @@
 pub mod OneThread
+pub mod CommandLine
+pub mod KnownFiles
+pub mod KnownOutput

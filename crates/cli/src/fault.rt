@@ -1,6 +1,8 @@
 //! What keeps the program from its work.
 
-ghost use Rattle.std.specs.Prelude.{◌≡◌, ◌≤◌};
+ghost use Rattle.std.specs.Prelude.{◌≡◌};
+ghost use Rattle.cli.specs.declared.fault.Fault.TheVariants.{Memory};
+ghost use Rattle.cli.specs.Status.{status_of};
 
 use hierarchy::LinkFault;
 use jasmin_reader::ReadFault;
@@ -31,6 +33,8 @@ pub enum Fault<'a> {
 }
 
 impl From<AllocError> for Fault<'_> {
+    ghost from_gives = { λ _ fault. fault ≡ Memory };
+
     fn from(_e: AllocError) -> Self {
         Fault::Memory
     }
@@ -45,7 +49,7 @@ impl<T: Drop> From<AllocFailed<T>> for Fault<'_> {
 impl Fault<'_> {
     /// The exit status: 2 for what the user can mend, 3 for what the machine refused.
     pub fn status(&self) -> u8
-        ensures { result ≤ 3 }
+        ensures { result ≡ status_of self.now }
     {
         match self {
             Fault::Words | Fault::Files | Fault::Jasmin { .. } => 2,
@@ -55,7 +59,7 @@ impl Fault<'_> {
     }
 
     /// Writes the one line that tells of the fault.
-    pub fn tell<W: io::Write>(&self, err: &mut W) -> io::Result<()> {
+    pub(crate) fn tell<W: io::Write>(&self, err: &mut W) -> io::Result<()> {
         match self {
             Fault::Words => writeln!(err, "cli: words"),
             Fault::Files => writeln!(err, "cli: files"),

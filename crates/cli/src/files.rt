@@ -1,6 +1,8 @@
 //! Files by name.
 
-ghost use Rattle.std.specs.Prelude.{◌≤◌, vec_len, IfOk};
+ghost use Rattle.std.specs.Prelude.{◌≡◌, ◌≢◌, ◌≤◌, ℕ, List, Option, None, vec_len, take, IfOk, IfSome, OnOk};
+ghost use Rattle.clap.specs.Walk.{texts as texts_of};
+ghost use Rattle.cli.specs.Serving.{AreSpelled, Holds, SpellsClass};
 
 use crate::fault::Fault;
 use jasmin_reader::read_class;
@@ -25,12 +27,19 @@ pub enum NamedFault {
 
 /// Something that reads and writes files by name.
 pub trait Named {
+    // What the file of a name holds, where that is known.
+    ghost held: { Self → List ℕ → Option (List ℕ) } = { λ _ _. None };
+
     /// The first bytes of a file, at most `most` of them.
     fn read(&mut self, alloc: Global, name: &str, most: usize) -> Result<Vec<u8>, NamedFault>
-        ensures { IfOk result (λ bytes. vec_len bytes ≤ most) };
+        ensures most { IfOk result (λ bytes. vec_len bytes ≤ most) }
+        ensures bytes { IfOk result (λ bytes. IfSome (held self.old name.now) (λ all. bytes.items ≡ take most all)) }
+        ensures files { (other : List ℕ) → held self.new other ≡ held self.old other };
 
     /// Makes a file of these bytes, in the place of what stood there.
-    fn write(&mut self, name: &str, bytes: &[u8]) -> Result<(), NamedFault>;
+    fn write(&mut self, name: &str, bytes: &[u8]) -> Result<(), NamedFault>
+        ensures bytes { OnOk result (Holds (held self.new name.now) bytes.now) }
+        ensures others { (other : List ℕ) → other ≢ name.now → held self.new other ≡ held self.old other };
 }
 
 fn fault_of(fault: NamedFault, name: &str) -> Fault<'_> {
@@ -45,7 +54,10 @@ fn read_text<'a, N: Named>(
     alloc: Global,
     named: &mut N,
     file: &'a str,
-) -> Result<ClassText, Fault<'a>> {
+) -> Result<ClassText, Fault<'a>>
+    ensures spelled { IfOk result (λ text. SpellsClass (N.held named.old file.now) text) }
+    ensures files { (other : List ℕ) → N.held named.new other ≡ N.held named.old other }
+{
     let bytes = match named.read(alloc, file, MOST_BYTES + 1) {
         Ok(bytes) => bytes,
         Err(fault) => return Err(fault_of(fault, file)),
@@ -67,7 +79,10 @@ pub(crate) fn read_texts<'a, N: Named>(
     alloc: Global,
     named: &mut N,
     files: &[&'a str],
-) -> Result<Vec<ClassText>, Fault<'a>> {
+) -> Result<Vec<ClassText>, Fault<'a>>
+    ensures spelled { IfOk result (λ texts. AreSpelled (N.held named.old) (texts_of files.now) texts.items) }
+    ensures files { (other : List ℕ) → N.held named.new other ≡ N.held named.old other }
+{
     if files.len() > MOST_FILES {
         return Err(Fault::Files);
     }
@@ -83,7 +98,10 @@ pub(crate) fn write_named<'a, N: Named>(
     named: &mut N,
     name: &'a str,
     bytes: &[u8],
-) -> Result<(), Fault<'a>> {
+) -> Result<(), Fault<'a>>
+    ensures bytes { OnOk result (Holds (N.held named.new name.now) bytes.now) }
+    ensures others { (other : List ℕ) → other ≢ name.now → N.held named.new other ≡ N.held named.old other }
+{
     match named.write(name, bytes) {
         Ok(()) => Ok(()),
         Err(fault) => Err(fault_of(fault, name)),

@@ -11,6 +11,7 @@ pub mod needed;
 pub mod ordered;
 #[cfg(test)]
 mod ordered_tests;
+pub mod running;
 pub mod serving;
 pub mod words;
 
@@ -18,6 +19,7 @@ pub use fault::Fault;
 pub use files::{Named, NamedFault};
 pub use needed::write_needs;
 pub use ordered::run_ordered;
+pub use running::{Ran, run_texts};
 pub use serving::serve;
 pub use words::{Asked, Run, parse};
 

@@ -1,15 +1,16 @@
-//! Runs of programs that `run` refuses so far, since some method has a body.
+//! Runs of classes without files, among them classes that `run` refuses so far, since some method has a body.
 
-use crate::run_ordered;
+use crate::{run_ordered, run_texts};
 use hierarchy::{ClassId, Program, link};
 use init_core::Label;
 use jasmin_reader::read_class;
+use jasmin_text::ClassText;
 use sequence::Sequence;
 use std::alloc::Global;
 use std::test::Fail;
 use trace::{ThreadOutcome, write_trace};
 
-fn linked(alloc: Global, files: &[&[u8]]) -> Result<Program, Fail> {
+fn class_texts(alloc: Global, files: &[&[u8]]) -> Result<Vec<ClassText>, Fail> {
     let mut classes = Vec::new(alloc);
     for file in files {
         match read_class(alloc, file) {
@@ -17,7 +18,11 @@ fn linked(alloc: Global, files: &[&[u8]]) -> Result<Program, Fail> {
             Err(_) => return Err(Fail::from("a file has a fault")),
         }
     }
-    match link(alloc, classes) {
+    Ok(classes)
+}
+
+fn linked(alloc: Global, files: &[&[u8]]) -> Result<Program, Fail> {
+    match link(alloc, class_texts(alloc, files)?) {
         Ok(program) => Ok(program),
         Err(_) => Err(Fail::from("the classes have a fault")),
     }
@@ -87,5 +92,17 @@ fn what_nothing_needs_stays_prepared(rt: HostRuntime) -> Result<(), Fail> {
     let (interface, labels) = run_files(rt.alloc(), &files, 3)?;
     assert!(rt; interface.as_slice() == b"0 t0 step6 J\n1 t0 step9 J\n2 t0 step10 J\n".as_slice());
     assert!(rt; labels.as_slice() == [prepared, prepared, prepared, Label::Initialized].as_slice());
+    Ok(())
+}
+
+#[test]
+fn class_texts_run(rt: HostRuntime) -> Result<(), Fail> {
+    let texts = class_texts(rt.alloc(), &[b".class B\n.super A", b".class A"])?;
+    let Ok(ran) = run_texts(rt.alloc(), texts, Some("B")) else {
+        return Err(Fail::from("no run"));
+    };
+    assert_eq!(rt; ran.program.len(), 2);
+    assert_eq!(rt; ran.report.events.len(), 6);
+    assert!(rt; ran.report.labels.as_slice() == [Label::Initialized; 2].as_slice());
     Ok(())
 }

@@ -1,6 +1,8 @@
 //! Runs of the program over files in memory.
 
 use crate::test_files::run_words;
+use crate::{Asked, Fault, parse};
+use std::test::Fail;
 
 const SOLO: &[u8] = b"0 t0 step6 Solo\n1 t0 step9 Solo\n2 t0 step10 Solo\n";
 
@@ -93,4 +95,40 @@ fn a_class_with_fields(rt: HostRuntime) {
         ran.trace.as_slice()
             == b"0 t0 step6 Fields\n1 t0 step9 Fields\n2 t0 step10 Fields\n".as_slice()
     );
+}
+
+#[test]
+fn words_are_parsed(rt: HostRuntime) -> Result<(), Fail> {
+    let words = [
+        "jinit",
+        "run",
+        "a.j",
+        "--mains",
+        "A",
+        "b.j",
+        "--trace=made",
+        "--",
+        "--c.j",
+    ];
+    let Ok(Asked::Run(run)) = parse(rt.alloc(), &words) else {
+        return Err(Fail::from("no run"));
+    };
+    assert!(rt; run.mains == Some("A") && run.trace == Some("made"));
+    assert!(rt; run.files.as_slice() == ["a.j", "b.j", "--c.j"].as_slice());
+    Ok(())
+}
+
+#[test]
+fn words_without_options_are_parsed(rt: HostRuntime) -> Result<(), Fail> {
+    let Ok(Asked::Needs(files)) = parse(rt.alloc(), &["jinit", "needs", "a.j", "a.j"]) else {
+        return Err(Fail::from("nothing about needs"));
+    };
+    assert!(rt; files.as_slice() == ["a.j", "a.j"].as_slice());
+    Ok(())
+}
+
+#[test]
+fn statuses(rt: HostRuntime) {
+    assert_eq!(rt; Fault::Mains.status(), 2);
+    assert_eq!(rt; Fault::Output.status(), 3);
 }

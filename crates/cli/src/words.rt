@@ -1,5 +1,11 @@
 //! The words of the command line.
 
+ghost use Rattle.std.specs.Prelude.{◌≡◌, IfOk, false};
+ghost use Rattle.clap.specs.Walk.{texts};
+ghost use Rattle.clap.specs.Words.{FailsBy, app_of, fault_of, found_of, rule_of, subcommand_of};
+ghost use Rattle.clap.specs.declared.builder.command.Command.TheViews.{out-Command as fields_of};
+ghost use Rattle.cli.specs.CommandLine.{command_line, file_words, files_found, option_named, request_by, request_found, request_of, subcommand_named};
+
 use clap::{Arg, ArgAction, ArgMatches, Command, Error};
 use std::alloc::{AllocError, Global};
 
@@ -25,7 +31,21 @@ pub enum Asked<'a> {
     Unfit,
 }
 
-fn files_argument<'a>(alloc: Global) -> Arg<'a> {
+/// An option with one value, by the name of its value and its line of help.
+fn option<'a>(alloc: Global, name: &'a str, value: &'a str, help: &'a str) -> Arg<'a>
+    ensures rule { rule_of result ≡ option_named name.entry.now }
+    ensures local { result.global ≡ false }
+{
+    Arg::new(alloc, name)
+        .long(name)
+        .value_name(value)
+        .help(help)
+}
+
+fn files_argument<'a>(alloc: Global) -> Arg<'a>
+    ensures rule { rule_of result ≡ file_words }
+    ensures local { result.global ≡ false }
+{
     Arg::new(alloc, "files")
         .value_name("FILES")
         .help("Jasmin files, one class each")
@@ -33,67 +53,98 @@ fn files_argument<'a>(alloc: Global) -> Arg<'a> {
         .num_args(0..)
 }
 
-fn mains_argument<'a>(alloc: Global) -> Arg<'a> {
-    Arg::new(alloc, "mains")
-        .long("mains")
-        .value_name("CLASS")
-        .help("The main class, as its file names it")
+/// A subcommand. It knows the options of the others too, but shows only those that it takes.
+fn subcommand<'a>(
+    alloc: Global,
+    name: &'a str,
+    about: &'a str,
+    takes_options: bool,
+) -> Result<Command<'a>, AllocError>
+    ensures rules { IfOk result (λ c. app_of c ≡ subcommand_named name.entry.now) }
+    ensures local { IfOk result (λ c. (fields_of c).has_globals ≡ false) }
+{
+    let mains = option(
+        alloc,
+        "mains",
+        "CLASS",
+        "The main class, as its file names it",
+    );
+    let trace = option(
+        alloc,
+        "trace",
+        "FILE",
+        "Writes every initialization step to FILE",
+    );
+    Command::new(alloc, name)
+        .about(about)
+        .arg(mains.hide(!takes_options))?
+        .arg(trace.hide(!takes_options))?
+        .arg(files_argument(alloc))
 }
 
-fn trace_argument<'a>(alloc: Global) -> Arg<'a> {
-    Arg::new(alloc, "trace")
-        .long("trace")
-        .value_name("FILE")
-        .help("Writes every initialization step to FILE")
-}
-
-/// The program's command line. A subcommand knows the options of the others too, but doesn't show them.
-fn command<'a>(alloc: Global) -> Result<Command<'a>, AllocError> {
-    let run = Command::new(alloc, "run")
-        .about("Initializes the main class, with all that it needs, and writes the trace")
-        .arg(mains_argument(alloc))?
-        .arg(trace_argument(alloc))?
-        .arg(files_argument(alloc))?;
-    let needs = Command::new(alloc, "needs")
-        .about("Writes for each class what is initialized before its own initializer runs")
-        .arg(mains_argument(alloc).hide(true))?
-        .arg(trace_argument(alloc).hide(true))?
-        .arg(files_argument(alloc))?;
+/// The program's command line.
+fn command<'a>(alloc: Global) -> Result<Command<'a>, AllocError>
+    ensures { IfOk result (λ c. app_of c ≡ command_line) }
+{
+    let run = "Initializes the main class, with all that it needs, and writes the trace";
+    let needs = "Writes for each class what is initialized before its own initializer runs";
     Command::new(alloc, "jinit")
         .about("Initializes Java classes as JLS SE 8 12.4.2 demands, and tells each step")
         .version("0.1.0")
         .subcommand_required(true)
-        .subcommand(run)?
-        .subcommand(needs)
+        .subcommand(subcommand(alloc, "run", run, true)?)?
+        .subcommand(subcommand(alloc, "needs", needs, false)?)
 }
 
-fn files_of<'a>(alloc: Global, matches: &ArgMatches<'a>) -> Result<Vec<&'a str>, AllocError> {
-    let mut files = Vec::new(alloc);
-    if let Some(names) = matches.get_strs("files") {
-        for name in names {
-            files.push(*name)?;
-        }
+fn files_of<'a>(alloc: Global, matches: &ArgMatches<'a>) -> Result<Vec<&'a str>, AllocError>
+    ensures { IfOk result (λ files. texts files.items ≡ files_found (found_of matches.now)) }
+{
+    match matches.get_strs("files") {
+        Some(names) => names.to_vec(alloc),
+        None => Ok(Vec::new(alloc)),
     }
-    Ok(files)
+}
+
+/// What is asked for of the subcommand of that name, with these options and files.
+fn asked_of<'a>(
+    alloc: Global,
+    name: &str,
+    matches: &ArgMatches<'a>,
+) -> Result<Asked<'a>, AllocError>
+    ensures { IfOk result (λ asked. request_of asked ≡ request_found name.now (found_of matches.now)) }
+{
+    let mains = matches.get_str("mains");
+    let trace = matches.get_str("trace");
+    let files = files_of(alloc, matches)?;
+    if name == "run" {
+        return Ok(Asked::Run(Run {
+            mains,
+            trace,
+            files,
+        }));
+    }
+    if name == "needs" && mains.is_none() && trace.is_none() {
+        return Ok(Asked::Needs(files));
+    }
+    Ok(Asked::Unfit)
 }
 
 /// What the words ask for; the first word is the program's name.
 ///
-/// An `Err` is a fault of the command line, or asks for help or the version: its text says which. Want of
-/// memory is a kind of its own there.
-pub fn parse<'a>(alloc: Global, words: &'a [&'a str]) -> Result<Asked<'a>, Error> {
+/// Subcommand, options and files are those that `clap` finds in the words, for the command line that
+/// `jinit --help` and the help of its subcommands show.
+///
+/// # Errors
+///
+/// The words are no words of that command line, or ask for help or the version: the error's text says which, and
+/// its kind is the one that `clap` gives. Want of memory is a kind of its own there.
+pub fn parse<'a>(alloc: Global, words: &'a [&'a str]) -> Result<Asked<'a>, Error>
+    ensures asked { IfOk result (λ asked. request_of asked ≡ request_by (subcommand_of command_line (texts words.entry.now))) }
+    ensures fails { FailsBy (fault_of command_line (texts words.entry.now)) result }
+{
     let matches = command(alloc)?.try_get_matches_from(words)?;
-    if let Some(run) = matches.subcommand_matches("run") {
-        return Ok(Asked::Run(Run {
-            mains: run.get_str("mains"),
-            trace: run.get_str("trace"),
-            files: files_of(alloc, run)?,
-        }));
-    }
-    match matches.subcommand_matches("needs") {
-        Some(needs) if !needs.contains_id("mains") && !needs.contains_id("trace") => {
-            Ok(Asked::Needs(files_of(alloc, needs)?))
-        }
-        _ => Ok(Asked::Unfit),
+    match matches.subcommand() {
+        Some((name, found)) => Ok(asked_of(alloc, name, found)?),
+        None => Ok(Asked::Unfit),
     }
 }

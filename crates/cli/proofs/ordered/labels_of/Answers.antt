@@ -1,4 +1,4 @@
-use Rattle.std.proofs.Common.{◌≡◌, ◌++◌, ◌∷◌, ◌+◌, ◌-◌, ◌<◌, ℕ, List, suc, length, refl, arith, append_assoc}
+use Rattle.std.proofs.Common.{◌≡◌, ◌∷◌, ◌+◌, ◌-◌, ◌<◌, ℕ, List, suc, length, refl, arith, append_assoc}
 use Rattle.hierarchy.specs.LinkedProgram.{id}
 use Rattle.init_core.specs.declared.event.Event.{Event}
 use Rattle.init_core.specs.Interleaving.{labels_from, of_class}

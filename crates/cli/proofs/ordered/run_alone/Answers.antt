@@ -1,6 +1,6 @@
-use Rattle.std.proofs.Common.{◌≡◌, ◌<◌, arith, inl, inr, subst}
+use Rattle.std.proofs.Common.{◌<◌, inl, inr, subst}
 use Rattle.init_world.proofs.Alone.{IsCalmTurn}
-use Rattle.init_world.proofs.Lone.{work_of, lone_starts, lone_turn, lone_body, lone_begun}
+use Rattle.init_world.proofs.Lone.{work_of, lone_starts, lone_turn, lone_body}
 use Rattle.cli.proofs.ordered.run_alone.Goals as goal
 
 pub turns-init : goal.turns-init

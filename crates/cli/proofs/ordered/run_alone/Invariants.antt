@@ -1,4 +1,3 @@
-use Rattle.std.proofs.Common.{ℕ}
 use Rattle.init_world.proofs.Lone.{IsLone, work_of}
 use Rattle.cli.proofs.ordered.run_alone.Given as goal
 

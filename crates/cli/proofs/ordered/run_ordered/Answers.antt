@@ -1,4 +1,4 @@
-use Rattle.std.proofs.Common.{◌≡◌, ◌≤◌, ℕ, length, arith, subst, ◌∙◌}
+use Rattle.std.proofs.Common.{subst}
 use Rattle.hierarchy.specs.LinkedProgram.{LinkedProgram}
 use Rattle.statics.specs.Statics.{statics_of}
 use Rattle.init_core.specs.Interleaving.{of_class}

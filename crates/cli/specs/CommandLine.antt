@@ -1,0 +1,64 @@
+-- What the words of a command line ask for, as `clap` reads them.
+use Rattle.std.specs.Prelude.{List, [], Option, Some, None, codes, if◌then◌else◌, option_map, unwrap_or, true}
+use Rattle.std.specs.Str.{bytes_eq}
+use Rattle.clap.specs.Lexer.{usize_max}
+use Rattle.clap.specs.Walk.{texts}
+use Rattle.clap.specs.Words.{App, Row, Rule, Text, all_of, first_of, first_value, matched_of, raw_values, new_app, new_rule, with_rule, with_subcommand}
+use Rattle.clap.specs.Simple.{on_top}
+use Rattle.clap.specs.declared.builder.action.ArgAction.TheVariants.{Append}
+use Rattle.clap.specs.declared.parser.matches.Found.{Found}
+use Rattle.cli.specs.declared.words.Asked.{Asked}
+use Rattle.cli.specs.declared.words.Asked.TheVariants as asked
+
+-- an option `--<name>` with one value
+abbrev pub option_named : Text → Rule
+option_named name = record (new_rule name) { long = Some name; value_names = 1 }
+
+-- the words that are no option: any number of files
+abbrev pub file_words : Rule
+file_words = record (new_rule (codes "files")) {
+  action = Some Append;
+  range = Some (record { start_inclusive = 0; end_inclusive = usize_max });
+  value_names = 1;
+}
+
+-- a subcommand: each has all options
+abbrev pub subcommand_named : Text → App
+subcommand_named name = with_rule (with_rule (with_rule (new_app name) (option_named (codes "mains"))) (option_named (codes "trace"))) file_words
+
+-- `jinit run` and `jinit needs`, one of which is asked for
+abbrev pub command_line : App
+command_line = with_subcommand (with_subcommand (on_top (λ s. record s { has_version = true; subcommand_required = true }) (new_app (codes "jinit")))
+    (subcommand_named (codes "run")).top) (subcommand_named (codes "needs")).top
+
+-- what is asked for, as texts
+pub data Request : Type 0 where
+  run : Option Text → Option Text → List Text → Request
+  needs : List Text → Request
+  unfit : Request
+
+abbrev pub request_of : Asked → Request
+request_of (asked.Run r) = run (option_map (λ s. s.now) r.mains) (option_map (λ s. s.now) r.trace) (texts r.files.items)
+request_of (asked.Needs files) = needs (texts files.items)
+request_of asked.Unfit = unfit
+
+-- `needs` takes no option
+abbrev pub needs_with : Option Text → Option Text → List Text → Request
+needs_with None None files = needs files
+needs_with _ _ files = unfit
+
+abbrev pub request_to : Text → Option Text → Option Text → List Text → Request
+request_to name mains trace files = if bytes_eq name (codes "run") then run mains trace files
+    else (if bytes_eq name (codes "needs") then needs_with mains trace files else unfit)
+
+-- what the subcommand of that name asks for, with the rows that `clap` finds in the words
+abbrev pub request_by : Option (Text × List Row) → Request
+request_by (Some (name, rows)) = request_to name (first_of (codes "mains") rows) (first_of (codes "trace") rows) (unwrap_or (all_of (codes "files") rows) [])
+request_by None = unfit
+
+-- the same, by what the getters of `clap` read
+abbrev pub files_found : Found → List Text
+files_found f = unwrap_or (option_map raw_values (matched_of f (codes "files"))) []
+
+abbrev pub request_found : Text → Found → Request
+request_found name f = request_to name (first_value f (codes "mains")) (first_value f (codes "trace")) (files_found f)

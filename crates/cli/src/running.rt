@@ -1,0 +1,113 @@
+//! From class texts to the run of their main class.
+
+ghost use Rattle.std.specs.Prelude.{◌≡◌, ◌<◌, IfErr, IfOk, IfSome, length};
+ghost use Rattle.std.specs.Option.{option_map};
+ghost use Rattle.hierarchy.specs.FirstFault.{LinksTo};
+ghost use Rattle.cli.specs.Bodiless.{has_code, declares_code, holds_code};
+ghost use Rattle.cli.specs.Served.{IsLegalRun, IsLinkRefusal, IsRefusal, main_named, told_of};
+
+use crate::fault::Fault;
+use crate::ordered::run_ordered;
+use hierarchy::{Class, ClassId, LinkFault, LinkFaultKind, Program, link};
+use jasmin_text::{ClassText, Method};
+use std::alloc::Global;
+use trace::Report;
+
+/// What a fault of linking is told as: want of memory has a line of its own.
+fn fault_of_linking<'a>(fault: LinkFault) -> Fault<'a>
+    ensures { result ≡ told_of fault }
+{
+    match fault.kind {
+        LinkFaultKind::NoMemory => Fault::Memory,
+        _ => Fault::Link(fault),
+    }
+}
+
+/// The program of all class texts.
+pub(crate) fn link_texts<'a>(alloc: Global, texts: Vec<ClassText>) -> Result<Program, Fault<'a>>
+    ensures linked { IfOk result (LinksTo texts.items) }
+    ensures refused { IfErr result (IsLinkRefusal texts.items) }
+{
+    match link(alloc, texts) {
+        Ok(program) => Ok(program),
+        Err(fault) => Err(fault_of_linking(fault)),
+    }
+}
+
+/// The class of the files that this text of `--mains` names. A comma parts names, and so far one main class
+/// is run: a text with a comma names none.
+fn main_of(program: &Program, name: &str) -> Option<ClassId>
+    ensures named { result ≡ main_named program.now name.now }
+    ensures within { IfSome result (λ main. main.number < length program.now.classes) }
+{
+    if name.as_bytes().contains(&b',') {
+        return None;
+    }
+    let main = program.class_named(name.as_bytes())?;
+    if main.number < program.len() {
+        Some(main)
+    } else {
+        None
+    }
+}
+
+fn is_method_with_code(method: &Method) -> bool
+    ensures { result ≡ has_code method.now }
+{
+    method.code.is_some()
+}
+
+fn is_class_with_code(class: &Class) -> bool
+    ensures { result ≡ declares_code class.now }
+{
+    class.methods.as_slice().iter().any(is_method_with_code)
+}
+
+/// Whether some method has a body: so far no code is run.
+fn has_body(program: &Program) -> bool
+    ensures { result ≡ holds_code program.now }
+{
+    program.classes().iter().any(is_class_with_code)
+}
+
+/// A program and what its run was.
+#[derive(Drop)]
+pub struct Ran {
+    /// The classes of the files, linked.
+    pub program: Program,
+    /// What their main class's run made.
+    pub report: Report,
+}
+
+/// Links the classes and runs the main class that the text of `--mains` names.
+///
+/// The program is what linking makes of the class texts. The report is of a legal interleaving of the program
+/// and that main class, which is one of the files, with each class's label; no class has code.
+///
+/// # Errors
+///
+/// The first of: the first fault of linking (`Fault::Link`); no main class, one that no file has, or several
+/// (`Fault::Mains`); a method with a body, since no code is run yet (`Fault::Body`). Want of memory
+/// (`Fault::Memory`) may come before any of them.
+pub fn run_texts<'a>(
+    alloc: Global,
+    texts: Vec<ClassText>,
+    mains: Option<&str>,
+) -> Result<Ran, Fault<'a>>
+    ensures linked { IfOk result (λ ran. LinksTo texts.items ran.program) }
+    ensures legal { IfOk result (λ ran. IsLegalRun (option_map (λ name. name.now) mains.entry) ran.program ran.report) }
+    ensures refused { IfErr result (IsRefusal texts.items (option_map (λ name. name.now) mains.entry)) }
+{
+    let program = link_texts(alloc, texts)?;
+    let Some(name) = mains else {
+        return Err(Fault::Mains);
+    };
+    let Some(main) = main_of(&program, name) else {
+        return Err(Fault::Mains);
+    };
+    if has_body(&program) {
+        return Err(Fault::Body);
+    }
+    let report = run_ordered(alloc, &program, main)?;
+    Ok(Ran { program, report })
+}
