@@ -41,6 +41,8 @@ impl From<AllocError> for Fault<'_> {
 }
 
 impl<T: Drop> From<AllocFailed<T>> for Fault<'_> {
+    ghost from_gives = { λ _ fault. fault ≡ Memory };
+
     fn from(_e: AllocFailed<T>) -> Self {
         Fault::Memory
     }

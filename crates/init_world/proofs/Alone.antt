@@ -1,5 +1,5 @@
 -- A thread alone whose bodies are all empty: no look finds a class in progress or erroneous.
-use Rattle.std.proofs.Common.{◌≡◌, ◌≢◌, ℕ, ◌<◌, ◌==◌, List, [], ◌∷◌, ◌++◌, Option, Some, None, Bool, true, false, length, refl, sym, ap, ◌∙◌, subst, append-nil, eq-eqb}
+use Rattle.std.proofs.Common.{◌≡◌, ◌≢◌, ℕ, ◌==◌, List, [], ◌∷◌, ◌++◌, Option, Some, None, Bool, true, false, refl, sym, ap, subst, append-nil, eq-eqb}
 use Rattle.std.specs.Option.{option_or}
 use Rattle.std.specs.List.{AllByRecursion, find}
 use Rattle.std.proofs.lemmas.List.Folds.{find-append}
@@ -15,22 +15,19 @@ use Rattle.init_order.proofs.NeedsAbove.{needs_above}
 use Rattle.init_core.specs.declared.event.Decision.{Decision}
 use Rattle.init_core.specs.declared.event.Decision.TheVariants as decision
 use Rattle.init_core.specs.declared.event.Event.{Event}
-use Rattle.init_core.specs.declared.event.Kind.{Kind}
 use Rattle.init_core.specs.declared.event.Kind.TheVariants as kind
 use Rattle.init_core.specs.declared.event.Label.{Label}
 use Rattle.init_core.specs.declared.event.Label.TheVariants.{Prepared, InProgress, Initialized, Erroneous}
 use Rattle.init_core.specs.declared.frames.Completed.{Completed}
-use Rattle.init_core.specs.declared.frames.Ending.{Ending}
 use Rattle.init_core.specs.declared.frames.Ending.TheVariants as ending
 use Rattle.init_core.specs.declared.frames.Frame.{Frame}
-use Rattle.init_core.specs.declared.frames.Outcome.TheVariants.{Normal, Abrupt, Ended}
+use Rattle.init_core.specs.declared.frames.Outcome.TheVariants.{Normal, Abrupt}
 use Rattle.init_core.specs.declared.frames.Phase.{Phase}
 use Rattle.init_core.specs.declared.frames.Phase.TheVariants.{Looking, Needing, Running, EndingBy}
 use Rattle.init_core.specs.Advance.{after_decision, after_needs, after_word, after_in}
 use Rattle.init_core.specs.Decisions.{event, kind_of, Decides}
-use Rattle.init_core.specs.Interleaving.{of_class, of_thread, is_class}
+use Rattle.init_core.specs.Interleaving.{of_class, is_class}
 use Rattle.init_core.specs.Label.{label_by, label_of, is_failure, is_completion, is_beginning}
-use Rattle.init_core.specs.Lawful.{Allows}
 use Rattle.init_core.specs.Leads.{frame, standing, Before, outermost, needed, used, Leads, looking}
 use Rattle.init_core.specs.ProcedureWord.{completed, IsOfFiles}
 use Rattle.init_core.specs.Standing.{Standing}

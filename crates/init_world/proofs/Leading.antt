@@ -1,5 +1,5 @@
 -- Each turn leads on, whatever stands outside of any class.
-use Rattle.std.proofs.Common.{◌≡◌, ℕ, List, [], ◌∷◌, ◌++◌, Option, Some, None, Bool, true, false, refl, subst, append-nil, eq-eqb, ◌==◌}
+use Rattle.std.proofs.Common.{◌≡◌, ℕ, List, [], ◌∷◌, ◌++◌, Option, Some, None, true, false, refl, subst, append-nil, eq-eqb}
 use Rattle.std.proofs.lemmas.List.Elements.{filter-append}
 use Rattle.hierarchy.specs.declared.class.ClassId.{ClassId}
 use Rattle.hierarchy.specs.LinkedProgram.{LinkedProgram}

@@ -20,9 +20,9 @@ use Rattle.jasmin_reader.specs.declared.head.HeadWords.{HeadWords}
 use Rattle.jasmin_reader.specs.declared.reader.Reader.{Reader}
 use Rattle.jasmin_reader.specs.declared.switch.Switch.{Switch}
 use Rattle.jasmin_reader.specs.Bodies.{closed, outside_switch}
-use Rattle.jasmin_reader.specs.Reading.{empty_body, ended_by, line_at}
+use Rattle.jasmin_reader.specs.Reading.{empty_body, line_at}
 use Rattle.jasmin_text.specs.Lines.{lines_of}
-use Rattle.jasmin_reader.specs.File.{object_name, finished, then_lines, rest_at, empty_reader, class_at}
+use Rattle.jasmin_reader.specs.File.{object_name, finished, rest_at, empty_reader, class_at}
 use Rattle.jasmin_reader.proofs.Binds.{bind_ok, both_true, not_true}
 use Rattle.jasmin_reader.proofs.RowSteps.{fits_head, row_at, rows_at}
 use Rattle.jasmin_reader.proofs.Statements.{row_said}

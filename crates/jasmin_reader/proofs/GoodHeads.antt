@@ -6,7 +6,7 @@ use Rattle.descriptors.specs.Signature.{Signature}
 use Rattle.descriptors.specs.Spelling.{method_spelling}
 use Rattle.descriptors.specs.declared.field.FieldType.{FieldType}
 use Rattle.jasmin_words.specs.declared.fault.FaultKind.TheVariants as fault
-use Rattle.jasmin_words.specs.Lexing.{Item, Word, Equals, Text, fits}
+use Rattle.jasmin_words.specs.Lexing.{Item, Word, Equals, fits}
 use Rattle.jasmin_words.specs.Names.{same_bytes, is_member_name}
 use Rattle.jasmin_words.specs.Spelling.{AreLexed}
 use Rattle.jasmin_text.specs.Spellable.{is_class_word, is_taken, is_field, is_field_type, is_value_of, is_int_type, is_string_type, is_string, is_int}

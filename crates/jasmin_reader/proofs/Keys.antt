@@ -1,7 +1,6 @@
 -- A key that stands already.
-use Rattle.std.proofs.Common.{◌≡◌, true, List, ℕ, ℤ, Result, Ok, Err, refl}
+use Rattle.std.proofs.Common.{◌≡◌, true, List, ℕ, ℤ, Ok, Err, refl}
 use Rattle.std.specs.Prelude.{is_some}
-use Rattle.jasmin_words.specs.Gives.{◌>>=◌}
 use Rattle.jasmin_words.specs.declared.fault.FaultKind.TheVariants as fault
 use Rattle.jasmin_reader.specs.Operands.{integer_in}
 use Rattle.jasmin_reader.specs.Listing.{Cases, case_of, key_in}

@@ -1,5 +1,5 @@
 -- Labels in a table, seen by their bytes.
-use Rattle.std.proofs.Common.{◌≡◌, ℕ, Bool, true, false, cond, ◌&&◌, eqb, List, [], ◌∷◌, ◌++◌, Vec, Global, Option, Some, None, refl, sym, ap, ◌∙◌}
+use Rattle.std.proofs.Common.{◌≡◌, ℕ, Bool, true, false, cond, ◌&&◌, eqb, List, [], ◌∷◌, ◌++◌, Vec, Global, Option, Some, None, refl, ap}
 use Rattle.std.specs.Map.{lookup}
 use Rattle.std.specs.Prelude.{map}
 use Rattle.std.specs.Str.{bytes_eq}

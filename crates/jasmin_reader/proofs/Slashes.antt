@@ -1,6 +1,5 @@
 -- The last slash of a word.
-use Rattle.std.proofs.Common.{◌≡◌, ℕ, suc, ◌+◌, ◌<◌, Bool, true, false, cond, eqb, List, [], ◌∷◌, length, Option, Some, None, refl, ap, arith}
-use Rattle.jasmin_reader.specs.Operands.{slash_in}
+use Rattle.std.proofs.Common.{◌≡◌, ℕ, ◌+◌, Bool, true, false, cond, Option, Some, None, refl, ap, arith}
 
 -- a place in what follows, or the one that was found before
 abbrev pub behind : Option ℕ → ℕ → Option ℕ → Option ℕ

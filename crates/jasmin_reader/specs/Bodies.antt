@@ -1,5 +1,5 @@
 -- What the lines in a method add to it.
-use Rattle.std.specs.Prelude.{ℕ, Bool, true, false, not, ◌&&◌, ◌||◌, List, [], ◌∷◌, ◌++◌, length, Option, Some, None, is_some, Result, Ok, Err, ◌==◌, if◌then◌else◌, ℤ, codes}
+use Rattle.std.specs.Prelude.{ℕ, Bool, true, false, not, ◌&&◌, List, [], ◌∷◌, ◌++◌, length, Option, Some, None, is_some, Result, Ok, Err, ◌==◌, if◌then◌else◌, ℤ, codes}
 use Rattle.std.specs.Option.{ok_or}
 use Rattle.jasmin_words.specs.declared.fault.FaultKind.{FaultKind}
 use Rattle.jasmin_words.specs.declared.fault.FaultKind.TheVariants as fault
@@ -18,8 +18,8 @@ use Rattle.jasmin_text.specs.declared.instruction.Instruction.TheVariants as ins
 use Rattle.jasmin_reader.specs.declared.body.Body.{Body}
 use Rattle.jasmin_reader.specs.declared.body.Catch.{Catch}
 use Rattle.jasmin_reader.specs.declared.switch.Switch.{Switch}
-use Rattle.jasmin_reader.specs.Places.{word_of, within_limit, next_word, operand, ended_at, first_word}
-use Rattle.jasmin_reader.specs.Operands.{checked, label_in, class_name_in, limit_in, last_operand, begins_with}
+use Rattle.jasmin_reader.specs.Places.{within_limit, next_word, operand, ended_at, first_word}
+use Rattle.jasmin_reader.specs.Operands.{label_in, class_name_in, limit_in, last_operand, begins_with}
 use Rattle.jasmin_reader.specs.Listing.{Listing, without_switch, instruction_at, switch_at, behind_colon}
 
 -- ---- labels and instructions

@@ -1,6 +1,6 @@
 -- What single words stand for, and the operands of instructions.
-use Rattle.std.specs.Prelude.{ℕ, zero, suc, ◌+◌, ◌-◌, Bool, true, false, not, ◌&&◌, List, [], ◌∷◌, ◌++◌, take, drop, map, Option, Some, None, Result, Ok, Err, ◌==◌, if◌then◌else◌, nat_le, ℤ, pos, negsuc, ◌+ℤ◌, ◌-ℤ◌, int_le, codes}
-use Rattle.std.specs.Option.{option_map, ok_or}
+use Rattle.std.specs.Prelude.{ℕ, ◌+◌, Bool, false, not, ◌&&◌, List, [], ◌∷◌, take, drop, Option, Some, None, Result, Ok, Err, ◌==◌, if◌then◌else◌, nat_le, ℤ, pos, negsuc, ◌+ℤ◌, ◌-ℤ◌, int_le}
+use Rattle.std.specs.Option.{ok_or}
 use Rattle.descriptors.specs.ClassName.{is_class_name}
 use Rattle.descriptors.specs.Signature.{Signature}
 use Rattle.descriptors.specs.Reading.{field_of_text, method_of_text}
@@ -14,10 +14,9 @@ use Rattle.jasmin_words.specs.declared.refusal.Refusal.{Refusal}
 use Rattle.jasmin_words.specs.declared.refusal.Refusal.TheVariants as refusal
 use Rattle.jasmin_words.specs.Gives.{◌>>=◌}
 use Rattle.jasmin_words.specs.Integers.{integer_of}
-use Rattle.jasmin_words.specs.Lexing.{Item, Word, LongWord, BadWord, Equals, Colon, Text, BadText}
+use Rattle.jasmin_words.specs.Lexing.{Item, Text, BadText}
 use Rattle.jasmin_words.specs.Names.{is_label, is_member_name}
 use Rattle.jasmin_text.specs.Grammar.{byte_low, short_low}
-use Rattle.jasmin_text.specs.Tables.{find_row}
 use Rattle.jasmin_text.specs.declared.class_text.Constant.{Constant}
 use Rattle.jasmin_text.specs.declared.class_text.Constant.TheVariants as constant
 use Rattle.jasmin_text.specs.declared.form.Form.{Form}
@@ -34,7 +33,7 @@ use Rattle.jasmin_reader.specs.declared.switch.Switch.{Switch}
 use Rattle.jasmin_reader.specs.declared.switch.Switch.TheVariants as switch
 use Rattle.jasmin_reader.specs.declared.operands.Begun.{Begun}
 use Rattle.jasmin_reader.specs.declared.operands.Begun.TheVariants as begun
-use Rattle.jasmin_reader.specs.Places.{misplaced, word_of, within_limit, next_word, operand, string_from, ended_at, both}
+use Rattle.jasmin_reader.specs.Places.{operand, ended_at, both}
 use Rattle.jasmin_reader.specs.Table.{base_at}
 
 -- ---- words

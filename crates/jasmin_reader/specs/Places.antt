@@ -6,7 +6,7 @@ use Rattle.jasmin_words.specs.declared.refusal.Refusal.{Refusal}
 use Rattle.jasmin_words.specs.declared.refusal.Refusal.TheVariants as refusal
 use Rattle.jasmin_words.specs.Fault.{number_of}
 use Rattle.jasmin_words.specs.Gives.{◌>>=◌}
-use Rattle.jasmin_words.specs.Lexing.{Item, Word, LongWord, BadWord, Equals, Colon, Text, BadText}
+use Rattle.jasmin_words.specs.Lexing.{Item, Word, LongWord, BadWord, Text, BadText}
 
 -- the fault of a word that may not stand in its place
 abbrev pub misplaced : Item → FaultKind
