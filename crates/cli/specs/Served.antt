@@ -12,6 +12,7 @@ use Rattle.init_core.specs.Interleaving.{IsLegal, of_thread, labels_of}
 use Rattle.init_core.specs.ProcedureWord.{ProcedureWord}
 use Rattle.init_core.specs.declared.frames.Outcome.TheVariants.{Normal}
 use Rattle.trace.specs.declared.report.Report.{Report}
+use Rattle.trace.specs.declared.report.ThreadOutcome.TheVariants as outcomes
 use Rattle.init_world.specs.EmptyBodies.{HaveEmptyBodies}
 use Rattle.init_world.specs.PlainSteps.{ArePlainSteps}
 use Rattle.cli.specs.declared.fault.Fault.{Fault}
@@ -47,12 +48,15 @@ abbrev pub main_in : LinkedProgram → Option (List ℕ) → Option ClassId
 main_in p mains = option_and_then (main_named p) mains
 
 -- The report is of a legal interleaving of the program and the one class that the text of `--mains` names, with each
--- class's label: of the procedure for that class alone, with empty bodies. No code was there to run.
+-- class's label: of the procedure for that class alone, completed normally, with empty bodies that print nothing. No code
+-- was there to run.
 pub record IsLegalRun (mains : Option (List ℕ)) (p : LinkedProgram) (r : Report) : Type 0 where
   pub main : ClassId
   pub named : main_in p mains ≡ Some main
   pub legal : IsLegal p (main ∷ []) r.events
   pub labels : r.labels ≡ labels_of p r.events
+  pub outcomes : r.outcomes ≡ outcomes.Normal ∷ []
+  pub output : r.output ≡ []
   pub word : ProcedureWord p 0 main (of_thread 0 r.events) Normal
   pub bodies : HaveEmptyBodies r.events
   pub steps : ArePlainSteps r.events
