@@ -1,12 +1,35 @@
--- Files whose bytes are known.
-use Rattle.std.proofs.Common.{◌≡◌, ◌∙◌, ◌+◌, ◌-◌, ◌<◌, ◌≤◌, ℕ, zero, suc, sym, subst, ap, refl, arith, rules, min, length, take, List, [], ◌∷◌, ◌++◌, Option, Some, None, IfSome, Bor, slice_index_or}
+-- Files that are known by their names.
+use Rattle.std.proofs.Common.{◌≡◌, ◌≢◌, ◌∙◌, ◌+◌, ◌<◌, ◌≤◌, ℕ, sym, subst, ap, refl, arith, length, take, List, [], ◌∷◌, ◌++◌, Option, Some, None, is_none, true≢false, IsSomeAnd, Bor, slice_index_or}
 use Rattle.std.specs.List.{AllZip}
 use Rattle.std.proofs.lemmas.List.{length-take, map-append, take_all, take_more}
 use Rattle.jasmin_text.specs.Grammar.{Spells}
 use Rattle.jasmin_text.specs.Lines.{lines_of}
 use Rattle.jasmin_text.specs.declared.class_text.ClassParts.{ClassParts}
 use Rattle.clap.specs.Walk.{texts}
-use Rattle.cli.specs.Serving.{AreSpelled, SpellsClass}
+use Rattle.cli.specs.Files.{AreSpelled, FileHolds, Files, KeepsAllBut, SpellsClass}
+
+no_name : (name : List ℕ) → None ≢ Some name
+no_name name e = true≢false (ap is_none e)
+
+pub keeps_all : (but : Option (List ℕ)) (known : Option Files) → KeepsAllBut but known known
+keeps_all but None = tt
+keeps_all but (Some files) = λ name other. refl
+
+pub keeps_more : (but : Option (List ℕ)) (before after : Option Files) → KeepsAllBut None before after → KeepsAllBut but before after
+keeps_more but None after kept = tt
+keeps_more but (Some files) None kept = absurd kept
+keeps_more but (Some files) (Some now) kept = λ name other. kept name (no_name name)
+
+pub keeps_then : (but : Option (List ℕ)) (before middle after : Option Files) → KeepsAllBut None before middle → KeepsAllBut but middle after → KeepsAllBut but before after
+keeps_then but None middle after first second = tt
+keeps_then but (Some files) None after first second = absurd first
+keeps_then but (Some files) (Some then) None first second = absurd second
+keeps_then but (Some files) (Some then) (Some now) first second = λ name other. second name other ∙ first name (no_name name)
+
+pub held_before : (before after : Option Files) (name : List ℕ) (P : List ℕ → Type 0) → KeepsAllBut None before after → FileHolds after name P → FileHolds before name P
+held_before None after name P kept holds = tt
+held_before (Some files) None name P kept holds = absurd kept
+held_before (Some files) (Some now) name P kept holds = subst (λ o. IsSomeAnd o P) (kept name (no_name name)) holds
 
 -- a front that is shorter than was asked for is all
 short_front : (most : ℕ) (all : List ℕ) → length (take (most + 1) all) ≤ most → take (most + 1) all ≡ all
@@ -14,27 +37,31 @@ short_front most all short =
     let front = length-take (most + 1) all in
     take_all (most + 1) all (omega arith)
 
-pub whole_file : (most : ℕ) (known : Option (List ℕ)) (bytes : List ℕ) (c : ClassParts) → IfSome known (λ all. bytes ≡ take (most + 1) all)
-    → length bytes ≤ most → Spells (lines_of bytes) c → SpellsClass known c
-whole_file most None bytes c front short spells = tt
-whole_file most (Some all) bytes c front short spells =
-    let is : bytes ≡ all = front ∙ short_front most all (subst (λ bs. length bs ≤ most) front short) in
-    subst (λ bs. Spells (lines_of bs) c) is spells
+pub whole_file : (most : ℕ) (known : Option Files) (name bytes : List ℕ) (c : ClassParts) → FileHolds known name (λ all. bytes ≡ take (most + 1) all)
+    → length bytes ≤ most → Spells (lines_of bytes) c → SpellsClass known name c
+whole_file most None name bytes c front short spells = tt
+whole_file most (Some files) name bytes c front short spells = go (files name) front
+  where
+    go : (o : Option (List ℕ)) → IsSomeAnd o (λ all. bytes ≡ take (most + 1) all) → IsSomeAnd o (λ all. Spells (lines_of all) c)
+    go None is = absurd is
+    go (Some all) is =
+        let same : bytes ≡ all = is ∙ short_front most all (subst (λ bs. length bs ≤ most) is short) in
+        subst (λ bs. Spells (lines_of bs) c) same spells
 
 -- one more place
-pub all_zip_push : {A B : Type 0} (R : A → B → Type 0) (xs : List A) (ys : List B) (x : A) (y : B) → AllZip R xs ys → R x y → AllZip R (xs ++ x ∷ []) (ys ++ y ∷ [])
+all_zip_push : {A B : Type 0} (R : A → B → Type 0) (xs : List A) (ys : List B) (x : A) (y : B) → AllZip R xs ys → R x y → AllZip R (xs ++ x ∷ []) (ys ++ y ∷ [])
 all_zip_push R [] [] x y all one = (one, tt)
 all_zip_push R [] (b ∷ ys) x y all one = absurd all
 all_zip_push R (a ∷ xs) [] x y all one = absurd all
 all_zip_push R (a ∷ xs) (b ∷ ys) x y all one = (all.0, all_zip_push R xs ys x y all.1 one)
 
 -- one more file was read, while all stay as they were
-pub more_spelled : (held now : List ℕ → Option (List ℕ)) (files : List (Bor (List ℕ))) (i : ℕ) (d : Bor (List ℕ)) (classes : List ClassParts) (c : ClassParts)
-    → i < length files → AreSpelled held (texts (take i files)) classes → ((name : List ℕ) → now name ≡ held name) → SpellsClass (now (slice_index_or files i d).now) c
-    → AreSpelled held (texts (take (i + 1) files)) (classes ++ c ∷ [])
-more_spelled held now files i d classes c lt all same one =
+pub more_spelled : (before now : Option Files) (files : List (Bor (List ℕ))) (i : ℕ) (d : Bor (List ℕ)) (classes : List ClassParts) (c : ClassParts)
+    → i < length files → AreSpelled before (texts (take i files)) classes → KeepsAllBut None before now → SpellsClass now (slice_index_or files i d).now c
+    → AreSpelled before (texts (take (i + 1) files)) (classes ++ c ∷ [])
+more_spelled before now files i d classes c lt all kept one =
     let names : texts (take (i + 1) files) ≡ texts (take i files) ++ (slice_index_or files i d).now ∷ []
     = ap texts (take_more files i d lt) ∙ map-append (λ s. s.now) (take i files) (slice_index_or files i d ∷ []) in
-    subst (λ ns. AreSpelled held ns (classes ++ c ∷ [])) (sym names)
-    (all_zip_push (λ name k. SpellsClass (held name) k) (texts (take i files)) classes (slice_index_or files i d).now c all
-    (subst (λ known. SpellsClass known c) (same (slice_index_or files i d).now) one))
+    subst (λ ns. AreSpelled before ns (classes ++ c ∷ [])) (sym names)
+    (all_zip_push (SpellsClass before) (texts (take i files)) classes (slice_index_or files i d).now c all
+    (held_before before now (slice_index_or files i d).now (λ bytes. Spells (lines_of bytes) c) kept one))

@@ -1,5 +1,5 @@
 -- Writers whose bytes are known.
-use Rattle.std.proofs.Common.{◌≡◌, ◌∙◌, List, ℕ, Option, Some, None}
+use Rattle.std.proofs.Common.{◌∙◌, List, ℕ, Option, Some, None}
 use Rattle.std.specs.Io.KnownBytes.{Appends, Keeps}
 
 -- a flush behind a write

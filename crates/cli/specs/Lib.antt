@@ -1,6 +1,7 @@
 pub mod CommandLine
 pub mod Serving
 pub mod Status
-pub mod Served
+pub mod Running
+pub mod Files
 pub mod NeedsText
 pub mod Bodiless

@@ -1,8 +1,8 @@
 //! Files by name.
 
-ghost use Rattle.std.specs.Prelude.{◌≡◌, ◌≢◌, ◌≤◌, ℕ, List, Option, None, vec_len, take, IfOk, IfSome, OnOk};
+ghost use Rattle.std.specs.Prelude.{◌≡◌, ◌≤◌, ℕ, List, Option, Some, None, vec_len, take, IfOk, OnOk};
 ghost use Rattle.clap.specs.Walk.{texts as texts_of};
-ghost use Rattle.cli.specs.Serving.{AreSpelled, Holds, SpellsClass};
+ghost use Rattle.cli.specs.Files.{AreSpelled, FileHolds, KeepsAllBut, SpellsClass};
 
 use crate::fault::Fault;
 use jasmin_reader::read_class;
@@ -27,19 +27,20 @@ pub enum NamedFault {
 
 /// Something that reads and writes files by name.
 pub trait Named {
-    // What the file of a name holds, where that is known.
-    ghost held: { Self → List ℕ → Option (List ℕ) } = { λ _ _. None };
+    // What the files hold, by their names, where that is known.
+    ghost held: { Self → Option (List ℕ → Option (List ℕ)) } = { λ _. None };
 
-    /// The first bytes of a file, at most `most` of them.
+    /// The first bytes of a file, at most `most` of them. An `Err` is the file's fault, or want of memory.
     fn read(&mut self, alloc: Global, name: &str, most: usize) -> Result<Vec<u8>, NamedFault>
         ensures most { IfOk result (λ bytes. vec_len bytes ≤ most) }
-        ensures bytes { IfOk result (λ bytes. IfSome (held self.old name.now) (λ all. bytes.items ≡ take most all)) }
-        ensures files { (other : List ℕ) → held self.new other ≡ held self.old other };
+        ensures bytes { IfOk result (λ bytes. FileHolds (held self.old) name.now (λ all. bytes.items ≡ take most all)) }
+        ensures files { KeepsAllBut None (held self.old) (held self.new) };
 
-    /// Makes a file of these bytes, in the place of what stood there.
+    /// Makes a file of these bytes, in the place of what stood there. At an `Err`, the file's fault or want of memory,
+    /// it may hold anything.
     fn write(&mut self, name: &str, bytes: &[u8]) -> Result<(), NamedFault>
-        ensures bytes { OnOk result (Holds (held self.new name.now) bytes.now) }
-        ensures others { (other : List ℕ) → other ≢ name.now → held self.new other ≡ held self.old other };
+        ensures bytes { OnOk result (FileHolds (held self.new) name.now (λ all. all ≡ bytes.now)) }
+        ensures files { KeepsAllBut (Some name.now) (held self.old) (held self.new) };
 }
 
 fn fault_of(fault: NamedFault, name: &str) -> Fault<'_> {
@@ -50,13 +51,14 @@ fn fault_of(fault: NamedFault, name: &str) -> Fault<'_> {
 }
 
 /// The class text of a file.
+#[tactic(auto, using(crate::proofs::KnownFiles::keeps_all))]
 fn read_text<'a, N: Named>(
     alloc: Global,
     named: &mut N,
     file: &'a str,
 ) -> Result<ClassText, Fault<'a>>
-    ensures spelled { IfOk result (λ text. SpellsClass (N.held named.old file.now) text) }
-    ensures files { (other : List ℕ) → N.held named.new other ≡ N.held named.old other }
+    ensures spelled { IfOk result (SpellsClass (N.held named.old) file.now) }
+    ensures files { KeepsAllBut None (N.held named.old) (N.held named.new) }
 {
     let bytes = match named.read(alloc, file, MOST_BYTES + 1) {
         Ok(bytes) => bytes,
@@ -75,13 +77,14 @@ fn read_text<'a, N: Named>(
 }
 
 /// The class texts of all files, one after the other.
+#[tactic(auto, using(crate::proofs::KnownFiles::keeps_all, crate::proofs::KnownFiles::keeps_then))]
 pub(crate) fn read_texts<'a, N: Named>(
     alloc: Global,
     named: &mut N,
     files: &[&'a str],
 ) -> Result<Vec<ClassText>, Fault<'a>>
     ensures spelled { IfOk result (λ texts. AreSpelled (N.held named.old) (texts_of files.now) texts.items) }
-    ensures files { (other : List ℕ) → N.held named.new other ≡ N.held named.old other }
+    ensures files { KeepsAllBut None (N.held named.old) (N.held named.new) }
 {
     if files.len() > MOST_FILES {
         return Err(Fault::Files);
@@ -93,14 +96,14 @@ pub(crate) fn read_texts<'a, N: Named>(
     Ok(texts)
 }
 
-/// Writes the trace file.
+/// Writes a file.
 pub(crate) fn write_named<'a, N: Named>(
     named: &mut N,
     name: &'a str,
     bytes: &[u8],
 ) -> Result<(), Fault<'a>>
-    ensures bytes { OnOk result (Holds (N.held named.new name.now) bytes.now) }
-    ensures others { (other : List ℕ) → other ≢ name.now → N.held named.new other ≡ N.held named.old other }
+    ensures bytes { OnOk result (FileHolds (N.held named.new) name.now (λ all. all ≡ bytes.now)) }
+    ensures files { KeepsAllBut (Some name.now) (N.held named.old) (N.held named.new) }
 {
     match named.write(name, bytes) {
         Ok(()) => Ok(()),

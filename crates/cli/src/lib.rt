@@ -19,12 +19,14 @@ pub use fault::Fault;
 pub use files::{Named, NamedFault};
 pub use needed::write_needs;
 pub use ordered::run_ordered;
-pub use running::{Ran, run_texts};
+pub use running::{ProgramRun, run_texts};
 pub use serving::serve;
 pub use words::{Asked, Run, parse};
 
 #[cfg(test)]
 mod fault_tests;
+#[cfg(test)]
+mod sheet_tests;
 #[cfg(test)]
 mod test_files;
 #[cfg(test)]

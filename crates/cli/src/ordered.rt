@@ -1,14 +1,14 @@
 //! A run on one host thread.
 
-ghost use Rattle.std.specs.Prelude.{◌≡◌, ℕ, ◌<◌, ◌≤◌, [], ◌∷◌, length, IfOk};
+ghost use Rattle.std.specs.Prelude.{◌≡◌, ℕ, ◌<◌, ◌≤◌, length, IfOk};
 ghost use Rattle.hierarchy.specs.declared.class.ClassId.{ClassId};
 ghost use Rattle.hierarchy.specs.Hierarchy.{IsAcyclic};
-ghost use Rattle.init_core.specs.Interleaving.{IsLegal, of_thread, labels_of as all_labels};
+ghost use Rattle.init_core.specs.Interleaving.{of_thread, labels_of as all_labels};
 ghost use Rattle.init_core.specs.ProcedureWord.{ProcedureWord};
 ghost use Rattle.init_core.specs.declared.frames.Outcome.TheVariants.{Normal};
 ghost use Rattle.init_world.specs.EmptyBodies.{HaveEmptyBodies};
 ghost use Rattle.init_world.specs.PlainSteps.{ArePlainSteps};
-ghost use Rattle.trace.specs.declared.report.ThreadOutcome.TheVariants as outcomes;
+ghost use Rattle.cli.specs.Running.{IsRunOf};
 
 use hierarchy::{ClassId, Program};
 use init_core::Label;
@@ -53,20 +53,14 @@ fn labels_of(alloc: Global, program: &Program, world: &World) -> Result<Sequence
     Ok(labels)
 }
 
-/// Initializes the main class of a program on one thread, thread 0, with all that it needs, and runs its main.
+/// Initializes the main class of a program on one thread, thread 0, with all that it needs.
 ///
-/// No class has an initializer or a `main` of its own, so that all bodies are empty: the procedure for the main class,
-/// completed normally, is all that the thread does, and step 10 of each class comes directly behind its step 9
-/// (JLS SE 8 12.4.2). An `Err` is want of memory.
+/// Each class is run as if it had no initializer, and the main class as if it had no `main`, so that all bodies are
+/// empty: the procedure for the main class, completed normally, is all that the thread does, and step 10 of each class
+/// comes directly behind its step 9 (JLS SE 8 12.4.2). An `Err` is want of memory.
 pub fn run_ordered(alloc: Global, program: &Program, main: ClassId) -> Result<Report, AllocError>
     requires main { main.number < length program.now.classes }
-    ensures legal { IfOk result (λ report. IsLegal program.now (main ∷ []) report.events) }
-    ensures labels { IfOk result (λ report. report.labels ≡ all_labels program.now report.events) }
-    ensures outcomes { IfOk result (λ report. report.outcomes ≡ outcomes.Normal ∷ []) }
-    ensures output { IfOk result (λ report. report.output ≡ []) }
-    ensures word { IfOk result (λ report. ProcedureWord program.now 0 main (of_thread 0 report.events) Normal) }
-    ensures bodies { IfOk result (λ report. HaveEmptyBodies report.events) }
-    ensures steps { IfOk result (λ report. ArePlainSteps report.events) }
+    ensures { IfOk result (IsRunOf program.now main) }
 {
     // Each way up the hierarchy ends, as the number of classes tells.
     let _classes = program.len();

@@ -4,33 +4,26 @@ ghost use Rattle.std.specs.Prelude.{◌≡◌, ◌<◌, IfErr, IfOk, IfSome, len
 ghost use Rattle.std.specs.Option.{option_map};
 ghost use Rattle.hierarchy.specs.FirstFault.{LinksTo};
 ghost use Rattle.cli.specs.Bodiless.{has_code, declares_code, holds_code};
-ghost use Rattle.cli.specs.Served.{IsLegalRun, IsLinkRefusal, IsRefusal, main_named, told_of};
+ghost use Rattle.cli.specs.Running.{IsLinkRefusal, IsRefusal, IsRunOfNamed, main_named};
 
 use crate::fault::Fault;
 use crate::ordered::run_ordered;
-use hierarchy::{Class, ClassId, LinkFault, LinkFaultKind, Program, link};
+use hierarchy::{Class, ClassId, LinkFaultKind, Program, link};
 use jasmin_text::{ClassText, Method};
 use std::alloc::Global;
 use trace::Report;
 
-/// What a fault of linking is told as: want of memory has a line of its own.
-fn fault_of_linking<'a>(fault: LinkFault) -> Fault<'a>
-    ensures { result ≡ told_of fault }
-{
-    match fault.kind {
-        LinkFaultKind::NoMemory => Fault::Memory,
-        _ => Fault::Link(fault),
-    }
-}
-
-/// The program of all class texts.
+/// The program of all class texts. Want of memory is told in its own way.
 pub(crate) fn link_texts<'a>(alloc: Global, texts: Vec<ClassText>) -> Result<Program, Fault<'a>>
     ensures linked { IfOk result (LinksTo texts.items) }
     ensures refused { IfErr result (IsLinkRefusal texts.items) }
 {
     match link(alloc, texts) {
         Ok(program) => Ok(program),
-        Err(fault) => Err(fault_of_linking(fault)),
+        Err(fault) => match fault.kind {
+            LinkFaultKind::NoMemory => Err(Fault::Memory),
+            _ => Err(Fault::Link(fault)),
+        },
     }
 }
 
@@ -72,7 +65,7 @@ fn has_body(program: &Program) -> bool
 
 /// A program and what its run was.
 #[derive(Drop)]
-pub struct Ran {
+pub struct ProgramRun {
     /// The classes of the files, linked.
     pub program: Program,
     /// What their main class's run made.
@@ -81,8 +74,8 @@ pub struct Ran {
 
 /// Links the classes and runs the main class that the text of `--mains` names.
 ///
-/// The program is what linking makes of the class texts. The report is of a legal interleaving of the program
-/// and that main class, which is one of the files, with each class's label; no class has code.
+/// The program is what linking makes of the class texts, and the report is that of [`run_ordered`] for the class of the
+/// files which is named; no class has code.
 ///
 /// # Errors
 ///
@@ -93,9 +86,9 @@ pub fn run_texts<'a>(
     alloc: Global,
     texts: Vec<ClassText>,
     mains: Option<&str>,
-) -> Result<Ran, Fault<'a>>
+) -> Result<ProgramRun, Fault<'a>>
     ensures linked { IfOk result (λ ran. LinksTo texts.items ran.program) }
-    ensures legal { IfOk result (λ ran. IsLegalRun (option_map (λ name. name.now) mains.entry) ran.program ran.report) }
+    ensures ran { IfOk result (λ ran. IsRunOfNamed (option_map (λ name. name.now) mains.entry) ran.program ran.report) }
     ensures refused { IfErr result (IsRefusal texts.items (option_map (λ name. name.now) mains.entry)) }
 {
     let program = link_texts(alloc, texts)?;
@@ -109,5 +102,5 @@ pub fn run_texts<'a>(
         return Err(Fault::Body);
     }
     let report = run_ordered(alloc, &program, main)?;
-    Ok(Ran { program, report })
+    Ok(ProgramRun { program, report })
 }

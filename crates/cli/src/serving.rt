@@ -1,20 +1,21 @@
 //! The program's body.
 
-ghost use Rattle.std.specs.Prelude.{◌≡◌, ◌≢◌, ℕ, List, [], Some, IfSome, OnOk};
-ghost use Rattle.std.specs.Io.KnownBytes.{Appends};
+ghost use Rattle.std.specs.Prelude.{◌≡◌, ◌⊎◌, None, IfSome, OnOk};
+ghost use Rattle.std.specs.Io.KnownBytes.{Appends, Keeps};
 ghost use Rattle.std.specs.Option.{option_map};
 ghost use Rattle.clap.specs.Walk.{texts};
-ghost use Rattle.clap.specs.Words.{fault_of, kind_of, subcommand_of};
-ghost use Rattle.clap.specs.declared.error.kind.ErrorKind.TheVariants.{OutOfMemory};
+ghost use Rattle.clap.specs.Words.{kind_of};
+ghost use Rattle.clap.specs.declared.error.kind.ErrorKind.TheVariants.{DisplayHelp, DisplayVersion};
 ghost use Rattle.trace.specs.TraceText.{trace_of};
-ghost use Rattle.cli.specs.CommandLine.{command_line, request_by, request_of};
-ghost use Rattle.cli.specs.Serving.{HasRun, HasToldNeeds, Holds, IsServed, around};
+ghost use Rattle.cli.specs.CommandLine.{request_of};
+ghost use Rattle.cli.specs.Files.{FileHolds, KeepsAllBut};
+ghost use Rattle.cli.specs.Serving.{HasRun, HasToldNeeds, IsDone, IsServed, around, request_in, trace_in};
 ghost use Rattle.cli.specs.Status.{IsStatus};
 
 use crate::fault::Fault;
 use crate::files::{Named, read_texts, write_named};
 use crate::needed::write_needs;
-use crate::running::{Ran, link_texts, run_texts};
+use crate::running::{ProgramRun, link_texts, run_texts};
 use crate::words::{Asked, Run, parse};
 use clap::error::ErrorKind;
 use std::alloc::Global;
@@ -35,12 +36,13 @@ fn write_output<'a, O: io::Write>(out: &mut O, bytes: &[u8]) -> Result<(), Fault
 /// Writes the trace of a run, where a file for it is named.
 fn write_traced<'a, N: Named>(
     alloc: Global,
-    ran: &Ran,
+    ran: &ProgramRun,
     trace: Option<&'a str>,
     named: &mut N,
 ) -> Result<(), Fault<'a>>
-    ensures traced { OnOk result (IfSome (option_map (λ s. s.now) trace.entry) (λ name. Holds (N.held named.new name) (trace_of ran.now.program ran.now.report.events))) }
-    ensures others { (name : List ℕ) → option_map (λ s. s.now) trace.entry ≢ Some name → N.held named.new name ≡ N.held named.old name }
+    ensures traced { OnOk result (IfSome (option_map (λ s. s.now) trace.entry) (λ name.
+        FileHolds (N.held named.new) name (λ bytes. bytes ≡ trace_of ran.now.program ran.now.report.events))) }
+    ensures files { KeepsAllBut (option_map (λ s. s.now) trace.entry) (N.held named.old) (N.held named.new) }
 {
     let Some(name) = trace else {
         return Ok(());
@@ -56,7 +58,8 @@ fn run<'a, N: Named, O: io::Write>(
     named: &mut N,
     out: &mut O,
 ) -> Result<(), Fault<'a>>
-    ensures { OnOk result (HasRun (around (N.held named.old) (O.contents out.old)) (around (N.held named.new) (O.contents out.new)) (option_map (λ s. s.now) run.now.mains) (option_map (λ s. s.now) run.now.trace) (texts run.now.files.items)) }
+    ensures files { KeepsAllBut (option_map (λ s. s.now) run.now.trace) (N.held named.old) (N.held named.new) }
+    ensures ran { OnOk result (HasRun (around (N.held named.old) (O.contents out.old)) (around (N.held named.new) (O.contents out.new)) (option_map (λ s. s.now) run.now.mains) (option_map (λ s. s.now) run.now.trace) (texts run.now.files.items)) }
 {
     let texts = read_texts(alloc, named, &run.files)?;
     let ran = run_texts(alloc, texts, run.mains)?;
@@ -71,7 +74,8 @@ fn tell_needs<'a, N: Named, O: io::Write>(
     named: &mut N,
     out: &mut O,
 ) -> Result<(), Fault<'a>>
-    ensures { OnOk result (HasToldNeeds (around (N.held named.old) (O.contents out.old)) (around (N.held named.new) (O.contents out.new)) (texts files.now)) }
+    ensures files { KeepsAllBut None (N.held named.old) (N.held named.new) }
+    ensures told { OnOk result (HasToldNeeds (around (N.held named.old) (O.contents out.old)) (around (N.held named.new) (O.contents out.new)) (texts files.now)) }
 {
     let texts = read_texts(alloc, named, files)?;
     let program = link_texts(alloc, texts)?;
@@ -86,7 +90,8 @@ fn answer<'a, N: Named, O: io::Write>(
     named: &mut N,
     out: &mut O,
 ) -> Result<(), Fault<'a>>
-    ensures { OnOk result (IsServed (around (N.held named.old) (O.contents out.old)) (around (N.held named.new) (O.contents out.new)) (request_of asked.now)) }
+    ensures files { KeepsAllBut (trace_in (request_of asked.now)) (N.held named.old) (N.held named.new) }
+    ensures served { OnOk result (IsServed (around (N.held named.old) (O.contents out.old)) (around (N.held named.new) (O.contents out.new)) (request_of asked.now)) }
 {
     match asked {
         Asked::Run(words) => run(alloc, words, named, out),
@@ -95,26 +100,42 @@ fn answer<'a, N: Named, O: io::Write>(
     }
 }
 
-/// Tells why the words ask for nothing that can be done, or shows the help that they ask for.
+/// Tells why the words ask for nothing that can be done, or shows the help or the version that they ask for.
 fn tell_words<O: io::Write, E: io::Write>(error: &clap::Error, out: &mut O, err: &mut E) -> u8
     ensures status { IsStatus result }
-    ensures memory { kind_of error.now ≡ OutOfMemory → result ≡ 3 }
+    ensures shown { result ≡ 0 → (kind_of error.now ≡ DisplayHelp) ⊎ (kind_of error.now ≡ DisplayVersion) }
+    ensures quiet { result ≡ 0 → Keeps (E.contents err.old) (E.contents err.new) }
 {
-    if let ErrorKind::OutOfMemory = error.kind() {
-        let _ = Fault::Memory.tell(err);
-        return 3;
+    match error.kind() {
+        ErrorKind::OutOfMemory => {
+            let _ = Fault::Memory.tell(err);
+            3
+        }
+        ErrorKind::DisplayHelp | ErrorKind::DisplayVersion => {
+            if write!(out, "{error}").is_err() || out.flush().is_err() {
+                let _ = Fault::Output.tell(err);
+                return 3;
+            }
+            0
+        }
+        _ => {
+            let _ = write!(err, "{error}");
+            2
+        }
     }
-    if error.use_stderr() {
-        let _ = write!(err, "{error}");
-        return 2;
-    }
-    if write!(out, "{error}").is_err() || out.flush().is_err() {
-        let _ = Fault::Output.tell(err);
-        return 3;
-    }
-    0
 }
 
+/// Does what the words of a command line ask for, and answers the exit status. The first word is the
+/// program's name.
+///
+/// Files are read and written by name through `named`, the output goes to `out`, and what went wrong to
+/// `err`, in one line or in `clap`'s words. The status is 0 where all threads ended normally, 2 where the words, the
+/// files or the classes are at fault, and 3 where memory, a file or the output was refused; nothing further is
+/// written then.
+///
+/// At status 0 what the words ask for is done, or they ask for help or the version, and nothing is written to `err`.
+/// At every status all files but the trace are as they were. What files hold is said where that is known
+/// (`Named::held`), and so is what was written to the output (`Write::contents`).
 /// Does what the words of a command line ask for, and answers the exit status. The first word is the
 /// program's name.
 ///
@@ -133,8 +154,9 @@ pub fn serve<N: Named, O: io::Write, E: io::Write>(
     err: &mut E,
 ) -> u8
     ensures status { IsStatus result }
-    ensures served { result ≡ 0 → fault_of command_line (texts words.entry.now) ≡ []
-        → IsServed (around (N.held named.old) (O.contents out.old)) (around (N.held named.new) (O.contents out.new)) (request_by (subcommand_of command_line (texts words.entry.now))) }
+    ensures done { result ≡ 0 → IsDone (around (N.held named.old) (O.contents out.old)) (around (N.held named.new) (O.contents out.new)) (texts words.entry.now) }
+    ensures quiet { result ≡ 0 → Keeps (E.contents err.old) (E.contents err.new) }
+    ensures files { KeepsAllBut (trace_in (request_in (texts words.entry.now))) (N.held named.old) (N.held named.new) }
 {
     let asked = match parse(alloc, words) {
         Ok(asked) => asked,

@@ -31,7 +31,7 @@ pub enum Asked<'a> {
     Unfit,
 }
 
-/// An option with one value, by the name of its value and its line of help.
+/// An option with one value: its name, and for the help the name of the value and a line.
 fn option<'a>(alloc: Global, name: &'a str, value: &'a str, help: &'a str) -> Arg<'a>
     ensures rule { rule_of result ≡ option_named name.entry.now }
     ensures local { result.global ≡ false }
@@ -86,7 +86,7 @@ fn subcommand<'a>(
 fn command<'a>(alloc: Global) -> Result<Command<'a>, AllocError>
     ensures { IfOk result (λ c. app_of c ≡ command_line) }
 {
-    let run = "Initializes the main class, with all that it needs, and writes the trace";
+    let run = "Initializes the main class, with all that it needs, and writes its output";
     let needs = "Writes for each class what is initialized before its own initializer runs";
     Command::new(alloc, "jinit")
         .about("Initializes Java classes as JLS SE 8 12.4.2 demands, and tells each step")
@@ -131,8 +131,8 @@ fn asked_of<'a>(
 
 /// What the words ask for; the first word is the program's name.
 ///
-/// Subcommand, options and files are those that `clap` finds in the words, for the command line that
-/// `jinit --help` and the help of its subcommands show.
+/// Subcommand, options and files are those that `clap` finds in the words: `run` and `needs` with any number of files, and
+/// with the options `--mains` and `--trace`, of which `needs` takes none.
 ///
 /// # Errors
 ///

@@ -1,5 +1,15 @@
-use Rattle.cli.specs.Served.{first}
+use Rattle.std.proofs.Common.{inl, inr}
+use Rattle.cli.specs.Running.{first, memory}
 use Rattle.cli.proofs.running.link_texts.Goals as goal
 
-pub returns-in-Err-clause-refused : goal.returns-in-Err-clause-refused
-returns-in-Err-clause-refused c = rw c.fault_of_linking.ensures (first c.in-Err.ensures.fault)
+pub returns-in-NoMemory-clause-refused : goal.returns-in-NoMemory-clause-refused
+returns-in-NoMemory-clause-refused c = memory
+
+pub returns-in_default : goal.returns-in_default
+returns-in_default c = record {
+  linked = tt;
+  refused = elim c.in-Err.ensures.fault [
+    | inl is ↦ absurd (c.in_default.not-NoMemory is)
+    | inr fault ↦ first fault
+  ];
+}

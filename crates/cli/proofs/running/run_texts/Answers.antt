@@ -1,5 +1,5 @@
 use Rattle.std.proofs.Common.{rules}
-use Rattle.cli.specs.Served.{unlinked, no_main, body, memory}
+use Rattle.cli.specs.Running.{unlinked, no_main, body, memory}
 use Rattle.cli.proofs.running.run_texts.Goals as goal
 
 pub returns-in_err-program-clause-refused : goal.returns-in_err-program-clause-refused
@@ -15,4 +15,4 @@ pub returns-then-has_body-clause-refused : goal.returns-then-has_body-clause-ref
 returns-then-has_body-clause-refused c = body {p = c.in_ok-program.program} {main = c.in-Some-main_of.main} c.in_ok-program.ensures.linked (search rules) (search rules)
 
 pub returns-in_err-report-clause-refused : goal.returns-in_err-report-clause-refused
-returns-in_err-report-clause-refused c = search (rules, memory)
+returns-in_err-report-clause-refused c = search (rules, unlinked, memory)

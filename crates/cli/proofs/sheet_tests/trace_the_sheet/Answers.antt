@@ -1,0 +1,56 @@
+use Rattle.std.proofs.Common.{rules, ◌≡◌, refl, subst, inl, inr, ℕ, List, [], ◌∷◌, Option, Some, None, codes, if◌then◌else◌}
+use Rattle.std.specs.Str.{bytes_eq}
+use Rattle.clap.specs.Walk.{texts}
+use Rattle.clap.specs.Words.{IsAmong, Text, fault_of}
+use Rattle.clap.specs.declared.error.kind.ErrorKind.TheVariants.{DisplayHelp, DisplayVersion}
+use Rattle.clap.proofs.OnLiterals.{clap_on_literals}
+use Rattle.jasmin_text.specs.Grammar.{Spells}
+use Rattle.jasmin_text.specs.Lines.{lines_of}
+use Rattle.jasmin_text.specs.declared.class_text.ClassParts.{ClassParts}
+use Rattle.hierarchy.specs.FirstFault.{LinksTo}
+use Rattle.hierarchy.specs.LinkedProgram.{LinkedProgram}
+use Rattle.trace.specs.TraceText.{trace_of}
+use Rattle.trace.specs.declared.report.Report.{Report}
+use Rattle.cli.specs.CommandLine.{command_line, run}
+use Rattle.cli.specs.Files.{AreSpelled, Files}
+use Rattle.cli.specs.Running.{IsRunOfNamed}
+use Rattle.cli.specs.Serving.{HasRun, IsDone, IsServed, Surroundings, around, request_in}
+use Rattle.cli.proofs.sheet_tests.trace_the_sheet.Goals as goal
+
+abbrev words : List Text
+words = codes "jinit" ∷ codes "run" ∷ codes "--mains" ∷ codes "Solo" ∷ codes "--trace" ∷ codes "sheet" ∷ codes "sheet" ∷ []
+
+asked : request_in words ≡ run (Some (codes "Solo")) (Some (codes "sheet")) (codes "sheet" ∷ [])
+unfolding clap_on_literals
+asked = refl
+
+no_fault : fault_of command_line words ≡ []
+unfolding clap_on_literals
+no_fault = refl
+
+run_done : (before after : Surroundings) (ws : List Text) → ws ≡ words → IsDone before after ws → HasRun before after (Some (codes "Solo")) (Some (codes "sheet")) (codes "sheet" ∷ [])
+run_done before after ws same done = go (subst (IsDone before after) same done)
+  where
+    go : IsDone before after words → HasRun before after (Some (codes "Solo")) (Some (codes "sheet")) (codes "sheet" ∷ [])
+    go (inl (inl help)) = absurd (subst (IsAmong DisplayHelp) no_fault help)
+    go (inl (inr version)) = absurd (subst (IsAmong DisplayVersion) no_fault version)
+    go (inr d) = subst (IsServed before after) asked d.1
+
+abbrev sheet : List ℕ → Files
+sheet bytes name = if bytes_eq name (codes "sheet") then Some bytes else None
+
+abbrev BecomesItsTrace : List ℕ → List ℕ → Type 0
+BecomesItsTrace old new = (c : ClassParts) × (p : LinkedProgram) × (r : Report) × Spells (lines_of old) c
+    × LinksTo (c ∷ []) p × IsRunOfNamed (Some (codes "Solo")) p r × (new ≡ trace_of p r.events)
+
+on_sheet : (old new : List ℕ) (out out' : Option (List ℕ)) → HasRun (around (Some (sheet old)) out) (around (Some (sheet new)) out') (Some (codes "Solo")) (Some (codes "sheet")) (codes "sheet" ∷ [])
+    → BecomesItsTrace old new
+on_sheet old new out out' h = go h.texts h.spelled h.linked
+  where
+    go : (classes : List ClassParts) → AreSpelled (Some (sheet old)) (codes "sheet" ∷ []) classes → LinksTo classes h.program → BecomesItsTrace old new
+    go [] spelled linked = absurd spelled
+    go (c ∷ []) spelled linked = (c, h.program, h.report, spelled.0, linked, h.ran, h.traced)
+    go (c ∷ d ∷ ds) spelled linked = absurd spelled.1
+
+pub returns : goal.returns
+returns c = λ zero. on_sheet _ _ _ _ (run_done _ _ (texts c.as_slice.result.now) (search rules) (c.serve.ensures.done zero))

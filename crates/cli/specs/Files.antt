@@ -1,0 +1,28 @@
+-- Files by name, where what they hold is known: of each name the bytes, or nothing where there is no such file.
+use Rattle.std.specs.Prelude.{◌≡◌, ◌≢◌, ⊤, ℕ, List, Option, Some, None, IsSomeAnd}
+use Rattle.std.specs.List.{AllZip}
+use Rattle.jasmin_text.specs.Grammar.{Spells}
+use Rattle.jasmin_text.specs.declared.class_text.ClassParts.{ClassParts}
+use Rattle.jasmin_text.specs.Lines.{lines_of}
+
+abbrev pub Files : Type 0
+Files = List ℕ → Option (List ℕ)
+
+-- known files stay as they are, but for the one of this name, where a name is given
+abbrev pub KeepsAllBut : Option (List ℕ) → Option Files → Option Files → Type 0
+KeepsAllBut but None after = ⊤
+KeepsAllBut but (Some files) None = ⊥
+KeepsAllBut but (Some files) (Some now) = (name : List ℕ) → but ≢ Some name → now name ≡ files name
+
+-- where files are known, there is one of that name, and P holds of its bytes
+abbrev pub FileHolds : Option Files → List ℕ → (List ℕ → Type 0) → Type 0
+FileHolds None name P = ⊤
+FileHolds (Some files) name P = IsSomeAnd (files name) P
+
+-- the file of that name spells the class
+abbrev pub SpellsClass : Option Files → List ℕ → ClassParts → Type 0
+SpellsClass known name c = FileHolds known name (λ bytes. Spells (lines_of bytes) c)
+
+-- each file spells the class at its place
+abbrev pub AreSpelled : Option Files → List (List ℕ) → List ClassParts → Type 0
+AreSpelled known = AllZip (SpellsClass known)

@@ -1,0 +1,77 @@
+//! A caller of `serve` that knows what its files hold.
+
+ghost use Rattle.std.specs.Prelude.{◌≡◌, ℕ, List, [], ◌∷◌, Some, None, codes, if◌then◌else◌};
+ghost use Rattle.std.specs.Str.{bytes_eq};
+ghost use Rattle.jasmin_text.specs.Grammar.{Spells};
+ghost use Rattle.jasmin_text.specs.Lines.{lines_of};
+ghost use Rattle.jasmin_text.specs.declared.class_text.ClassParts.{ClassParts};
+ghost use Rattle.hierarchy.specs.FirstFault.{LinksTo};
+ghost use Rattle.hierarchy.specs.LinkedProgram.{LinkedProgram};
+ghost use Rattle.trace.specs.TraceText.{trace_of};
+ghost use Rattle.trace.specs.declared.report.Report.{Report};
+ghost use Rattle.cli.specs.Running.{IsRunOfNamed};
+
+use crate::{Named, NamedFault, serve};
+use std::alloc::Global;
+use std::test::Fail;
+
+/// One file, by the name `sheet`. There is no other, and none can be made.
+#[derive(Drop)]
+struct Sheet {
+    bytes: Vec<u8>,
+}
+
+impl Named for Sheet {
+    ghost use Rattle.std.specs.Prelude.{Some, None, codes, if◌then◌else◌};
+    ghost use Rattle.std.specs.Str.{bytes_eq};
+
+    ghost held = { λ sheet. Some (λ name. if bytes_eq name (codes "sheet") then Some sheet.bytes.items else None) };
+
+    fn read(&mut self, alloc: Global, name: &str, most: usize) -> Result<Vec<u8>, NamedFault> {
+        if name != "sheet" {
+            return Err(NamedFault::Io);
+        }
+        let kept = self.bytes.len().min(most);
+        match Vec::from_slice(alloc, &self.bytes[..kept]) {
+            Ok(bytes) => Ok(bytes),
+            Err(_) => Err(NamedFault::Memory),
+        }
+    }
+
+    fn write(&mut self, name: &str, bytes: &[u8]) -> Result<(), NamedFault> {
+        if name != "sheet" {
+            return Err(NamedFault::Io);
+        }
+        self.bytes.clear();
+        match self.bytes.extend_from_slice(bytes) {
+            Ok(()) => Ok(()),
+            Err(_) => Err(NamedFault::Memory),
+        }
+    }
+}
+
+static WORDS: [&str; 7] = [
+    "jinit", "run", "--mains", "Solo", "--trace", "sheet", "sheet",
+];
+
+/// Runs the class Solo that the sheet spells, and writes the trace in its place.
+fn trace_the_sheet(alloc: Global, sheet: &mut Sheet) -> u8
+    ensures { result ≡ 0 → (c : ClassParts) × (p : LinkedProgram) × (r : Report) × Spells (lines_of sheet.old.bytes.items) c
+        × LinksTo (c ∷ []) p × IsRunOfNamed (Some (codes "Solo")) p r × (sheet.new.bytes.items ≡ trace_of p r.events) }
+{
+    let mut out = Vec::new(alloc);
+    let mut err = Vec::new(alloc);
+    serve(alloc, WORDS.as_slice(), sheet, &mut out, &mut err)
+}
+
+#[test]
+fn a_file_becomes_its_trace(rt: HostRuntime) -> Result<(), Fail> {
+    let mut sheet = Sheet {
+        bytes: Vec::from_slice(rt.alloc(), b".class Solo")?,
+    };
+    assert_eq!(rt; trace_the_sheet(rt.alloc(), &mut sheet), 0);
+    assert!(rt;
+        sheet.bytes.as_slice() == b"0 t0 step6 Solo\n1 t0 step9 Solo\n2 t0 step10 Solo\n".as_slice()
+    );
+    Ok(())
+}
