@@ -1,4 +1,4 @@
--- What the program does, where it knows what files hold and what was written to its output.
+-- What the program does, where it is known what files hold and what was written to its output.
 use Rattle.std.specs.Prelude.{◌≡◌, ◌⊎◌, ℕ, List, [], Option, None, IfSome}
 use Rattle.std.specs.Io.KnownBytes.{Appends}
 use Rattle.clap.specs.Words.{IsAmong, Text, fault_of, subcommand_of}

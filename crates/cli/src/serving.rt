@@ -59,7 +59,8 @@ fn run<'a, N: Named, O: io::Write>(
     out: &mut O,
 ) -> Result<(), Fault<'a>>
     ensures files { KeepsAllBut (option_map (λ s. s.now) run.now.trace) (N.held named.old) (N.held named.new) }
-    ensures ran { OnOk result (HasRun (around (N.held named.old) (O.contents out.old)) (around (N.held named.new) (O.contents out.new)) (option_map (λ s. s.now) run.now.mains) (option_map (λ s. s.now) run.now.trace) (texts run.now.files.items)) }
+    ensures ran { OnOk result (HasRun (around (N.held named.old) (O.contents out.old)) (around (N.held named.new) (O.contents out.new))
+        (option_map (λ s. s.now) run.now.mains) (option_map (λ s. s.now) run.now.trace) (texts run.now.files.items)) }
 {
     let texts = read_texts(alloc, named, &run.files)?;
     let ran = run_texts(alloc, texts, run.mains)?;
@@ -136,16 +137,6 @@ fn tell_words<O: io::Write, E: io::Write>(error: &clap::Error, out: &mut O, err:
 /// At status 0 what the words ask for is done, or they ask for help or the version, and nothing is written to `err`.
 /// At every status all files but the trace are as they were. What files hold is said where that is known
 /// (`Named::held`), and so is what was written to the output (`Write::contents`).
-/// Does what the words of a command line ask for, and answers the exit status. The first word is the
-/// program's name.
-///
-/// Files are read and written by name through `named`, the output goes to `out`, and what went wrong to
-/// `err`, in one line. The status is 0 where all threads ended normally, 2 where the words, the files or the
-/// classes are at fault, and 3 where memory, a file or the output was refused; nothing further is written
-/// then.
-///
-/// At status 0 what was asked for is done, but where the words ask for help or the version. What is said of files
-/// and of the output is said where their bytes are known (`Named::held`, `Write::contents`).
 pub fn serve<N: Named, O: io::Write, E: io::Write>(
     alloc: Global,
     words: &[&str],
@@ -154,7 +145,8 @@ pub fn serve<N: Named, O: io::Write, E: io::Write>(
     err: &mut E,
 ) -> u8
     ensures status { IsStatus result }
-    ensures done { result ≡ 0 → IsDone (around (N.held named.old) (O.contents out.old)) (around (N.held named.new) (O.contents out.new)) (texts words.entry.now) }
+    ensures done { result ≡ 0 → IsDone (around (N.held named.old) (O.contents out.old)) (around (N.held named.new) (O.contents out.new))
+        (texts words.entry.now) }
     ensures quiet { result ≡ 0 → Keeps (E.contents err.old) (E.contents err.new) }
     ensures files { KeepsAllBut (trace_in (request_in (texts words.entry.now))) (N.held named.old) (N.held named.new) }
 {
