@@ -9,7 +9,7 @@ use Rattle.jasmin_text.specs.declared.class_text.ClassKind.TheVariants as kind
 use Rattle.hierarchy.specs.declared.class.Class.{Class}
 use Rattle.hierarchy.specs.declared.class.ClassId.{ClassId}
 use Rattle.hierarchy.specs.declared.built_in.BuiltIn.{BuiltIn}
-use Rattle.hierarchy.specs.declared.built_in.BuiltIn.TheVariants.{Object, NoSuchMethodError, IncompatibleClassChangeError}
+use Rattle.hierarchy.specs.declared.built_in.BuiltIn.TheVariants.{NoSuchMethodError, IncompatibleClassChangeError}
 use Rattle.hierarchy.specs.declared.declared_method.MethodId.{MethodId}
 use Rattle.hierarchy.specs.declared.declared_method.MethodId.TheVariants as method_id
 use Rattle.hierarchy.specs.declared.declared_method.Counted.TheVariants.{Each}
@@ -29,14 +29,10 @@ the_only ms = None
 abbrev pub method_of_superinterfaces : LinkedProgram → List ℕ → Signature → ClassId → Option DeclaredMethod
 method_of_superinterfaces p name type c = option_or (the_only (concrete_specific p name type c)) (first_superinterface_method p name type c)
 
--- what an interface declares itself, else what java/lang/Object declares, whose methods are all public and not static
-abbrev pub own_or_of_object : LinkedProgram → List ℕ → Signature → ClassId → Option DeclaredMethod
-own_or_of_object p name type c = option_or (declared_method p name type c) (declared_method p name type (built_in p Object))
-
--- in a class: what C or the nearest superclass declares; in an interface: what it or java/lang/Object declares
+-- in a class: what C or the nearest superclass declares; in an interface: what it declares itself
 abbrev pub method_by_kind : LinkedProgram → List ℕ → Signature → ClassId → ClassKind → Option DeclaredMethod
 method_by_kind p name type c kind.Class = method_of_superclasses p Each name type c
-method_by_kind p name type c kind.Interface = own_or_of_object p name type c
+method_by_kind p name type c kind.Interface = declared_method p name type c
 
 abbrev pub kind_in : Option Class → ClassKind
 kind_in None = kind.Class

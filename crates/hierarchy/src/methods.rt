@@ -1,7 +1,7 @@
 //! Method resolution.
 
 ghost use Rattle.std.specs.Prelude.{◌≡◌};
-ghost use Rattle.hierarchy.specs.MethodResolution.{own_or_of_object, method_of_superinterfaces, kind_of, found_method, may_name as may_be_named_by, declaring_class, is_init as has_init_name, suits as suits_as, is_inherited_init, method_result, resolved_method};
+ghost use Rattle.hierarchy.specs.MethodResolution.{method_of_superinterfaces, kind_of, found_method, may_name as may_be_named_by, declaring_class, is_init as has_init_name, suits as suits_as, is_inherited_init, method_result, resolved_method};
 
 use crate::built_in::BuiltIn;
 use crate::class::ClassId;
@@ -93,21 +93,6 @@ impl Program {
         }
     }
 
-    /// The method that an interface itself or java/lang/Object declares.
-    fn method_of_interface(
-        &self,
-        name: &[u8],
-        method_type: &MethodType,
-        id: ClassId,
-    ) -> Option<DeclaredMethod>
-        ensures { result ≡ own_or_of_object self.now name.now method_type.now id }
-    {
-        match self.declared_method(name, method_type, id) {
-            Some(method) => Some(method),
-            None => self.declared_method(name, method_type, self.built_in(BuiltIn::Object)),
-        }
-    }
-
     /// The method that is looked up.
     fn found_method(
         &self,
@@ -119,7 +104,7 @@ impl Program {
     {
         let above = match self.kind_of(id) {
             ClassKind::Class => self.method_of_superclasses(Counted::Each, name, method_type, id),
-            ClassKind::Interface => self.method_of_interface(name, method_type, id),
+            ClassKind::Interface => self.declared_method(name, method_type, id),
         };
         match above {
             Some(method) => Some(method),
@@ -170,9 +155,9 @@ impl Program {
     /// The method that a reference to a class, a name and a descriptor names, for an instruction
     /// (JVMS SE 8 5.4.3.3, 5.4.3.4).
     ///
-    /// In a class it is looked up in the class and its superclasses, in an interface in the interface itself and in
-    /// java/lang/Object; then it is the one maximally specific superinterface method that isn't abstract, else the
-    /// first superinterface method that is neither private nor static.
+    /// In a class it is looked up in the class and its superclasses, in an interface in the interface itself; then it
+    /// is the one maximally specific superinterface method that isn't abstract, else the first superinterface method
+    /// that is neither private nor static.
     ///
     /// `Err` is the class of the error to throw: IncompatibleClassChangeError where `invokevirtual` names an
     /// interface or `invokeinterface` a class, before any look-up; NoSuchMethodError where no method is found, or

@@ -1,0 +1,93 @@
+#!/usr/bin/env python3
+"""Builds the program jinit, after the crates that it stands on: along their graph, side by side on the processors there
+are, first those with the longest path of others after them.
+
+What was built before is kept in the crates' folders out/. Each crate has a line on standard error with the time so far. A
+crate that fails stops the build: its own last lines follow, and the exit status is 70."""
+import copy
+import os
+import subprocess
+import sys
+import time
+
+sys.dont_write_bytecode = True
+
+import kit
+
+ROOT = os.path.dirname(os.path.dirname(os.path.realpath(__file__)))
+FAILED = 70
+began = time.time()
+
+
+def say(text):
+    print(f"jinit: {text}", file=sys.stderr, flush=True)
+
+
+def stop(name, log):
+    say(f"{name} was not built; the end of {os.path.relpath(log, ROOT)}:")
+    with open(log, errors="replace") as it:
+        print("".join(it.readlines()[-20:]), end="", file=sys.stderr, flush=True)
+    # (what the kit's commands still do ends with this process)
+    os._exit(FAILED)
+
+
+def by_the_kit():
+    """One crate after the other, as the kit builds them."""
+    log = f"{ROOT}/crates/jinit/out/build.log"
+    os.makedirs(os.path.dirname(log), exist_ok=True)
+    with open(log, "w") as out:
+        how = {"cwd": f"{ROOT}/crates/jinit", "stdin": subprocess.DEVNULL, "stdout": out, "stderr": subprocess.STDOUT}
+        if subprocess.run(["rt", "run", "--", "--version"], **how).returncode:
+            stop("jinit", log)
+
+
+def along_the_graph():
+    rt = kit.load()
+    rtlib = rt.rtlib
+    rtlib.guarded()
+    rtlib.Crate = rt.Crate
+    rt.Crate.allowed = rt.handles_of(ROOT)
+    program = next(it for it in rtlib.crates_below(ROOT) if it.name == "jinit")
+    crates = [*program.below(), program]
+    held = rtlib.lock(crates)
+    done = []
+
+    def build(crate, jobs):
+        crate = copy.copy(crate)
+        log = f"{crate.folder}/out/build.log"
+        os.makedirs(os.path.dirname(log), exist_ok=True)
+        with open(log, "w", errors="replace") as crate.out:
+            flags = ["--jobs", str(jobs)]
+            if not crate.is_program:
+                status = crate.build_rlib(flags, anew=False)
+            else:
+                status = crate.compile(flags, "out/jinit.o") or crate.link("out/jinit.o", "out/jinit")
+        if status:
+            stop(crate.name, log)
+        done.append(crate.name)
+        say(f"{len(done)} of {len(crates)}: {crate.name} is proved and built, {time.time() - began:.0f} s so far")
+
+    tasks = {}
+    for it in crates:
+        waits = [(below.name, "proof") for below in it.below()]
+        tasks[it.name, "proof"] = waits, kit.weight(rt, it), rt.need(it), lambda given, jobs, it=it: build(it, jobs)
+    rt.in_lanes(tasks)
+    return held
+
+
+def main():
+    os.chdir(ROOT)
+    if not kit.version():
+        say("the program isn't built from these sources, and the command 'rt' of the Rattle toolchain, which builds it, is not on the PATH")
+        say("put the folder bin of the Rattle kit on the PATH and call again")
+        sys.exit(FAILED)
+    say("the program isn't built yet, or its sources changed: the crates that it stands on are proved and built first")
+    if kit.version() == kit.KNOWN:
+        along_the_graph()
+    else:
+        by_the_kit()
+    say(f"built, {time.time() - began:.0f} s")
+
+
+if __name__ == "__main__":
+    main()

@@ -1,0 +1,223 @@
+"""The kit's own gate, `rt ci`, with each function proved once and the must-fail edits tried in batches.
+
+The kit's script is loaded, so that all that it refuses is refused here. It differs in three things:
+- A crate is proved over a folder that this run began empty, and its tests and its must-fail edits start from that
+  work. `rt ci` proves the crate again for each of the two.
+- Edits are tried in batches, and a crate's batches side by side (batches.py). One harmless edit stands beside those of
+  its crate, and must come out as not refused.
+- What an earlier run in this checkout found of a crate is taken where all contents are the same (store.py)."""
+import os
+import re
+import shutil
+import sys
+import tempfile
+import time
+
+import batches
+import kit
+from tally import say
+
+
+class Lines:
+    """Takes what the kit's script prints, and shows what tells of a failure, with the crate's own lines before it."""
+
+    FAILING = re.compile(r"NOT PROVED|NOT REFUSED|BAD EDIT|FAILED|had not ended|was not run|was stopped|ended with|is not |rt fmt")
+
+    def __init__(self):
+        self.section, self.buffer, self.all = "", self, []
+
+    def write(self, text):
+        text = text.decode(errors="replace") if isinstance(text, bytes) else text
+        self.all.append(text)
+        if text.startswith("== "):
+            self.section = text
+        elif text.startswith("rt: "):
+            if self.FAILING.search(text):
+                print(f"{self.section}{text}", file=sys.__stdout__)
+            self.section = ""
+        return len(text)
+
+    def flush(self):
+        sys.__stdout__.flush()
+
+
+class Gate:
+    def __init__(self, rt, tally, store, harmless):
+        """`harmless` is the file of the harmless edit, and the crate that it stands in."""
+        self.rt, self.tally, self.store = rt, tally, store
+        self.harmless, self.beside = harmless
+        self.work = tempfile.mkdtemp(prefix="gate-")
+        # By a crate's name: the crate, the sum of its contents, whether an earlier run judged them, the names of its functions,
+        # its edits, whether all that was asked of it passed.
+        self.crates, self.keys, self.known = {}, {}, {}
+        self.functions, self.edits, self.passes = {}, {}, {}
+
+    def kept(self, crate):
+        """The folder of what this run proved of the crate."""
+        return f"{self.work}/{crate.name}"
+
+    def judge(self):
+        """Runs the kit's gate so, and answers its exit status."""
+        self.original = {it: getattr(self.rt, it) for it in ("crates_of", "in_lanes", "run", "put_back")}
+        for name in self.original:
+            setattr(self.rt, name, getattr(self, name))
+        self.rt.Crate = self.crate_class()
+        # (a verdict's line may also say that the check took up what this very run proved)
+        line = self.rt.rtlib.VERDICT
+        end = r" statements=trusted\n"
+        self.rt.rtlib.VERDICT = re.compile(line.pattern.replace(end, r" statements=trusted(?: incremental=trusted)?\n"), re.M)
+        sys.stdout = Lines()
+        try:
+            return self.rt.ci()
+        finally:
+            said, sys.stdout = "".join(sys.stdout.all), sys.__stdout__
+            if not self.crates:
+                print(said, end="")
+            shutil.rmtree(self.work, ignore_errors=True)
+
+    def crate_class(gate):
+        rt = gate.rt
+
+        class Crate(rt.Crate):
+            """A crate whose proof, tests and edits share the work of this run."""
+
+            def prove(self, *commands):
+                status = super().prove(*commands)
+                if self.out is not sys.stdout:
+                    self.out.flush()
+                    self.out.seek(0)
+                    found = re.findall(rf"^fn ({self.name}::\S+):", self.out.read(), re.M)
+                    gate.functions.setdefault(self.name, set()).update(found)
+                return status
+
+            def ci(self, flags, tests):
+                if gate.known[self.name]:
+                    if not tests:
+                        gate.store.bring_back(self)
+                    return 0
+                over = ["--incremental", gate.kept(self)]
+                os.makedirs(gate.kept(self), exist_ok=True)
+                if tests:
+                    to = f"out/{self.name}_tests"
+                    words = [*self.words(flags, tests=True, keeps=False), *over, "--toolchain", f"{rt.KIT}/toolchain"]
+                    status = self.prove(["build", *words, "--backend", "llvm", "-o", f"{to}.o"])
+                    if not status and os.path.getsize(f"{self.folder}/{to}.o"):
+                        status = self.link(f"{to}.o", to)
+                    return status
+                if self.is_program or self.is_static:
+                    return super().ci(flags, tests)
+                shutil.rmtree(os.path.dirname(self.rlib), ignore_errors=True)
+                os.makedirs(os.path.dirname(self.rlib))
+                return self.prove(["build", *self.words(flags, keeps=False), *over, "-o", self.rlib])
+
+        return Crate
+
+    def crates_of(self, root, aside):
+        found = self.original["crates_of"](root, aside)
+        for it in found:
+            self.crates[it.name] = it
+            self.keys[it.name] = self.store.key(it, [*self.rt.edits_of(it)[0], self.harmless])
+            self.known[it.name] = self.store.is_kept(it, self.keys[it.name])
+            self.passes[it.name] = True
+        known = [it.name for it in found if self.known[it.name]]
+        if known:
+            say(f"unchanged since an earlier run in this checkout, and taken from it: {' '.join(known)}")
+        return found
+
+    def in_lanes(self, tasks):
+        """Has a crate's tests wait for its proof, whose work they take, and tries its edits by several tasks."""
+        made = {}
+        for key, (waits, lines, needs, call) in tasks.items():
+            crate = self.crates[key[0]]
+            if key[1] == "proof":
+                made[key] = waits, kit.weight(self.rt, crate), needs, self.timed("proofs", key, call)
+            elif key[1] == "tests":
+                made[key] = [*waits, (key[0], "proof")], lines, needs, self.timed("tests", key, call)
+            else:
+                made.update(self.edit_tasks(crate, waits, lines, needs))
+        given = self.original["in_lanes"](made)
+        for crate in self.crates.values():
+            self.count(crate, given)
+        return given
+
+    def timed(self, kind, key, call):
+        def called(given, jobs):
+            start = time.time()
+            try:
+                return call(given, jobs)
+            finally:
+                took = time.time() - start
+                self.tally.add(kind, seconds=took * jobs)
+                if took > 1:
+                    say(f"{' '.join(map(str, key))}: {took:.0f} s{f', {jobs} jobs' if jobs > 1 else ''}")
+        return called
+
+    def edit_tasks(self, crate, waits, lines, needs):
+        good, bad = self.rt.edits_of(crate)
+        shares, made = [], {}
+
+        def is_well(given):
+            return given[crate.name, "proof"] and given[crate.name, "tests"]
+
+        def share(given, jobs):
+            if is_well(given):
+                self.edits_to_try(crate).try_some()
+
+        for at in range(self.rt.processors() if good and not self.known[crate.name] else 0):
+            key = crate.name, "edits", at
+            made[key] = waits, lines, min(needs, 2_500_000_000), self.timed("edits", key, share)
+            shares.append(key)
+
+        def gather(given, jobs):
+            if not good or not is_well(given):
+                return bad, good, []
+            if self.known[crate.name]:
+                return bad, good, [(True, f"must-fail {crate.name}/{os.path.basename(it)}: refused in an earlier run") for it in good]
+            return bad, good, [self.edits[crate.name].found[it] for it in good]
+
+        made[crate.name, "edits"] = [*waits, *shares], 0, 0, gather
+        return made
+
+    def edits_to_try(self, crate):
+        """The crate's edits, which the first of the tasks that try them lays out."""
+        with self.tally.lock:
+            if crate.name not in self.edits:
+                harmless = self.harmless if crate.name == self.beside else None
+                given = self.kept(crate), self.functions.get(crate.name, set()), self.rt.edits_of(crate)[0]
+                self.edits[crate.name] = batches.Edits(self.rt, crate, *given, harmless)
+        return self.edits[crate.name]
+
+    def count(self, crate, given):
+        """Counts what came of the crate's proof, of that of its tests, and of its edits."""
+        is_proved = bool(given[crate.name, "proof"])
+        tests_are = bool(given[crate.name, "tests"])
+        bad, _, tried = given[crate.name, "edits"]
+        refused = sum(bool(it) for it, _ in tried)
+        self.tally.add("proofs", is_proved, not is_proved)
+        self.tally.add("tests", 0, is_proved and not tests_are)
+        self.tally.add("edits", refused, len(tried) - refused + len(bad))
+        self.passes[crate.name] = is_proved and tests_are and refused == len(tried) and not bad
+        if crate.name == self.beside and is_proved and tests_are and not self.known[crate.name]:
+            others = self.edits[crate.name].beside_harmless()
+            say(f"the harmless edit: {f'not refused beside {others} others, as it must be' if others else 'FAILED: the gate takes it for refused, or it is not tried beside others'}")
+            self.tally.add("edits", bool(others), not others)
+            self.passes[crate.name] = self.passes[crate.name] and bool(others)
+
+    def run(self, crate, tests, ending=""):
+        start, before = time.time(), len(sys.stdout.all)
+        passes = self.original["run"](crate, tests, ending)
+        found = re.findall(r"(\d+) passed; (\d+) failed", "".join(sys.stdout.all[before:]))
+        if tests and found:
+            passed, failed = map(int, found[-1])
+            self.tally.add("tests", passed, failed or int(not passes), time.time() - start)
+        else:
+            self.tally.add("tests" if tests else "programs", int(passes), int(not passes), time.time() - start)
+        self.passes[crate.name] = self.passes[crate.name] and passes
+        return passes
+
+    def put_back(self, root, aside, was_killed=False):
+        """Keeps what this run found of each crate that passed whole, before the kit's script clears its folder."""
+        for name, crate in self.crates.items():
+            if self.passes[name] and not self.known[name] and os.path.isdir(f"{crate.folder}/out"):
+                self.store.keep(crate, self.keys[name])
+        self.original["put_back"](root, aside, was_killed)

@@ -1,0 +1,56 @@
+"""The crates that an earlier run of the gate in this checkout passed whole, taken again where the contents are the same: those
+of the crate and of all crates below it, of its must-fail edits, of HANDLES, of the gate itself and of the kit."""
+import hashlib
+import os
+import shutil
+import subprocess
+
+import kit
+
+HERE = os.path.dirname(os.path.realpath(__file__))
+
+
+class Store:
+    """A folder with one folder a crate; none where the checkout has no folder .git."""
+
+    def __init__(self, root):
+        self.root = root
+        self.folder = f"{root}/.git/gate" if os.path.isdir(f"{root}/.git") else None
+
+    def key(self, crate, edits):
+        """A sum of all that the crate's results rest on."""
+        found = hashlib.sha256(f"{kit.version()} {crate.stamp()}".encode())
+        files = [*edits, f"{self.root}/HANDLES", *sorted(f"{HERE}/{it}" for it in os.listdir(HERE) if it.endswith(".py"))]
+        for file in files:
+            with open(file, "rb") as it:
+                found.update(repr((os.path.basename(file), it.read())).encode())
+        return found.hexdigest()
+
+    def forget(self):
+        """Forgets all that earlier runs found."""
+        if self.folder:
+            shutil.rmtree(self.folder, ignore_errors=True)
+
+    def is_kept(self, crate, key):
+        """Whether an earlier run judged these contents, and all passed."""
+        try:
+            with open(f"{self.folder}/{crate.name}/key", encoding="utf-8") as it:
+                return it.read() == key
+        except OSError:
+            return False
+
+    def bring_back(self, crate):
+        """Puts what was built of the crate into its out/ again."""
+        shutil.rmtree(f"{crate.folder}/out", ignore_errors=True)
+        subprocess.run(["cp", "-a", f"{self.folder}/{crate.name}/out", f"{crate.folder}/out"], check=True)
+
+    def keep(self, crate, key):
+        """Keeps that the crate has passed whole, and what was built of it."""
+        if not self.folder:
+            return
+        to = f"{self.folder}/{crate.name}"
+        shutil.rmtree(to, ignore_errors=True)
+        os.makedirs(to)
+        subprocess.run(["cp", "-a", f"{crate.folder}/out", f"{to}/out"], check=True)
+        with open(f"{to}/key", "w", encoding="utf-8") as it:
+            it.write(key)
