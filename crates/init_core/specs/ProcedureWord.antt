@@ -61,64 +61,106 @@ IsStop p Normal = Unit {0}
 IsStop p (Abrupt e) = IsThrowable p e
 IsStop p (Ended e) = IsMachineError p e
 
+-- What makes bodies: its states, and its steps from one to the next. A step stands for all that is run up to it without
+-- an event. Each but the first two is told the procedure that was completed last, if nothing was done since.
+pub record Maker : Type 1 where
+  pub State : Type 0
+  -- the initializer of a class begins
+  pub starts : State → ClassId → State → Type 0
+  -- the method main of a class begins
+  pub enters : State → ClassId → State → Type 0
+  -- a body asks for an active use of a class
+  pub asks : State → Option Completed → ClassId → State → Type 0
+  -- directly after the procedure for a class a body reads or writes a static field of it
+  pub uses : State → ClassId → Kind → State → Type 0
+  -- a body prints a text
+  pub prints : State → Option Completed → List ℕ → State → Type 0
+  -- the body ends with this result
+  pub stops : State → Option Completed → Outcome → State → Type 0
+  -- step 11: the throwable of this class is replaced by one of that
+  pub replaces : State → ClassId → ClassId → State → Type 0
+
 mutual
   -- the procedure for c by t, and its result: at most one step 2 first
-  pub data ProcedureWord (p : LinkedProgram) (t : ℕ) : ClassId → List Event → Outcome → Type 0 where
-    word : {c : ClassId} {rest : List Event} {r : Outcome} (waited : Bool) → AfterWait p t c rest r → ProcedureWord p t c (wait t c waited ++ rest) r
+  pub data Word (p : LinkedProgram) (t : ℕ) (M : Maker) : M.State → ClassId → List Event → Outcome → M.State → Type 0 where
+    word : {s z : M.State} {c : ClassId} {rest : List Event} {r : Outcome} (waited : Bool) → AfterWait p t M s c rest r z → Word p t M s c (wait t c waited ++ rest) r z
 
   -- what follows the step 2
-  pub data AfterWait (p : LinkedProgram) (t : ℕ) : ClassId → List Event → Outcome → Type 0 where
+  pub data AfterWait (p : LinkedProgram) (t : ℕ) (M : Maker) : M.State → ClassId → List Event → Outcome → M.State → Type 0 where
     -- step 3, or step 4
-    recurs : {c : ClassId} → AfterWait p t c (event t c kind.Recurs ∷ []) Normal
-    finds_initialized : {c : ClassId} → AfterWait p t c (event t c kind.FindsInitialized ∷ []) Normal
+    recurs : {s : M.State} {c : ClassId} → AfterWait p t M s c (event t c kind.Recurs ∷ []) Normal s
+    finds_initialized : {s : M.State} {c : ClassId} → AfterWait p t M s c (event t c kind.FindsInitialized ∷ []) Normal s
     -- step 5
-    finds_erroneous : {c : ClassId} → AfterWait p t c (event t c kind.FindsErroneous ∷ []) (Abrupt (built_in p NoClassDefFoundError))
+    finds_erroneous : {s : M.State} {c : ClassId} → AfterWait p t M s c (event t c kind.FindsErroneous ∷ []) (Abrupt (built_in p NoClassDefFoundError)) s
     -- the request is given up
-    gives_up : {c : ClassId} {e : ClassId} → IsMachineError p e → AfterWait p t c [] (Ended e)
+    gives_up : {s : M.State} {c : ClassId} {e : ClassId} → IsMachineError p e → AfterWait p t M s c [] (Ended e) s
     -- steps 6, 7, 9, 10
-    completes : {c : ClassId} {begun body : List Event} → Begun p t c (needs p c) begun → Body p t body Normal →
-        AfterWait p t c (begun ++ event t c kind.Runs ∷ (body ++ event t c kind.Completes ∷ [])) Normal
+    completes : {s u v z : M.State} {c : ClassId} {begun body : List Event} → Begun p t M s c (needs p c) begun u → M.starts u c v → Body p t M v body Normal z →
+        AfterWait p t M s c (begun ++ event t c kind.Runs ∷ (body ++ event t c kind.Completes ∷ [])) Normal z
     -- steps 6, 7, 9, 11, 12: the body throws, and step 11 leaves an error
-    fails : {c : ClassId} {begun body : List Event} {thrown e : ClassId} → Begun p t c (needs p c) begun → Body p t body (Abrupt thrown) → IsError p e →
-        AfterWait p t c (begun ++ event t c kind.Runs ∷ (body ++ event t c (kind.Fails e) ∷ [])) (Abrupt e)
+    fails : {s u v y z : M.State} {c : ClassId} {begun body : List Event} {thrown e : ClassId} → Begun p t M s c (needs p c) begun u → M.starts u c v → Body p t M v body (Abrupt thrown) y → M.replaces y thrown e z → IsError p e →
+        AfterWait p t M s c (begun ++ event t c kind.Runs ∷ (body ++ event t c (kind.Fails e) ∷ [])) (Abrupt e) z
     -- the same where the machine ended the body
-    is_ended : {c : ClassId} {begun body : List Event} {e : ClassId} → Begun p t c (needs p c) begun → Body p t body (Ended e) →
-        AfterWait p t c (begun ++ event t c kind.Runs ∷ (body ++ event t c (kind.Fails e) ∷ [])) (Ended e)
+    is_ended : {s u v z : M.State} {c : ClassId} {begun body : List Event} {e : ClassId} → Begun p t M s c (needs p c) begun u → M.starts u c v → Body p t M v body (Ended e) z →
+        AfterWait p t M s c (begun ++ event t c kind.Runs ∷ (body ++ event t c (kind.Fails e) ∷ [])) (Ended e) z
     -- steps 6, 7 where the procedure for a needed class completes abruptly
-    need_fails : {c next : ClassId} {first : List ClassId} (others : List ClassId) {begun w : List Event} {e : ClassId} →
-        needs p c ≡ first ++ next ∷ others → Begun p t c first begun → ProcedureWord p t next w (Abrupt e) →
-        AfterWait p t c (begun ++ (w ++ event t c (kind.SuperFails e) ∷ [])) (Abrupt e)
+    need_fails : {s u z : M.State} {c next : ClassId} {first : List ClassId} (others : List ClassId) {begun w : List Event} {e : ClassId} →
+        needs p c ≡ first ++ next ∷ others → Begun p t M s c first begun u → Word p t M u next w (Abrupt e) z →
+        AfterWait p t M s c (begun ++ (w ++ event t c (kind.SuperFails e) ∷ [])) (Abrupt e) z
     -- the same where the machine ended it
-    need_is_ended : {c next : ClassId} {first : List ClassId} (others : List ClassId) {begun w : List Event} {e : ClassId} →
-        needs p c ≡ first ++ next ∷ others → Begun p t c first begun → ProcedureWord p t next w (Ended e) →
-        AfterWait p t c (begun ++ (w ++ event t c (kind.SuperFails e) ∷ [])) (Ended e)
+    need_is_ended : {s u z : M.State} {c next : ClassId} {first : List ClassId} (others : List ClassId) {begun w : List Event} {e : ClassId} →
+        needs p c ≡ first ++ next ∷ others → Begun p t M s c first begun u → Word p t M u next w (Ended e) z →
+        AfterWait p t M s c (begun ++ (w ++ event t c (kind.SuperFails e) ∷ [])) (Ended e) z
     -- step 6 and then want of memory before step 9
-    lacks_memory : {c : ClassId} {first : List ClassId} (others : List ClassId) {begun : List Event} →
-        needs p c ≡ first ++ others → Begun p t c first begun →
-        AfterWait p t c (begun ++ event t c (kind.SuperFails (built_in p OutOfMemoryError)) ∷ []) (Ended (built_in p OutOfMemoryError))
+    lacks_memory : {s u : M.State} {c : ClassId} {first : List ClassId} (others : List ClassId) {begun : List Event} →
+        needs p c ≡ first ++ others → Begun p t M s c first begun u →
+        AfterWait p t M s c (begun ++ event t c (kind.SuperFails (built_in p OutOfMemoryError)) ∷ []) (Ended (built_in p OutOfMemoryError)) u
 
   -- step 6 of c, and the procedures for these classes in order, each normal
-  pub data Begun (p : LinkedProgram) (t : ℕ) : ClassId → List ClassId → List Event → Type 0 where
-    begins : {c : ClassId} → Begun p t c [] (event t c kind.Begins ∷ [])
-    and_then : {c next : ClassId} {first : List ClassId} {begun w : List Event} → Begun p t c first begun → ProcedureWord p t next w Normal → Begun p t c (first ++ next ∷ []) (begun ++ w)
+  pub data Begun (p : LinkedProgram) (t : ℕ) (M : Maker) : M.State → ClassId → List ClassId → List Event → M.State → Type 0 where
+    begins : {s : M.State} {c : ClassId} → Begun p t M s c [] (event t c kind.Begins ∷ []) s
+    and_then : {s u z : M.State} {c next : ClassId} {first : List ClassId} {begun w : List Event} → Begun p t M s c first begun u → Word p t M u next w Normal z → Begun p t M s c (first ++ next ∷ []) (begun ++ w) z
 
   -- The items of a body so far: active uses of classes, reads and writes of statics, prints. A read or a write
   -- stands directly behind the procedure for the field's class. The index is the procedure completed last,
   -- with nothing behind it.
-  pub data Items (p : LinkedProgram) (t : ℕ) : Option Completed → List Event → Type 0 where
-    no_items : Items p t None []
-    requests : {last : Option Completed} {items w : List Event} {c : ClassId} {r : Outcome} → Items p t last items → GoesOn last → IsOfFiles p c → ProcedureWord p t c w r → Items p t (Some (completed c r)) (items ++ w)
-    uses : {items : List Event} {c : ClassId} (k : Kind) → IsUse k → Items p t (Some (completed c Normal)) items → Items p t None (items ++ event t c k ∷ [])
-    prints : {last : Option Completed} {items : List Event} (text : List ℕ) → Items p t last items → GoesOn last → Items p t None (items ++ printed t text ∷ [])
+  pub data ItemsOf (p : LinkedProgram) (t : ℕ) (M : Maker) : M.State → Option Completed → List Event → M.State → Type 0 where
+    no_items : {s : M.State} → ItemsOf p t M s None [] s
+    requests : {s u v z : M.State} {last : Option Completed} {items events : List Event} {c : ClassId} {r : Outcome} → ItemsOf p t M s last items u → GoesOn last → IsOfFiles p c → M.asks u last c v → Word p t M v c events r z → ItemsOf p t M s (Some (completed c r)) (items ++ events) z
+    uses : {s u z : M.State} {items : List Event} {c : ClassId} (k : Kind) → IsUse k → ItemsOf p t M s (Some (completed c Normal)) items u → M.uses u c k z → ItemsOf p t M s None (items ++ event t c k ∷ []) z
+    prints : {s u z : M.State} {last : Option Completed} {items : List Event} (text : List ℕ) → ItemsOf p t M s last items u → GoesOn last → M.prints u last text z → ItemsOf p t M s None (items ++ printed t text ∷ []) z
 
   -- a body and its result
-  pub data Body (p : LinkedProgram) (t : ℕ) : List Event → Outcome → Type 0 where
-    stops : {last : Option Completed} {items : List Event} {r : Outcome} → Items p t last items → GoesOn last → IsStop p r → Body p t items r
+  pub data Body (p : LinkedProgram) (t : ℕ) (M : Maker) : M.State → List Event → Outcome → M.State → Type 0 where
+    stops : {s u z : M.State} {last : Option Completed} {items : List Event} {r : Outcome} → ItemsOf p t M s last items u → GoesOn last → IsStop p r → M.stops u last r z → Body p t M s items r z
     -- an active use in it was ended by the machine
-    stops_ended : {items : List Event} {c e : ClassId} → Items p t (Some (completed c (Ended e))) items → Body p t items (Ended e)
+    stops_ended : {s u z : M.State} {items : List Event} {c e : ClassId} → ItemsOf p t M s (Some (completed c (Ended e))) items u → M.stops u (Some (completed c (Ended e))) (Ended e) z → Body p t M s items (Ended e) z
 
 -- what a thread of main class m does: the procedure for m, and then a body if that was normal
-pub data ThreadWord (p : LinkedProgram) (t : ℕ) : ClassId → List Event → Type 0 where
-  ran : {m : ClassId} {w body : List Event} {r : Outcome} → ProcedureWord p t m w Normal → Body p t body r → ThreadWord p t m (w ++ body)
-  threw : {m : ClassId} {w : List Event} {e : ClassId} → ProcedureWord p t m w (Abrupt e) → ThreadWord p t m w
-  was_ended : {m : ClassId} {w : List Event} {e : ClassId} → ProcedureWord p t m w (Ended e) → ThreadWord p t m w
+pub data ThreadWordOf (p : LinkedProgram) (t : ℕ) (M : Maker) : M.State → ClassId → List Event → M.State → Type 0 where
+  ran : {s u v z : M.State} {m : ClassId} {w body : List Event} {r : Outcome} → Word p t M s m w Normal u → M.enters u m v → Body p t M v body r z → ThreadWordOf p t M s m (w ++ body) z
+  threw : {s z : M.State} {m : ClassId} {w : List Event} {e : ClassId} → Word p t M s m w (Abrupt e) z → ThreadWordOf p t M s m w z
+  was_ended : {s z : M.State} {m : ClassId} {w : List Event} {e : ClassId} → Word p t M s m w (Ended e) z → ThreadWordOf p t M s m w z
+
+-- what makes any body
+abbrev pub free : Maker
+free = record {
+  State = Unit {0};
+  starts = λ s c z. Unit {0};
+  enters = λ s c z. Unit {0};
+  asks = λ s last c z. Unit {0};
+  uses = λ s c k z. Unit {0};
+  prints = λ s last text z. Unit {0};
+  stops = λ s last r z. Unit {0};
+  replaces = λ s thrown e z. Unit {0};
+}
+
+-- the procedure for c by t, whatever its bodies do
+abbrev pub ProcedureWord : LinkedProgram → ℕ → ClassId → List Event → Outcome → Type 0
+ProcedureWord p t c events r = Word p t free tt c events r tt
+
+abbrev pub Items : LinkedProgram → ℕ → Option Completed → List Event → Type 0
+Items p t last events = ItemsOf p t free tt last events tt
+
+abbrev pub ThreadWord : LinkedProgram → ℕ → ClassId → List Event → Type 0
+ThreadWord p t m events = ThreadWordOf p t free tt m events tt
