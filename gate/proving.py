@@ -95,20 +95,19 @@ class Gate:
                     if not tests:
                         gate.store.bring_back(self)
                     return 0
-                over = ["--incremental", gate.kept(self)]
                 os.makedirs(gate.kept(self), exist_ok=True)
-                if tests:
-                    to = f"out/{self.name}_tests"
-                    words = [*self.words(flags, tests=True, keeps=False), *over, "--toolchain", f"{rt.KIT}/toolchain"]
-                    status = self.prove(["build", *words, "--backend", "llvm", "-o", f"{to}.o"])
-                    if not status and os.path.getsize(f"{self.folder}/{to}.o"):
-                        status = self.link(f"{to}.o", to)
+                words = [*self.words(flags, tests=tests, keeps=False), "--incremental", gate.kept(self)]
+                if not tests and self.makes_rlib():
+                    shutil.rmtree(os.path.dirname(self.rlib), ignore_errors=True)
+                    os.makedirs(os.path.dirname(self.rlib))
+                    return self.prove(["build", *words, "-o", self.rlib])
+                words += ["--toolchain", f"{rt.KIT}/toolchain"]
+                to = f"out/{self.name}{'_tests' if tests else ''}"
+                status = self.prove(["build", *words, "--backend", "llvm", "-o", f"{to}.o"])
+                if status or not os.path.getsize(f"{self.folder}/{to}.o"):
                     return status
-                if self.is_program or self.is_static:
-                    return super().ci(flags, tests)
-                shutil.rmtree(os.path.dirname(self.rlib), ignore_errors=True)
-                os.makedirs(os.path.dirname(self.rlib))
-                return self.prove(["build", *self.words(flags, keeps=False), *over, "-o", self.rlib])
+                status = self.link(f"{to}.o", to)
+                return status if status or tests else self.compile_by("rattle", words, to)
 
         return Crate
 
