@@ -62,7 +62,7 @@ IsStop p (Abrupt e) = IsThrowable p e
 IsStop p (Ended e) = IsMachineError p e
 
 -- What makes bodies: its states, and its steps from one to the next. A step stands for all that is run up to it without
--- an event. Each but the first two is told the procedure that was completed last, if nothing was done since.
+-- an event. An active use, a print and an end are told the procedure that was completed last, if nothing was done since.
 pub record Maker : Type 1 where
   pub State : Type 0
   -- the initializer of a class begins
