@@ -21,10 +21,10 @@ fn refuses(rt: &impl Abort, alloc: Global, program: &Program) -> Result<(), Fail
     let next = procedure.advance(
         alloc,
         program,
-        Answer::Decided(Decision::Wait { first: true }),
+        Answer::Decided(Decision::Waits { first: true }),
     )?;
     assert_eq!(rt; next, Next::Look(CLASS));
-    let next = procedure.advance(alloc, program, Answer::Decided(Decision::Refused))?;
+    let next = procedure.advance(alloc, program, Answer::Decided(Decision::FindsErroneous))?;
     assert_eq!(rt; next, Next::Idle);
     let refused = Outcome::Abrupt(program.built_in(BuiltIn::NoClassDefFoundError));
     assert_eq!(rt;
@@ -67,7 +67,7 @@ fn waits_and_gives_up(rt: &impl Abort, alloc: Global, program: &Program) -> Resu
     let mut procedure = Procedure::new(alloc);
     let error = program.built_in(BuiltIn::InternalError);
     procedure.request(CLASS)?;
-    let waits = Answer::Decided(Decision::Wait { first: false });
+    let waits = Answer::Decided(Decision::Waits { first: false });
     assert_eq!(rt;
         procedure.advance(alloc, program, waits)?,
         Next::Look(CLASS)
@@ -97,7 +97,7 @@ fn gives_up_at_a_look(rt: HostRuntime) -> Result<(), Fail> {
 fn runs_a_body(rt: &impl Abort, alloc: Global, program: &Program) -> Result<(), Fail> {
     let mut procedure = Procedure::new(alloc);
     procedure.request(CLASS)?;
-    let next = procedure.advance(alloc, program, Answer::Decided(Decision::Begin))?;
+    let next = procedure.advance(alloc, program, Answer::Decided(Decision::Begins))?;
     assert_eq!(rt; next, Next::Body(CLASS));
     assert!(rt; !procedure.is_running());
     if let Next::Body(_) = procedure.next() {
@@ -112,9 +112,9 @@ fn runs_a_body(rt: &impl Abort, alloc: Global, program: &Program) -> Result<(), 
 fn throws(rt: &impl Abort, alloc: Global, program: &Program) -> Result<(), Fail> {
     let mut procedure = Procedure::new(alloc);
     procedure.request(CLASS)?;
-    procedure.advance(alloc, program, Answer::Decided(Decision::Begin))?;
+    procedure.advance(alloc, program, Answer::Decided(Decision::Begins))?;
     if let Next::Body(_) = procedure.next() {
-        procedure.end_body(Some(ERROR));
+        procedure.end_body(Outcome::Abrupt(ERROR));
     }
     assert_eq!(rt; procedure.next(), Next::End(CLASS, Ending::Fails(ERROR)));
     Ok(())

@@ -34,15 +34,15 @@ fn finds(
 }
 
 const BESIDE_THE_OWNER: [(usize, Decision); 3] = [
-    (0, Decision::Recursive),
-    (1, Decision::Wait { first: true }),
-    (1, Decision::Wait { first: false }),
+    (0, Decision::Recurs),
+    (1, Decision::Waits { first: true }),
+    (1, Decision::Waits { first: false }),
 ];
 
 fn completes(rt: &impl Abort, record: &mut ClassRecord) -> Result<(), Fail> {
     assert_eq!(rt; record.label(), Label::Prepared);
     assert_eq!(rt; record.class(), CLASS);
-    finds(rt, record, &[(0, Decision::Begin)])?;
+    finds(rt, record, &[(0, Decision::Begins)])?;
     assert_eq!(rt; record.owner(), Some(0));
     finds(rt, record, &BESIDE_THE_OWNER)?;
     let Label::InProgress(0) = record.label() else {
@@ -50,7 +50,7 @@ fn completes(rt: &impl Abort, record: &mut ClassRecord) -> Result<(), Fail> {
     };
     record.complete(0);
     assert_eq!(rt; record.label(), Label::Initialized);
-    finds(rt, record, &[(1, Decision::Already)])?;
+    finds(rt, record, &[(1, Decision::FindsInitialized)])?;
     assert_eq!(rt; record.owner(), None);
     assert_eq!(rt; record.failure(), None);
     Ok(())
@@ -77,7 +77,7 @@ fn completes_for_all_threads(rt: HostRuntime) -> Result<(), Fail> {
 }
 
 fn fails(rt: &impl Abort, record: &mut ClassRecord, by_super: bool) -> Result<(), Fail> {
-    finds(rt, record, &[(3, Decision::Begin)])?;
+    finds(rt, record, &[(3, Decision::Begins)])?;
     let Label::InProgress(3) = record.label() else {
         return Err(Fail::from("not in progress"));
     };
@@ -91,7 +91,7 @@ fn fails(rt: &impl Abort, record: &mut ClassRecord, by_super: bool) -> Result<()
     finds(
         rt,
         record,
-        &[(3, Decision::Refused), (0, Decision::Refused)],
+        &[(3, Decision::FindsErroneous), (0, Decision::FindsErroneous)],
     )?;
     assert_eq!(rt; record.history().len(), 4);
     Ok(())

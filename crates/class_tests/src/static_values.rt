@@ -86,7 +86,7 @@ fn begins_with_constants(
     record: &mut ClassRecord,
 ) -> Result<(), Fail> {
     holds(rt, record, &DEFAULTS);
-    assert_eq!(rt; record.enter(0)?, Decision::Begin);
+    assert_eq!(rt; record.enter(0)?, Decision::Begins);
     reads(rt, record, &NARROWED)?;
     assert!(rt; write_trace(alloc, program, record.history())?.as_slice() == READS);
     Ok(())
@@ -101,9 +101,9 @@ fn narrowed_constants(rt: HostRuntime) -> Result<(), Fail> {
 }
 
 fn reads_within_step_7(rt: &impl Abort, record: &mut ClassRecord) -> Result<(), Fail> {
-    assert_eq!(rt; record.enter(0)?, Decision::Begin);
+    assert_eq!(rt; record.enter(0)?, Decision::Begins);
     for (place, value) in [Value::Int(5), Value::Int(0)].iter().enumerate() {
-        assert_eq!(rt; record.enter(0)?, Decision::Recursive);
+        assert_eq!(rt; record.enter(0)?, Decision::Recurs);
         assert_eq!(rt; read(record, place)?, *value);
     }
     assert!(rt; record.history().get(2) == Some(&get(0, Value::Int(5))));
@@ -119,7 +119,7 @@ fn constants_before_supers(rt: HostRuntime) -> Result<(), Fail> {
 }
 
 fn writes(rt: &impl Abort, record: &mut ClassRecord) -> Result<(), Fail> {
-    assert_eq!(rt; record.enter(0)?, Decision::Begin);
+    assert_eq!(rt; record.enter(0)?, Decision::Begins);
     write(record, 0, Value::Int(-9))?;
     write(record, 1, Value::Int(32768))?;
     reads(rt, record, &[Value::Int(-9), Value::Int(-32768)])?;
