@@ -14,7 +14,8 @@ use std::alloc::{AllocError, Global};
 fn push_row(list: &mut Vec<u8>, name: &[u8], text: &[u8]) -> Result<(), AllocError> {
     list.extend_from_slice(name)?;
     list.extend_from_slice(text)?;
-    list.extend_from_slice(b"\n")
+    list.push(b'\n')?;
+    Ok(())
 }
 
 fn push_token(alloc: Global, list: &mut Vec<u8>, token: &Token<'_>) -> Result<(), AllocError> {
