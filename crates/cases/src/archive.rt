@@ -1,0 +1,190 @@
+//! Cases as text: the form of the files in data/.
+//!
+//! A file is UTF-8 text, an archive of parts. What stands before the first head is a comment.
+//!
+//! - A line `-- TEXT --` is a head. The lines after it, up to the next head, are its body, each with its line feed.
+//! - A line `== TEXT ==` is a head too. It begins a group of cases and says why they are answered so, with the
+//!   section of the standard where there is one. What stands in its body is a comment.
+//! - An empty line directly before a `== ==` head belongs to no body. Any other empty line is one of the body.
+//!
+//! In a body `«` and `»` spell what a text editor doesn't show:
+//!
+//! - `«0d»` and `«ff 01»` are these bytes, in hexadecimal digits. `«` itself is spelled `«c2 ab»`.
+//! - `«»` at the end of a line takes away the line feed after it.
+//! - `«300 times ab»` is `ab` 300 times. In what is repeated, `#` is the number of the repeat, from 0, and `¶` a
+//!   line feed.
+
+use std::alloc::{AllocError, AllocFailed, Global};
+
+/// A head with its body.
+#[derive(Drop)]
+pub(crate) struct Part {
+    /// The text of the head, without its marks.
+    pub(crate) head: Vec<u8>,
+    /// Whether the head is a `== ==`.
+    pub(crate) is_group: bool,
+    /// The bytes that the body spells.
+    pub(crate) body: Vec<u8>,
+    /// The number of the head's line, from 1.
+    pub(crate) line: usize,
+}
+
+/// The parts of a file, in their order.
+#[derive(Drop)]
+pub(crate) struct Archive {
+    pub(crate) parts: Vec<Part>,
+}
+
+/// Why a file is no archive.
+#[derive(Drop)]
+pub(crate) enum ArchiveFault {
+    /// What stands in `«»` in this line is of no known form, or the file isn't UTF-8 (line 0).
+    Escape { line: usize },
+    /// Out of memory.
+    NoMemory,
+}
+
+impl From<AllocError> for ArchiveFault {
+    fn from(_e: AllocError) -> Self {
+        ArchiveFault::NoMemory
+    }
+}
+
+impl<T: Drop> From<AllocFailed<T>> for ArchiveFault {
+    fn from(_e: AllocFailed<T>) -> Self {
+        ArchiveFault::NoMemory
+    }
+}
+
+/// The text of a head, and whether it begins a group.
+fn head_of(line: &str) -> Option<(&str, bool)> {
+    if let Some(text) = line.strip_prefix("-- ") {
+        return Some((text.strip_suffix(" --")?, false));
+    }
+    let text = line.strip_prefix("== ")?;
+    Some((text.strip_suffix(" ==")?, true))
+}
+
+/// Adds the bytes that hexadecimal digits spell, or answers that they spell none.
+fn push_bytes(body: &mut Vec<u8>, digits: &str) -> Result<bool, AllocError> {
+    for word in digits.split_whitespace() {
+        match u8::from_str_radix(word, 16) {
+            Ok(byte) => body.push(byte)?,
+            Err(_) => return Ok(false),
+        }
+    }
+    Ok(true)
+}
+
+/// Adds a text so many times, with the number of the repeat for `#` and a line feed for `¶`.
+fn push_times(
+    alloc: Global,
+    body: &mut Vec<u8>,
+    count: usize,
+    text: &str,
+) -> Result<(), AllocError> {
+    let text = text.replace(alloc, '¶', "\n")?;
+    for number in 0..count {
+        let number = format!(in alloc; "{number}")?;
+        let copy = text.replace(alloc, '#', number.as_str())?;
+        body.extend_from_slice(copy.as_bytes())?;
+    }
+    Ok(())
+}
+
+/// Adds what stands in `«»`, or answers that it is of no known form.
+fn push_escape(alloc: Global, body: &mut Vec<u8>, escape: &str) -> Result<bool, AllocError> {
+    let Some((count, text)) = escape.split_once(" times ") else {
+        return push_bytes(body, escape);
+    };
+    let Ok(count) = count.parse::<usize>() else {
+        return Ok(false);
+    };
+    push_times(alloc, body, count, text)?;
+    Ok(true)
+}
+
+/// Adds what stands behind a `«`, or answers that it is of no known form.
+fn push_piece(alloc: Global, body: &mut Vec<u8>, piece: &str) -> Result<bool, AllocError> {
+    let Some((escape, after)) = piece.split_once('»') else {
+        return Ok(false);
+    };
+    if !push_escape(alloc, body, escape)? {
+        return Ok(false);
+    }
+    body.extend_from_slice(after.as_bytes())?;
+    Ok(true)
+}
+
+/// Adds what a line of a body spells, or answers that an escape is of no known form.
+fn push_line(alloc: Global, body: &mut Vec<u8>, line: &str) -> Result<bool, AllocError> {
+    let mut is_first = true;
+    for piece in line.split('«') {
+        if is_first {
+            body.extend_from_slice(piece.as_bytes())?;
+        } else if !push_piece(alloc, body, piece)? {
+            return Ok(false);
+        }
+        is_first = false;
+    }
+    if !line.ends_with("«»") {
+        body.push(b'\n')?;
+    }
+    Ok(true)
+}
+
+/// Adds a part with an empty body.
+fn push_part(
+    alloc: Global,
+    parts: &mut Vec<Part>,
+    head: &str,
+    is_group: bool,
+    line: usize,
+) -> Result<(), AllocError> {
+    let part = Part {
+        head: Vec::from_slice(alloc, head.as_bytes())?,
+        is_group,
+        body: Vec::new(alloc),
+        line,
+    };
+    parts.push(part)?;
+    Ok(())
+}
+
+/// Adds a line to the last part's body, or answers that an escape is of no known form.
+fn push_body(alloc: Global, parts: &mut Vec<Part>, line: &str) -> Result<bool, AllocError> {
+    match parts.last_mut() {
+        Some(part) => push_line(alloc, &mut part.body, line),
+        None => Ok(true),
+    }
+}
+
+/// Takes the empty line before a group from the last part's body.
+fn drop_empty_line(parts: &mut Vec<Part>) {
+    if let Some(part) = parts.last_mut() {
+        let _ = part.body.pop();
+    }
+}
+
+/// The parts of a file.
+pub(crate) fn read_archive(alloc: Global, bytes: &[u8]) -> Result<Archive, ArchiveFault> {
+    let Ok(text) = std::str::from_utf8(bytes) else {
+        return Err(ArchiveFault::Escape { line: 0 });
+    };
+    let mut parts = Vec::new(alloc);
+    let mut number: usize = 0;
+    let mut is_after_empty = false;
+    for line in text.split_terminator('\n') {
+        number = number.saturating_add(1);
+        if let Some((head, is_group)) = head_of(line) {
+            if is_group && is_after_empty {
+                drop_empty_line(&mut parts);
+            }
+            push_part(alloc, &mut parts, head, is_group, number)?;
+        } else if !push_body(alloc, &mut parts, line)? {
+            return Err(ArchiveFault::Escape { line: number });
+        }
+        is_after_empty = line.is_empty();
+    }
+    Ok(Archive { parts })
+}

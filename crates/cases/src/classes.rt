@@ -1,0 +1,14 @@
+//! Cases of classes.
+
+use crate::archive::Archive;
+use crate::report::Report;
+use std::alloc::{AllocError, Global};
+
+/// Judges the cases of a file.
+pub(crate) fn judge(
+    alloc: Global,
+    archive: &Archive,
+    report: &mut Report,
+) -> Result<(), AllocError> {
+    Ok(())
+}

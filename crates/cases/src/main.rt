@@ -1,0 +1,86 @@
+//! Judges the cases of files: `cases FILE..`. See [`archive`] for their form. A file's folder says what its cases
+//! are: files in the Jasmin form (`jasmin`), classes (`classes`), and a file `NAME.txtar` is a whole command line
+//! with its files (`programs`).
+//!
+//! What each file has, and each case that failed, is told on standard output. The exit status is 0 where all files
+//! could be read and all cases passed, else 1.
+#![tactic(auto)]
+
+mod archive;
+mod classes;
+mod jasmin;
+mod programs;
+mod report;
+mod words;
+
+use crate::archive::{Archive, ArchiveFault, read_archive};
+use crate::report::Report;
+use std::alloc::{AllocError, Global};
+use std::io::Write;
+use std::process::ExitCode;
+use std::{env, fs, io};
+
+/// Judges the cases of a file.
+fn judge(
+    alloc: Global,
+    file: &str,
+    archive: &Archive,
+    report: &mut Report,
+) -> Result<(), AllocError> {
+    if file.ends_with(".txtar") {
+        programs::judge(alloc, archive, report)
+    } else if file.contains("classes/") {
+        classes::judge(alloc, archive, report)
+    } else if file.contains("jasmin/") {
+        jasmin::judge(alloc, archive, report)
+    } else {
+        report.refuses("not in a folder of cases")
+    }
+}
+
+/// Judges the cases of a file with these bytes.
+fn judge_bytes(
+    alloc: Global,
+    file: &str,
+    bytes: &[u8],
+    report: &mut Report,
+) -> Result<(), AllocError> {
+    match read_archive(alloc, bytes) {
+        Ok(archive) => judge(alloc, file, &archive, report),
+        Err(ArchiveFault::NoMemory) => report.refuses("out of memory"),
+        Err(ArchiveFault::Escape { line }) => {
+            let reason = format!(in alloc; "a bad escape in line {line}")?;
+            report.refuses(reason.as_str())
+        }
+    }
+}
+
+/// Judges the cases of a file of this name.
+fn judge_file(rt: &HostRuntime, file: &str, report: &mut Report) -> Result<(), AllocError> {
+    report.begins(file)?;
+    match fs::read(rt, file) {
+        Ok(bytes) => judge_bytes(rt.alloc(), file, bytes.as_slice(), report)?,
+        Err(_) => report.refuses("can't be read")?,
+    }
+    report.ends()
+}
+
+/// Judges the files that the command line names, and answers whether all cases passed.
+fn judge_files(rt: &HostRuntime) -> io::Result<bool> {
+    let alloc = rt.alloc();
+    let args: Vec<String> = env::args(rt)?.collect(alloc)?;
+    let mut report = Report::new(alloc);
+    for file in args.iter().skip(1) {
+        judge_file(rt, file.as_str(), &mut report)?;
+    }
+    let is_good = report.closes()?;
+    rt.stdout().write_all(report.text())?;
+    Ok(is_good)
+}
+
+fn main(rt: HostRuntime) -> ExitCode {
+    match judge_files(&rt) {
+        Ok(true) => ExitCode::from(0),
+        _ => ExitCode::from(1),
+    }
+}

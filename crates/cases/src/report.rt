@@ -1,0 +1,125 @@
+//! What came of the cases.
+
+use std::alloc::{AllocError, Global};
+
+/// Counts the cases that passed and failed, and says for each that failed what was wanted and what came.
+#[derive(Drop)]
+pub(crate) struct Report {
+    alloc: Global,
+    /// The name of the file whose cases are judged.
+    file: Vec<u8>,
+    /// The cases of that file.
+    cases: usize,
+    passed: usize,
+    failed: usize,
+    text: Vec<u8>,
+}
+
+/// Adds a text: after a space where it is one line, else as lines of their own, further in.
+fn push_block(text: &mut Vec<u8>, block: &[u8]) -> Result<(), AllocError> {
+    if !block.contains(&b'\n') {
+        text.push(b' ')?;
+        return text.extend_from_slice(block);
+    }
+    text.extend_from_slice(b"\n    ")?;
+    for byte in block {
+        text.push(*byte)?;
+        if *byte == b'\n' {
+            text.extend_from_slice(b"    ")?;
+        }
+    }
+    text.push(b'\n')?;
+    Ok(())
+}
+
+impl Report {
+    /// A report of no case.
+    pub(crate) fn new(alloc: Global) -> Report {
+        Report {
+            alloc,
+            file: Vec::new(alloc),
+            cases: 0,
+            passed: 0,
+            failed: 0,
+            text: Vec::new(alloc),
+        }
+    }
+
+    /// Begins with the cases of a file.
+    pub(crate) fn begins(&mut self, file: &str) -> Result<(), AllocError> {
+        self.file.clear();
+        self.cases = 0;
+        self.file.extend_from_slice(file.as_bytes())
+    }
+
+    /// Tells how many cases the file has.
+    pub(crate) fn ends(&mut self) -> Result<(), AllocError> {
+        let cases = self.cases;
+        let count = format!(in self.alloc; ": {cases} cases\n")?;
+        self.text.extend_from_slice(self.file.as_slice())?;
+        self.text.extend_from_slice(count.as_bytes())
+    }
+
+    /// A case passed.
+    pub(crate) fn passes(&mut self) {
+        self.cases = self.cases.saturating_add(1);
+        self.passed = self.passed.saturating_add(1);
+    }
+
+    /// The case at this line of the file failed: another answer was wanted than the one that came.
+    pub(crate) fn fails(
+        &mut self,
+        line: usize,
+        wanted: &[u8],
+        came: &[u8],
+    ) -> Result<(), AllocError> {
+        self.cases = self.cases.saturating_add(1);
+        self.failed = self.failed.saturating_add(1);
+        let at = format!(in self.alloc; ":{line}: wanted")?;
+        self.text.extend_from_slice(self.file.as_slice())?;
+        self.text.extend_from_slice(at.as_bytes())?;
+        push_block(&mut self.text, wanted)?;
+        self.text.extend_from_slice(b", came")?;
+        push_block(&mut self.text, came)?;
+        self.text.push(b'\n')?;
+        Ok(())
+    }
+
+    /// The case at this line of the file passed where these answers are the same.
+    pub(crate) fn judges(
+        &mut self,
+        line: usize,
+        wanted: &[u8],
+        came: &[u8],
+    ) -> Result<(), AllocError> {
+        if wanted == came {
+            self.passes();
+            return Ok(());
+        }
+        self.fails(line, wanted, came)
+    }
+
+    /// The file has no cases that can be judged, for this reason.
+    pub(crate) fn refuses(&mut self, reason: &str) -> Result<(), AllocError> {
+        self.failed = self.failed.saturating_add(1);
+        self.text.extend_from_slice(self.file.as_slice())?;
+        self.text.extend_from_slice(b": ")?;
+        self.text.extend_from_slice(reason.as_bytes())?;
+        self.text.push(b'\n')?;
+        Ok(())
+    }
+
+    /// Tells how many cases passed and failed, and answers whether all passed.
+    pub(crate) fn closes(&mut self) -> Result<bool, AllocError> {
+        let passed = self.passed;
+        let failed = self.failed;
+        let counts = format!(in self.alloc; "{passed} passed, {failed} failed\n")?;
+        self.text.extend_from_slice(counts.as_bytes())?;
+        Ok(failed == 0)
+    }
+
+    /// What the report says.
+    pub(crate) fn text(&self) -> &[u8] {
+        self.text.as_slice()
+    }
+}
