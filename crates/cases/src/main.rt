@@ -11,6 +11,7 @@ mod classes;
 mod jasmin;
 mod programs;
 mod report;
+mod texts;
 
 use crate::archive::{Archive, ArchiveFault, read_archive};
 use crate::report::Report;
