@@ -11,7 +11,7 @@ mod classes;
 mod jasmin;
 mod programs;
 mod report;
-mod texts;
+mod words;
 
 use crate::archive::{Archive, ArchiveFault, read_archive};
 use crate::report::Report;

@@ -14,9 +14,11 @@
 //!
 //! A file that no `left` names holds after the run what it held before, and the run makes no file but those.
 
+mod texts;
+
 use crate::archive::{Archive, Part};
+use crate::programs::texts::Texts;
 use crate::report::Report;
-use crate::texts::Texts;
 use cli::serve;
 use std::alloc::{AllocError, Global};
 
