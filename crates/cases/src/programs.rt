@@ -126,7 +126,7 @@ fn judge_case(
     files: &mut Texts,
     report: &mut Report,
 ) -> Result<(), AllocError> {
-    if command.head.as_slice() != b"command" {
+    if command.head.as_slice() != b"command".as_slice() {
         return report.fails(command.line, b"command", command.head.as_slice());
     }
     for part in parts {
@@ -147,7 +147,7 @@ pub(crate) fn judge(
     let mut files = Texts::new(alloc);
     for case in archive
         .parts
-        .chunk_by(|_, part| part.head.as_slice() != b"command")
+        .chunk_by(|_, part| part.head.as_slice() != b"command".as_slice())
     {
         if let Some((command, parts)) = case.split_first() {
             judge_case(alloc, command, parts, &mut files, report)?;

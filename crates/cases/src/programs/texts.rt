@@ -49,11 +49,7 @@ impl Texts {
     }
 
     /// Writes each text that isn't among the others, with its name.
-    pub(crate) fn write_others(
-        &self,
-        others: &Texts,
-        out: &mut Vec<u8>,
-    ) -> Result<(), AllocError> {
+    pub(crate) fn write_others(&self, others: &Texts, out: &mut Vec<u8>) -> Result<(), AllocError> {
         for (name, text) in self.by_name.iter() {
             if !others.holds(name.as_str(), text.as_slice()) {
                 out.extend_from_slice(b"-- ")?;
