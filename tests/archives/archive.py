@@ -51,11 +51,11 @@ def cases_of(text):
             cases.append((number, words, {}, {}))
             continue
         if not cases:
-            raise ValueError(f"line {number}: '{head}' stands before the first command")
-        _, _, files, told = cases[-1]
+            raise ValueError(f"line {number}: '{head}' comes before the first command")
+        _, _, files, others = cases[-1]
         file = FILE.fullmatch(head)
         if not file:
-            told[head] = body
+            others[head] = body
         elif file[1]:
             for each in range(int(file[1])):
                 files[file[2].replace("#", str(each))] = body.replace(b"#", b"%d" % each)
@@ -117,18 +117,15 @@ def run(program, words, folder):
     return {"stdout": came.stdout, "stderr": came.stderr, "status": status} | left_in(folder)
 
 
-def faults_of(program, text):
-    """Each difference between what an archive says and what comes: the command's line, the part, both bodies."""
-    faults = []
-    with tempfile.TemporaryDirectory() as place:
-        folder = Path(place)
-        for number, words, files, told in cases_of(text):
-            for name, content in files.items():
-                (folder / name).parent.mkdir(parents=True, exist_ok=True)
-                (folder / name).write_bytes(content)
-            wanted = {"stdout": b"", "stderr": b"", "status": b"0\n"} | left_in(folder) | told
+def judged(program, text):
+    """For each case of an archive the number of its command's line, and what differs: part, what it says, what came."""
+    with tempfile.TemporaryDirectory() as name:
+        folder = Path(name)
+        for number, words, files, others in cases_of(text):
+            for file, content in files.items():
+                (folder / file).parent.mkdir(parents=True, exist_ok=True)
+                (folder / file).write_bytes(content)
+            wanted = {"stdout": b"", "stderr": b"", "status": b"0\n"} | left_in(folder) | others
             came = run(program, words, folder)
-            for part in sorted(wanted.keys() | came.keys()):
-                if wanted.get(part) != came.get(part):
-                    faults.append((number, part, wanted.get(part), came.get(part)))
-    return faults
+            answers = [(part, wanted.get(part), came.get(part)) for part in sorted(wanted.keys() | came.keys())]
+            yield number, [answer for answer in answers if answer[1] != answer[2]]

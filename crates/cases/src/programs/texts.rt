@@ -8,7 +8,7 @@ use std::collections::BTreeMap;
 
 /// Texts by name.
 ///
-/// As files they have the folders that their names tell: none can be made in a folder that no file is in.
+/// As files they lie in the folders of their names: a file can't be made in a folder without files.
 #[derive(Drop)]
 pub(crate) struct Texts {
     alloc: Global,
@@ -24,7 +24,7 @@ impl Texts {
         }
     }
 
-    /// Adds a text, in the place of one that has its name.
+    /// Adds a text, or replaces the one of the same name.
     pub(crate) fn put(&mut self, name: &str, text: &[u8]) -> Result<(), AllocError> {
         let name = String::from_str(self.alloc, name)?;
         let text = Vec::from_slice(self.alloc, text)?;
@@ -32,7 +32,7 @@ impl Texts {
         Ok(())
     }
 
-    /// Adds all texts of others, under their names behind a word.
+    /// Adds all texts of others, with this word before their names.
     pub(crate) fn put_all(&mut self, word: &str, others: &Texts) -> Result<(), AllocError> {
         for (name, text) in others.by_name.iter() {
             let name = format!(in self.alloc; "{word} {name}")?;
