@@ -1,8 +1,142 @@
-//! Cases of whole command lines.
+//! Cases of whole command lines, each run over files in memory.
+//!
+//! A case is a command, and the parts after it up to the next command. The cases of a file follow one another over the
+//! same files.
+//!
+//! | Head | Body |
+//! |---|---|
+//! | `command` | the words of the command line, with white space between them; `''` is an empty word |
+//! | `file NAME` | a file that is made before the run |
+//! | `N times file NAME` | N such files: `#` in the name and in the body is the number of the file, from 0 |
+//! | `stdout`, `stderr` | what the run writes; nothing where the part is absent |
+//! | `status` | the exit status; 0 where the part is absent |
+//! | `left NAME` | what the file holds after the run |
+//!
+//! A file that no `left` names holds after the run what it held before, and the run makes no file but those.
 
-use crate::archive::Archive;
+mod texts;
+
+use crate::archive::{Archive, Part};
+use crate::programs::texts::Texts;
 use crate::report::Report;
+use cli::serve;
 use std::alloc::{AllocError, Global};
+
+/// The text of a part's head.
+fn head_of(part: &Part) -> &str {
+    std::str::from_utf8(part.head.as_slice()).unwrap_or("")
+}
+
+/// Makes a file for each number below this one.
+fn put_numbered(
+    alloc: Global,
+    count: usize,
+    name: &str,
+    body: &str,
+    files: &mut Texts,
+) -> Result<(), AllocError> {
+    for number in 0..count {
+        let number = format!(in alloc; "{number}")?;
+        let name = name.replace(alloc, "#", number.as_str())?;
+        let body = body.replace(alloc, "#", number.as_str())?;
+        files.put(name.as_str(), body.as_bytes())?;
+    }
+    Ok(())
+}
+
+/// Whether a part has files that are made.
+fn has_files(part: &Part) -> bool {
+    let head = head_of(part);
+    head.starts_with("file ") || head.contains(" times file ")
+}
+
+/// Makes the files that a part has.
+fn put_files(alloc: Global, part: &Part, files: &mut Texts) -> Result<(), AllocError> {
+    let head = head_of(part);
+    if let Some(name) = head.strip_prefix("file ") {
+        return files.put(name, part.body.as_slice());
+    }
+    let Some((count, name)) = head.split_once(" times file ") else {
+        return Ok(());
+    };
+    let count = count.parse::<usize>().unwrap_or(0);
+    let body = std::str::from_utf8(part.body.as_slice()).unwrap_or("");
+    put_numbered(alloc, count, name, body, files)
+}
+
+/// What is to come of a run over these files, as the parts say.
+fn wanted_of(alloc: Global, parts: &[Part], files: &Texts) -> Result<Texts, AllocError> {
+    let mut wanted = Texts::new(alloc);
+    wanted.put("stdout", b"")?;
+    wanted.put("stderr", b"")?;
+    wanted.put("status", b"0\n")?;
+    wanted.put_all("left", files)?;
+    for part in parts {
+        if !has_files(part) {
+            wanted.put(head_of(part), part.body.as_slice())?;
+        }
+    }
+    Ok(wanted)
+}
+
+/// The words of a command line.
+fn words_of<'a>(alloc: Global, command: &'a str) -> Result<Vec<&'a str>, AllocError> {
+    let mut words = Vec::new(alloc);
+    for word in command.split_whitespace() {
+        words.push(if word == "''" { "" } else { word })?;
+    }
+    Ok(words)
+}
+
+/// Runs a command line over the files, and answers what came of it.
+fn run(alloc: Global, command: &str, files: &mut Texts) -> Result<Texts, AllocError> {
+    let words = words_of(alloc, command)?;
+    let mut out = Vec::new(alloc);
+    let mut err = Vec::new(alloc);
+    let status = serve(alloc, words.as_slice(), files, &mut out, &mut err);
+    let status = format!(in alloc; "{status}\n")?;
+    let mut came = Texts::new(alloc);
+    came.put("stdout", out.as_slice())?;
+    came.put("stderr", err.as_slice())?;
+    came.put("status", status.as_bytes())?;
+    came.put_all("left", files)?;
+    Ok(came)
+}
+
+/// Judges what came of a run.
+fn judge_run(
+    alloc: Global,
+    line: usize,
+    wanted: &Texts,
+    came: &Texts,
+    report: &mut Report,
+) -> Result<(), AllocError> {
+    let mut missing = Vec::new(alloc);
+    wanted.write_others(came, &mut missing)?;
+    let mut other = Vec::new(alloc);
+    came.write_others(wanted, &mut other)?;
+    report.judges(line, missing.as_slice(), other.as_slice())
+}
+
+/// Judges a case: its command and the parts after it.
+fn judge_case(
+    alloc: Global,
+    command: &Part,
+    parts: &[Part],
+    files: &mut Texts,
+    report: &mut Report,
+) -> Result<(), AllocError> {
+    if command.head.as_slice() != b"command".as_slice() {
+        return report.fails(command.line, b"command", command.head.as_slice());
+    }
+    for part in parts {
+        put_files(alloc, part, files)?;
+    }
+    let words = std::str::from_utf8(command.body.as_slice()).unwrap_or("");
+    let wanted = wanted_of(alloc, parts, files)?;
+    let came = run(alloc, words, files)?;
+    judge_run(alloc, command.line, &wanted, &came, report)
+}
 
 /// Judges the cases of a file.
 pub(crate) fn judge(
@@ -10,5 +144,14 @@ pub(crate) fn judge(
     archive: &Archive,
     report: &mut Report,
 ) -> Result<(), AllocError> {
+    let mut files = Texts::new(alloc);
+    for case in archive
+        .parts
+        .chunk_by(|_, part| part.head.as_slice() != b"command".as_slice())
+    {
+        if let Some((command, parts)) = case.split_first() {
+            judge_case(alloc, command, parts, &mut files, report)?;
+        }
+    }
     Ok(())
 }

@@ -24,10 +24,8 @@ pub use serving::serve;
 pub use words::{Asked, Run, parse};
 
 #[cfg(test)]
-mod fault_tests;
+mod refusal_tests;
 #[cfg(test)]
 mod sheet_tests;
-#[cfg(test)]
-mod test_files;
 #[cfg(test)]
 mod tests;

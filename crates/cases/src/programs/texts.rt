@@ -1,0 +1,101 @@
+//! Texts by name: files in memory, and what came of a run over them.
+
+ghost use Rattle.std.specs.Prelude.{◌≤◌, vec_len, IfOk};
+
+use cli::{Named, NamedFault};
+use std::alloc::{AllocError, Global};
+use std::collections::BTreeMap;
+
+/// Texts by name.
+///
+/// As files they lie in the folders of their names: a file can't be made in a folder without files.
+#[derive(Drop)]
+pub(crate) struct Texts {
+    alloc: Global,
+    by_name: BTreeMap<String, Vec<u8>>,
+}
+
+impl Texts {
+    /// No texts.
+    pub(crate) fn new(alloc: Global) -> Texts {
+        Texts {
+            alloc,
+            by_name: BTreeMap::new(alloc),
+        }
+    }
+
+    /// Adds a text, or replaces the one of the same name.
+    pub(crate) fn put(&mut self, name: &str, text: &[u8]) -> Result<(), AllocError> {
+        let name = String::from_str(self.alloc, name)?;
+        let text = Vec::from_slice(self.alloc, text)?;
+        self.by_name.insert(name, text)?;
+        Ok(())
+    }
+
+    /// Adds all texts of others, with this word before their names.
+    pub(crate) fn put_all(&mut self, word: &str, others: &Texts) -> Result<(), AllocError> {
+        for (name, text) in others.by_name.iter() {
+            let name = format!(in self.alloc; "{word} {name}")?;
+            self.put(name.as_str(), text.as_slice())?;
+        }
+        Ok(())
+    }
+
+    fn holds(&self, name: &str, text: &[u8]) -> bool {
+        match self.by_name.get(name) {
+            Some(held) => held.as_slice() == text,
+            None => false,
+        }
+    }
+
+    /// Writes each text that isn't among the others, with its name.
+    pub(crate) fn write_others(&self, others: &Texts, out: &mut Vec<u8>) -> Result<(), AllocError> {
+        for (name, text) in self.by_name.iter() {
+            if !others.holds(name.as_str(), text.as_slice()) {
+                out.extend_from_slice(b"-- ")?;
+                out.extend_from_slice(name.as_bytes())?;
+                out.extend_from_slice(b" --\n")?;
+                out.extend_from_slice(text.as_slice())?;
+            }
+        }
+        Ok(())
+    }
+
+    /// Whether a file of this name can be made.
+    fn has_folder_of(&self, name: &str) -> bool {
+        let Some((folder, _)) = name.rsplit_once('/') else {
+            return true;
+        };
+        for other in self.by_name.keys() {
+            if let Some(within) = other.as_str().strip_prefix(folder) {
+                if within.starts_with('/') {
+                    return true;
+                }
+            }
+        }
+        false
+    }
+}
+
+impl Named for Texts {
+    fn read(&mut self, alloc: Global, name: &str, most: usize) -> Result<Vec<u8>, NamedFault> {
+        let Some(text) = self.by_name.get(name) else {
+            return Err(NamedFault::Io);
+        };
+        let length = text.len().min(most);
+        match Vec::from_slice(alloc, &text[..length]) {
+            Ok(bytes) => Ok(bytes),
+            Err(_) => Err(NamedFault::Memory),
+        }
+    }
+
+    fn write(&mut self, name: &str, bytes: &[u8]) -> Result<(), NamedFault> {
+        if !self.has_folder_of(name) {
+            return Err(NamedFault::Io);
+        }
+        match self.put(name, bytes) {
+            Ok(()) => Ok(()),
+            Err(_) => Err(NamedFault::Memory),
+        }
+    }
+}

@@ -1,0 +1,115 @@
+//! What `serve` answers where a file or the output is refused in a way that no file on a disk shows for certain.
+
+ghost use Rattle.std.specs.Prelude.{◌≤◌, vec_len, IfOk};
+
+use crate::{Named, NamedFault, serve};
+use std::alloc::Global;
+use std::io;
+
+/// Files that each hold a class Solo, but for `None.j`, which isn't there. Memory is refused for reading `starved.j` and
+/// for writing `starved`, and `locked` can't be written.
+#[derive(Drop)]
+struct RefusingFiles {
+    is_written: bool,
+}
+
+impl Named for RefusingFiles {
+    fn read(&mut self, alloc: Global, name: &str, most: usize) -> Result<Vec<u8>, NamedFault> {
+        if name == "None.j" {
+            return Err(NamedFault::Io);
+        }
+        if name == "starved.j" {
+            return Err(NamedFault::Memory);
+        }
+        let text = b".class Solo".as_slice();
+        match Vec::from_slice(alloc, &text[..text.len().min(most)]) {
+            Ok(bytes) => Ok(bytes),
+            Err(_) => Err(NamedFault::Memory),
+        }
+    }
+
+    fn write(&mut self, name: &str, _bytes: &[u8]) -> Result<(), NamedFault> {
+        if name == "locked" {
+            return Err(NamedFault::Io);
+        }
+        if name == "starved" {
+            return Err(NamedFault::Memory);
+        }
+        self.is_written = true;
+        Ok(())
+    }
+}
+
+/// A writer that is full.
+#[derive(Drop)]
+struct Full;
+
+impl io::Write for Full {
+    fn write(&mut self, _bytes: &[u8]) -> io::Result<usize> {
+        Err(io::Error::from(io::ErrorKind::StorageFull))
+    }
+
+    fn flush(&mut self) -> io::Result<()> {
+        Err(io::Error::from(io::ErrorKind::StorageFull))
+    }
+}
+
+/// Whether these words, with this writer for the output, are answered by status 3 and this line, and no file is written.
+fn is_refused<O: io::Write>(alloc: Global, words: &[&str], out: &mut O, line: &[u8]) -> bool {
+    let mut files = RefusingFiles { is_written: false };
+    let mut err = Vec::new(alloc);
+    let status = serve(alloc, words, &mut files, out, &mut err);
+    status == 3 && err.as_slice() == line && !files.is_written
+}
+
+const BY_FILES: [(&[&str], &[u8]); 4] = [
+    (
+        &["jinit", "run", "--mains", "Solo", "starved.j", "None.j"],
+        b"memory\n",
+    ),
+    (&["jinit", "needs", "starved.j"], b"memory\n"),
+    (
+        &[
+            "jinit", "run", "--mains", "Solo", "--trace", "starved", "Solo.j",
+        ],
+        b"memory\n",
+    ),
+    (
+        &[
+            "jinit", "run", "--mains", "Solo", "--trace", "locked", "Solo.j",
+        ],
+        b"io: locked\n",
+    ),
+];
+
+#[test]
+fn refused_by_files(rt: HostRuntime) {
+    for (words, line) in BY_FILES {
+        let mut out = Vec::new(rt.alloc());
+        assert!(rt;
+            is_refused(rt.alloc(), words, &mut out, line),
+            "at {words:?}"
+        );
+        assert!(rt; out.is_empty(), "at {words:?}");
+    }
+}
+
+const WITH_OUTPUT: [&[&str]; 5] = [
+    &[
+        "jinit", "run", "--mains", "Solo", "--trace", "solo", "Solo.j",
+    ],
+    &["jinit", "needs", "Solo.j"],
+    &["jinit", "needs", "--help"],
+    &["jinit", "--help"],
+    &["jinit", "--version"],
+];
+
+#[test]
+fn refused_by_the_output(rt: HostRuntime) {
+    for words in WITH_OUTPUT {
+        assert!(rt;
+            is_refused(rt.alloc(), words, &mut Full, b"io: output\n"),
+            "at {words:?}"
+        );
+    }
+}
