@@ -1,4 +1,5 @@
-# Proves every crate from nothing, tries the edits that must fail, and runs the tests and the program.
+# Proves every crate, tries the edits that must fail, and runs the tests, the programs and their cases.
+# What an earlier run here passed is taken where nothing has changed, unless FLAGS is --from-nothing.
 .PHONY: test
 test:
-	@tests/run
+	@python3 gate/run.py $(FLAGS)

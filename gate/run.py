@@ -21,6 +21,7 @@ from tally import Tally, say
 
 ROOT = os.path.dirname(os.path.dirname(os.path.realpath(__file__)))
 PROGRAM = f"{ROOT}/crates/jinit/out/jinit"
+CASES = f"{ROOT}/crates/cases/out/cases"
 # A harmless edit, and the crate beside whose edits it is tried: it changes a function that calls edited ones.
 HARMLESS = f"{ROOT}/gate/harmless.edit", "descriptors"
 
@@ -39,13 +40,17 @@ def counted(tally, kind, words):
 
 
 def cases_of(tally):
-    """Counts the cases by the last line that their program wrote."""
+    """Counts the cases by what their program wrote, and shows those that failed."""
     try:
         with open(f"{ROOT}/crates/cases/out/stdout", encoding="utf-8", errors="replace") as it:
-            found = re.findall(r"^(\d+) passed, (\d+) failed$", it.read(), re.M)
+            wrote = it.read()
     except OSError:
-        found = []
-    tally.add("cases", *(map(int, found[-1]) if found else (0, 1)))
+        wrote = ""
+    found = re.findall(r"^(\d+) passed, (\d+) failed$", wrote, re.M)
+    passed, failed = map(int, found[-1]) if found else (0, 1)
+    if failed:
+        print(wrote or "cases: it wrote nothing")
+    tally.add("cases", passed, failed)
 
 
 def by_the_kit(tally):
@@ -78,6 +83,8 @@ def main(words):
     else:
         by_the_kit(tally)
     cases_of(tally)
+    if os.path.isfile(CASES):
+        counted(tally, "cases", ["tests/archives/run", "--cases", CASES])
     if os.path.isfile(PROGRAM):
         counted(tally, "archives", ["tests/archives/run", PROGRAM])
         if shutil.which("cc"):
