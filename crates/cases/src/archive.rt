@@ -76,34 +76,18 @@ fn push_bytes(body: &mut Vec<u8>, digits: &str) -> Result<bool, AllocError> {
     Ok(true)
 }
 
-/// Adds a text, with line feeds for `¶`.
-fn push_text(body: &mut Vec<u8>, text: &str) -> Result<(), AllocError> {
-    let mut is_first = true;
-    for line in text.split('¶') {
-        if !is_first {
-            body.push(b'\n')?;
-        }
-        body.extend_from_slice(line.as_bytes())?;
-        is_first = false;
-    }
-    Ok(())
-}
-
-/// Adds a text for the repeat of this number.
-fn push_repeat(
+/// Adds a text so many times, with the number of the repeat for `#` and a line feed for `¶`.
+fn push_times(
     alloc: Global,
     body: &mut Vec<u8>,
+    count: usize,
     text: &str,
-    number: usize,
 ) -> Result<(), AllocError> {
-    let number = format!(in alloc; "{number}")?;
-    let mut is_first = true;
-    for piece in text.split('#') {
-        if !is_first {
-            body.extend_from_slice(number.as_bytes())?;
-        }
-        push_text(body, piece)?;
-        is_first = false;
+    let text = text.replace(alloc, '¶', "\n")?;
+    for number in 0..count {
+        let number = format!(in alloc; "{number}")?;
+        let copy = text.replace(alloc, '#', number.as_str())?;
+        body.extend_from_slice(copy.as_bytes())?;
     }
     Ok(())
 }
@@ -116,9 +100,7 @@ fn push_escape(alloc: Global, body: &mut Vec<u8>, escape: &str) -> Result<bool, 
     let Ok(count) = count.parse::<usize>() else {
         return Ok(false);
     };
-    for number in 0..count {
-        push_repeat(alloc, body, text, number)?;
-    }
+    push_times(alloc, body, count, text)?;
     Ok(true)
 }
 

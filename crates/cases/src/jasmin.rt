@@ -1,8 +1,258 @@
-//! Cases of files in the Jasmin form.
+//! Cases of files in the Jasmin form. Their heads:
+//!
+//! - `-- J5 in line 3 --`: the body is a file of which this is the first fault, its kind and its line. Where the
+//!   head names no line, the fault is met in the first line of the case.
+//! - `-- read --`: the body is a file that is read. With `-- as --` after it, that body is the canonical text of the
+//!   class that is read, which is read as the same class.
+//! - `-- canonical --`: the body is a canonical text.
+//! - `-- words --` and heads of one word: see [`words`](crate::words).
+//! - `-- each: HEAD --`: each line of the body is a case with this head.
+//!
+//! `-- around --` has a file with three dots: from here on each case stands there, without its last line feed. A
+//! head `-- and around --` after it has one more, and each case is judged in each. `-- around as --` is the same
+//! for canonical texts.
 
-use crate::archive::Archive;
+use crate::archive::{Archive, Part};
 use crate::report::Report;
+use crate::words::{answer_of_word, listing};
+use jasmin_reader::{ReadFault, read_class};
+use jasmin_text::write_class;
 use std::alloc::{AllocError, Global};
+use std::str::from_utf8;
+
+/// What stands before and after a case.
+#[derive(Clone, Copy, Debug, Drop)]
+struct Frame<'a> {
+    before: &'a [u8],
+    after: &'a [u8],
+}
+
+/// What stands around the files and around the canonical texts.
+#[derive(Debug, Drop)]
+struct Around<'a> {
+    frames: Vec<Option<Frame<'a>>>,
+    canonical: Option<Frame<'a>>,
+}
+
+/// A case: its head, its body, the line of the file where it stands, and the canonical text, where that is told.
+#[derive(Clone, Copy, Debug, Drop)]
+struct Case<'a> {
+    head: &'a str,
+    body: &'a [u8],
+    line: usize,
+    canonical: Option<&'a [u8]>,
+}
+
+/// The frame of a body with three dots.
+fn frame_of(body: &[u8]) -> Option<Frame<'_>> {
+    let (before, after) = from_utf8(body).ok()?.split_once("...")?;
+    Some(Frame {
+        before: before.as_bytes(),
+        after: after.as_bytes(),
+    })
+}
+
+/// A body without its last line feed.
+fn without_line_feed(body: &[u8]) -> &[u8] {
+    body.strip_suffix(b"\n").unwrap_or(body)
+}
+
+/// The case in its frame.
+fn framed(alloc: Global, frame: Option<Frame<'_>>, case: &[u8]) -> Result<Vec<u8>, AllocError> {
+    let Some(Frame { before, after }) = frame else {
+        return Vec::from_slice(alloc, case);
+    };
+    let mut text = Vec::from_slice(alloc, before)?;
+    text.extend_from_slice(without_line_feed(case))?;
+    text.extend_from_slice(after)?;
+    Ok(text)
+}
+
+/// The first line of a case in its frame.
+fn first_line(frame: Option<Frame<'_>>) -> usize {
+    let mut line: usize = 1;
+    if let Some(Frame { before, .. }) = frame {
+        for byte in before {
+            if *byte == b'\n' {
+                line = line.saturating_add(1);
+            }
+        }
+    }
+    line
+}
+
+/// The answer that a head tells of.
+fn answer_wanted(alloc: Global, head: &str, line: usize) -> Result<String, AllocError> {
+    if head == "read" || head.contains(" in line ") {
+        return String::from_str(alloc, head);
+    }
+    format!(in alloc; "{head} in line {line}")
+}
+
+fn fault_text(alloc: Global, fault: ReadFault) -> Result<String, AllocError> {
+    let ReadFault { kind, line } = fault;
+    format!(in alloc; "{kind} in line {line}")
+}
+
+/// The first fault of a file, or that it is read.
+fn answer(alloc: Global, file: &[u8]) -> Result<String, AllocError> {
+    match read_class(alloc, file) {
+        Ok(_) => String::from_str(alloc, "read"),
+        Err(fault) => fault_text(alloc, fault),
+    }
+}
+
+/// The canonical text of a file, or its first fault.
+fn canonical_text(alloc: Global, file: &[u8]) -> Result<Vec<u8>, AllocError> {
+    match read_class(alloc, file) {
+        Ok(text) => write_class(alloc, &text),
+        Err(fault) => Vec::from_slice(alloc, fault_text(alloc, fault)?.as_bytes()),
+    }
+}
+
+/// Judges whether a file and its canonical text both have that canonical text.
+fn judge_canonical(
+    alloc: Global,
+    line: usize,
+    file: &[u8],
+    wanted: &[u8],
+    report: &mut Report,
+) -> Result<(), AllocError> {
+    let came = canonical_text(alloc, file)?;
+    if came.as_slice() != wanted {
+        return report.fails(line, wanted, came.as_slice());
+    }
+    let again = canonical_text(alloc, wanted)?;
+    report.judges(line, wanted, again.as_slice())
+}
+
+/// Judges a case in a frame.
+fn judge_framed(
+    alloc: Global,
+    case: Case<'_>,
+    frame: Option<Frame<'_>>,
+    canonical: Option<Frame<'_>>,
+    report: &mut Report,
+) -> Result<(), AllocError> {
+    let file = framed(alloc, frame, case.body)?;
+    if let Some(text) = case.canonical {
+        let wanted = framed(alloc, canonical, text)?;
+        return judge_canonical(alloc, case.line, file.as_slice(), wanted.as_slice(), report);
+    }
+    let wanted = answer_wanted(alloc, case.head, first_line(frame))?;
+    let came = answer(alloc, file.as_slice())?;
+    report.judges(case.line, wanted.as_bytes(), came.as_bytes())
+}
+
+/// Judges a case.
+fn judge_case(
+    alloc: Global,
+    case: Case<'_>,
+    around: &Around<'_>,
+    report: &mut Report,
+) -> Result<(), AllocError> {
+    let canonical = around.canonical;
+    let line = without_line_feed(case.body);
+    if case.head == "words" {
+        let came = listing(alloc, line)?;
+        return report.judges(case.line, case.canonical.unwrap_or(b""), came.as_slice());
+    }
+    if let Some(came) = answer_of_word(alloc, case.head, line)? {
+        return report.judges(case.line, case.head.as_bytes(), came.as_bytes());
+    }
+    if case.head == "canonical" {
+        let text = framed(alloc, canonical, case.body)?;
+        return judge_canonical(alloc, case.line, text.as_slice(), text.as_slice(), report);
+    }
+    for frame in around.frames.as_slice() {
+        judge_framed(alloc, case, *frame, canonical, report)?;
+    }
+    Ok(())
+}
+
+/// Judges each line of a body as a case.
+fn judge_lines(
+    alloc: Global,
+    lines: Case<'_>,
+    around: &Around<'_>,
+    report: &mut Report,
+) -> Result<(), AllocError> {
+    let mut case = lines;
+    for body in lines.body.split_inclusive(|byte| *byte == b'\n') {
+        case.line = case.line.saturating_add(1);
+        case.body = body;
+        judge_case(alloc, case, around, report)?;
+    }
+    Ok(())
+}
+
+/// Adds a frame, or tells that the body has no dots.
+fn add_frame<'a>(
+    part: &'a Part,
+    frames: &mut Vec<Option<Frame<'a>>>,
+    report: &mut Report,
+) -> Result<(), AllocError> {
+    let frame = frame_of(part.body.as_slice());
+    if frame.is_none() {
+        report.fails(part.line, b"...", part.body.as_slice())?;
+    }
+    frames.push(frame)?;
+    Ok(())
+}
+
+/// Takes what stands around cases from a part of this head, and answers whether it is one.
+fn is_around<'a>(
+    part: &'a Part,
+    head: &str,
+    around: &mut Around<'a>,
+    report: &mut Report,
+) -> Result<bool, AllocError> {
+    match head {
+        "around" => around.frames.clear(),
+        "and around" => {}
+        "around as" => {
+            around.canonical = frame_of(part.body.as_slice());
+            return Ok(true);
+        }
+        _ => return Ok(false),
+    }
+    add_frame(part, &mut around.frames, report)?;
+    Ok(true)
+}
+
+/// Judges the case or the cases of a part, with the part after it.
+fn judge_part<'a>(
+    alloc: Global,
+    part: &'a Part,
+    next: Option<&'a Part>,
+    around: &mut Around<'a>,
+    report: &mut Report,
+) -> Result<(), AllocError> {
+    let head = from_utf8(part.head.as_slice()).unwrap_or("");
+    if part.is_group || head == "as" || is_around(part, head, around, report)? {
+        return Ok(());
+    }
+    let mut case = Case {
+        head,
+        body: part.body.as_slice(),
+        line: part.line,
+        canonical: canonical_of(next),
+    };
+    if let Some(head) = head.strip_prefix("each: ") {
+        case.head = head;
+        return judge_lines(alloc, case, around, report);
+    }
+    judge_case(alloc, case, around, report)
+}
+
+/// The body of a part that tells a canonical text.
+fn canonical_of(part: Option<&Part>) -> Option<&[u8]> {
+    let part = part?;
+    if part.head.as_slice() == b"as".as_slice() {
+        return Some(part.body.as_slice());
+    }
+    None
+}
 
 /// Judges the cases of a file.
 pub(crate) fn judge(
@@ -10,5 +260,14 @@ pub(crate) fn judge(
     archive: &Archive,
     report: &mut Report,
 ) -> Result<(), AllocError> {
+    let mut around = Around {
+        frames: vec![in alloc; None]?,
+        canonical: None,
+    };
+    let mut parts = archive.parts.as_slice();
+    while let [part, after @ ..] = parts {
+        judge_part(alloc, part, after.first(), &mut around, report)?;
+        parts = after;
+    }
     Ok(())
 }

@@ -15,6 +15,7 @@ mod classes_selection;
 mod jasmin;
 mod programs;
 mod report;
+mod words;
 
 use crate::archive::{Archive, ArchiveFault, read_archive};
 use crate::report::Report;
