@@ -231,12 +231,14 @@ pub(crate) fn judge(
     archive: &Archive,
     report: &mut Report,
 ) -> Result<(), AllocError> {
-    let mut rest = archive.parts.as_slice();
-    while let [part, after @ ..] = rest {
-        if begins_program(part) {
-            judge_program(alloc, part, after, report)?;
+    let parts = archive.parts.as_slice();
+    for place in 0..parts.len() {
+        let (_, rest) = parts.split_at(place);
+        if let [part, after @ ..] = rest {
+            if begins_program(part) {
+                judge_program(alloc, part, after, report)?;
+            }
         }
-        rest = after;
     }
     Ok(())
 }
