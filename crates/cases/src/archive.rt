@@ -17,7 +17,7 @@
 use std::alloc::{AllocError, AllocFailed, Global};
 
 /// A head with its body.
-#[derive(Debug, Drop)]
+#[derive(Drop)]
 pub(crate) struct Part {
     /// The text of the head, without its marks.
     pub(crate) head: Vec<u8>,
@@ -30,13 +30,13 @@ pub(crate) struct Part {
 }
 
 /// The parts of a file, in their order.
-#[derive(Debug, Drop)]
+#[derive(Drop)]
 pub(crate) struct Archive {
     pub(crate) parts: Vec<Part>,
 }
 
 /// Why a file is no archive.
-#[derive(Debug, Drop)]
+#[derive(Drop)]
 pub(crate) enum ArchiveFault {
     /// What stands in `«»` in this line is of no known form, or the file isn't UTF-8 (line 0).
     Escape { line: usize },

@@ -21,21 +21,21 @@ use std::alloc::{AllocError, Global};
 use std::str::from_utf8;
 
 /// What stands before and after a case.
-#[derive(Clone, Copy, Debug, Drop)]
+#[derive(Clone, Copy, Drop)]
 struct Frame<'a> {
     before: &'a [u8],
     after: &'a [u8],
 }
 
 /// What stands around the files and around the canonical texts.
-#[derive(Debug, Drop)]
+#[derive(Drop)]
 struct Around<'a> {
     frames: Vec<Option<Frame<'a>>>,
     canonical: Option<Frame<'a>>,
 }
 
 /// A case: its head, its body, the line of the file where it stands, and the canonical text, where that is told.
-#[derive(Clone, Copy, Debug, Drop)]
+#[derive(Clone, Copy, Drop)]
 struct Case<'a> {
     head: &'a str,
     body: &'a [u8],
@@ -264,10 +264,10 @@ pub(crate) fn judge(
         frames: vec![in alloc; None]?,
         canonical: None,
     };
-    let mut parts = archive.parts.as_slice();
-    while let [part, after @ ..] = parts {
-        judge_part(alloc, part, after.first(), &mut around, report)?;
-        parts = after;
+    let parts = archive.parts.as_slice();
+    for (index, part) in parts.iter().enumerate() {
+        let next = parts.get(index.saturating_add(1));
+        judge_part(alloc, part, next, &mut around, report)?;
     }
     Ok(())
 }

@@ -3,7 +3,7 @@
 use std::alloc::{AllocError, Global};
 
 /// Counts the cases that passed and failed, and says for each that failed what was wanted and what came.
-#[derive(Debug, Drop)]
+#[derive(Drop)]
 pub(crate) struct Report {
     alloc: Global,
     /// The name of the file whose cases are judged.

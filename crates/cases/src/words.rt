@@ -10,38 +10,37 @@ use jasmin_words::name::{is_label, is_name};
 use jasmin_words::{Token, words};
 use std::alloc::{AllocError, Global};
 
-/// Adds a word of a line with what it is, as a line.
-fn push_token(alloc: Global, text: &mut Vec<u8>, token: &Token<'_>) -> Result<(), AllocError> {
+/// Adds what a word of a line is, and its text.
+fn push_row(list: &mut Vec<u8>, name: &[u8], text: &[u8]) -> Result<(), AllocError> {
+    list.extend_from_slice(name)?;
+    list.extend_from_slice(text)?;
+    list.push(b'\n')?;
+    Ok(())
+}
+
+fn push_token(alloc: Global, list: &mut Vec<u8>, token: &Token<'_>) -> Result<(), AllocError> {
     match token {
-        Token::Word(word) => {
-            text.extend_from_slice(b"word ")?;
-            text.extend_from_slice(word)?;
-        }
-        Token::LongWord(_) => text.extend_from_slice(b"long word")?,
-        Token::BadWord => text.extend_from_slice(b"bad word")?,
-        Token::Equals => text.extend_from_slice(b"=")?,
-        Token::Colon => text.extend_from_slice(b":")?,
-        Token::Text(characters) => {
-            text.extend_from_slice(b"string ")?;
-            text.extend_from_slice(characters.as_slice())?;
-        }
+        Token::Word(word) => push_row(list, b"word ", word),
+        Token::LongWord(_) => push_row(list, b"long word", b""),
+        Token::BadWord => push_row(list, b"bad word", b""),
+        Token::Equals => push_row(list, b"=", b""),
+        Token::Colon => push_row(list, b":", b""),
+        Token::Text(characters) => push_row(list, b"string ", characters.as_slice()),
         Token::BadText(kind) => {
-            let kind = format!(in alloc; "bad string {kind}")?;
-            text.extend_from_slice(kind.as_bytes())?;
+            let kind = format!(in alloc; "{kind}")?;
+            push_row(list, b"bad string ", kind.as_bytes())
         }
     }
-    text.push(b'\n')?;
-    Ok(())
 }
 
 /// The words of a line, one a line.
 pub(crate) fn listing(alloc: Global, line: &[u8]) -> Result<Vec<u8>, AllocError> {
     let tokens = words(alloc, line)?;
-    let mut text = Vec::new(alloc);
+    let mut list = Vec::new(alloc);
     for token in tokens.as_slice() {
-        push_token(alloc, &mut text, token)?;
+        push_token(alloc, &mut list, token)?;
     }
-    Ok(text)
+    Ok(list)
 }
 
 /// What a word is, where the head of its case asks for it.
