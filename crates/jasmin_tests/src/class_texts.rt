@@ -1,4 +1,4 @@
-//! What a class text may hold. The spelling of each construct stands beside the files that are read (`accepted`).
+//! What a class text may hold. The spelling of each construct is among the cases of files that are read (`cases`).
 
 use descriptors::{ClassName, parse_field, parse_method};
 use jasmin_text::{
