@@ -225,6 +225,19 @@ fn judge_program(
     judge_parts(alloc, &linked, parts, report)
 }
 
+/// Fails the parts that stand before the first program.
+fn judge_front(parts: &[Part], report: &mut Report) -> Result<(), AllocError> {
+    for part in parts {
+        if begins_program(part) {
+            return Ok(());
+        }
+        if !part.is_group {
+            report.fails(part.line, part.head.as_slice(), b"no program before it")?;
+        }
+    }
+    Ok(())
+}
+
 /// Judges the cases of a file.
 pub(crate) fn judge(
     alloc: Global,
@@ -232,6 +245,7 @@ pub(crate) fn judge(
     report: &mut Report,
 ) -> Result<(), AllocError> {
     let parts = archive.parts.as_slice();
+    judge_front(parts, report)?;
     for place in 0..parts.len() {
         let (_, rest) = parts.split_at(place);
         if let [part, after @ ..] = rest {
