@@ -8,6 +8,10 @@
 
 mod archive;
 mod classes;
+mod classes_fields;
+mod classes_hierarchy;
+mod classes_members;
+mod classes_selection;
 mod jasmin;
 mod programs;
 mod report;

@@ -16,6 +16,21 @@ pub struct Case {
     pub mains: [usize; 2],
 }
 
+/// The event that this choice makes after these choices, if it makes one.
+fn event_of(
+    alloc: Global,
+    program: &Program,
+    mains: &[usize],
+    path: &[Choice],
+    choice: Choice,
+) -> Result<Option<Made>, AllocError> {
+    let mut run = replayed(alloc, program, mains, path)?;
+    if choice.thread < 2 && makes(alloc, program, &mut run, mains, choice)? {
+        return Ok(run.world.events().last().map(made_of));
+    }
+    Ok(None)
+}
+
 /// The choices that make an event after these choices, and the events.
 pub(crate) fn next_choices(
     alloc: Global,
@@ -27,12 +42,9 @@ pub(crate) fn next_choices(
 ) -> Result<(), AllocError> {
     let choices = all_choices(alloc, program.len())?;
     for choice in choices.as_slice() {
-        let mut run = replayed(alloc, program, mains, path)?;
-        if choice.thread < 2 && makes(alloc, program, &mut run, mains, *choice)? {
+        if let Some(event) = event_of(alloc, program, mains, path, *choice)? {
             next.push(*choice)?;
-            if let Some(event) = run.world.events().last() {
-                made.push(made_of(event))?;
-            }
+            made.push(event)?;
         }
     }
     Ok(())
@@ -87,6 +99,32 @@ pub(crate) fn compared(
     Ok((lists, differ))
 }
 
+/// The events that these choices make.
+fn events_of(
+    alloc: Global,
+    program: &Program,
+    mains: &[usize],
+    path: &[Choice],
+) -> Result<Vec<Made>, AllocError> {
+    let run = replayed(alloc, program, mains, path)?;
+    list_of(alloc, run.world.events())
+}
+
+/// Adds this path with each of these choices behind it.
+fn push_longer(
+    alloc: Global,
+    path: &[Choice],
+    next: &[Choice],
+    longer: &mut Vec<Vec<Choice>>,
+) -> Result<(), AllocError> {
+    for choice in next {
+        let mut more = Vec::from_slice(alloc, path)?;
+        more.push(*choice)?;
+        longer.push(more)?;
+    }
+    Ok(())
+}
+
 pub(crate) fn compare_at(
     alloc: Global,
     program: &Program,
@@ -94,15 +132,10 @@ pub(crate) fn compare_at(
     path: &[Choice],
     longer: &mut Vec<Vec<Choice>>,
 ) -> Result<usize, AllocError> {
-    let run = replayed(alloc, program, &case.mains, path)?;
-    let list = list_of(alloc, run.world.events())?;
+    let list = events_of(alloc, program, &case.mains, path)?;
     let mut next = Vec::new(alloc);
     let mut made = Vec::new(alloc);
     next_choices(alloc, program, &case.mains, path, &mut next, &mut made)?;
-    for choice in next.as_slice() {
-        let mut more = Vec::from_slice(alloc, path)?;
-        more.push(*choice)?;
-        longer.push(more)?;
-    }
+    push_longer(alloc, path, next.as_slice(), longer)?;
     differences(alloc, program, case, list.as_slice(), made.as_slice())
 }

@@ -5,19 +5,7 @@
 #[cfg(test)]
 mod comparing;
 #[cfg(test)]
-mod fields;
-#[cfg(test)]
 mod limits;
-#[cfg(test)]
-mod linking;
-#[cfg(test)]
-mod members;
-#[cfg(test)]
-mod method_classes;
-#[cfg(test)]
-mod methods;
-#[cfg(test)]
-mod needs;
 #[cfg(test)]
 mod procedures;
 #[cfg(test)]
@@ -26,10 +14,6 @@ mod programs;
 mod records;
 #[cfg(test)]
 mod schedules;
-#[cfg(test)]
-mod selection;
-#[cfg(test)]
-mod static_fields;
 #[cfg(test)]
 mod static_values;
 #[cfg(test)]

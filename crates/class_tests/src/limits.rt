@@ -1,7 +1,6 @@
-//! How many classes and quoted texts a program may have, and the numbers of the texts.
+//! How many quoted texts a program may have.
 
-use crate::methods::method_type;
-use crate::programs::program;
+use descriptors::{MethodType, parse_method};
 use hierarchy::{LinkFaultKind, link};
 use jasmin_reader::read_class;
 use jasmin_text::{Access, ClassText, Code, Constant, Instruction, Method};
@@ -18,51 +17,19 @@ fn class_text(alloc: Global, file: &[u8]) -> Result<ClassText, Fail> {
     }
 }
 
-/// So many classes C0, C1 and so on, and the class of the last file behind them.
-fn numbered(alloc: Global, count: usize, last: &[u8]) -> Result<Vec<ClassText>, Fail> {
-    let mut classes = Vec::new(alloc);
-    for number in 0..count {
-        let file = format!(in alloc; ".class C{number}")?;
-        classes.push(class_text(alloc, file.as_bytes())?)?;
-    }
-    classes.push(class_text(alloc, last)?)?;
-    Ok(classes)
-}
-
-#[test]
-fn links_1024_classes(rt: HostRuntime) -> Result<(), Fail> {
-    match link(rt.alloc(), numbered(rt.alloc(), 1023, b".class Last")?) {
-        Ok(program) => assert_eq!(rt; program.len(), 1024),
-        Err(_) => assert!(rt; false),
-    }
-    Ok(())
-}
-
-/// The 1,025th class is told, before any fault of a name.
-#[test]
-fn refuses_1025_classes(rt: HostRuntime) -> Result<(), Fail> {
-    let rows: [(&[u8], &[u8]); 3] = [
-        (b".class Last", b"Last"),
-        (b".class java/Last", b"java/Last"),
-        (b".class C0", b"C0"),
-    ];
-    for (last, name) in rows {
-        match link(rt.alloc(), numbered(rt.alloc(), 1024, last)?) {
-            Ok(_) => assert!(rt; false, "at {name:?}"),
-            Err(fault) => {
-                assert_eq!(rt; fault.kind, LinkFaultKind::TooMany, "at {name:?}");
-                assert!(rt; fault.class.as_slice() == name, "at {name:?}");
-            }
-        }
-    }
-    Ok(())
-}
-
 /// Of 1,000,000 cells three are taken, so 999,997 distinct texts fit.
 const FITTING: u32 = 999_997;
 
 /// As many as a method has instructions at most.
 const IN_A_METHOD: u32 = 16_384;
+
+/// The type of a method without parameters and result.
+fn void(alloc: Global) -> Result<MethodType, Fail> {
+    match parse_method(alloc, b"()V") {
+        Ok(method_type) => Ok(method_type),
+        Err(_) => Err(Fail::from("no method descriptor")),
+    }
+}
 
 /// A class whose method pushes the texts of these numbers, made by hand, since reading as many files takes long.
 fn quoting(alloc: Global, first: u32, end: u32) -> Result<ClassText, Fail> {
@@ -74,7 +41,7 @@ fn quoting(alloc: Global, first: u32, end: u32) -> Result<ClassText, Fail> {
     let run = Method {
         access: Access::NONE,
         name: MemberName::parse(alloc, b"run")?.ok_or("no name")?,
-        method_type: method_type(alloc, b"()V")?,
+        method_type: void(alloc)?,
         code: Some(Code {
             stack: 1,
             locals: 1,
@@ -119,32 +86,6 @@ fn refuses_texts_beyond_the_heap(rt: HostRuntime) -> Result<(), Fail> {
             assert_eq!(rt; fault.kind, LinkFaultKind::TooMany);
             assert!(rt; fault.class.as_slice() == b"Beyond".as_slice());
         }
-    }
-    Ok(())
-}
-
-const TEXTS: [&[u8]; 3] = [
-    b".class First\n\
-      .field static text Ljava/lang/String; = \"7\"\n\
-      .method run()V\nldc \"5\"\nldc \"6\"\nldc \"7\"\nldc \"8\"\n.end method",
-    b".class Second\n.field static text Ljava/lang/String; = \"20\"",
-    b".class Third\n.field text Ljava/lang/String; = \"21\"",
-];
-
-/// Equal texts have one number; a class's static fields stand before its methods, and an instance field's text has none.
-#[test]
-fn numbers_quoted_texts(rt: HostRuntime) -> Result<(), Fail> {
-    let program = program(rt.alloc(), &TEXTS)?;
-    let rows: [(&[u8], Option<u32>); 6] = [
-        (b"7", Some(3)),
-        (b"5", Some(4)),
-        (b"6", Some(5)),
-        (b"8", Some(6)),
-        (b"20", Some(7)),
-        (b"21", None),
-    ];
-    for (text, wanted) in rows {
-        assert_eq!(rt; program.text_reference(text), wanted, "at {text:?}");
     }
     Ok(())
 }

@@ -1,5 +1,8 @@
 //! One thread's procedure for one class.
 
+ghost use Rattle.std.specs.Prelude.{◌≡◌, [], None};
+ghost use Rattle.init_core.specs.Leads.{standing};
+
 use crate::programs::program;
 use hierarchy::{BuiltIn, ClassId, Program};
 use init_core::{Answer, Completed, Decision, Ending, Next, Outcome, Procedure};
@@ -13,8 +16,15 @@ const CLASS: ClassId = ClassId { number: 0 };
 
 const ERROR: ClassId = ClassId { number: 7 };
 
-fn refuses(rt: &impl Abort, alloc: Global, program: &Program) -> Result<(), Fail> {
-    let mut procedure = Procedure::new(alloc);
+/// A second look finds the class erroneous.
+fn refuses(
+    rt: &impl Abort,
+    alloc: Global,
+    program: &Program,
+    procedure: &mut Procedure,
+) -> Result<(), Fail>
+    requires { procedure.old ≡ standing [] None }
+{
     assert_eq!(rt; procedure.next(), Next::Idle);
     procedure.request(CLASS)?;
     assert_eq!(rt; procedure.next(), Next::Look(CLASS));
@@ -37,13 +47,15 @@ fn refuses(rt: &impl Abort, alloc: Global, program: &Program) -> Result<(), Fail
     Ok(())
 }
 
-#[test]
-fn steps_of_one_class(rt: HostRuntime) -> Result<(), Fail> {
-    refuses(&rt, rt.alloc(), &program(rt.alloc(), SOLO)?)
-}
-
-fn gives_up(rt: &impl Abort, alloc: Global, program: &Program) -> Result<(), Fail> {
-    let mut procedure = Procedure::new(alloc);
+/// Memory runs out behind step 6.
+fn gives_up(
+    rt: &impl Abort,
+    alloc: Global,
+    program: &Program,
+    procedure: &mut Procedure,
+) -> Result<(), Fail>
+    requires { procedure.old ≡ standing [] None }
+{
     let error = program.built_in(BuiltIn::OutOfMemoryError);
     procedure.request(CLASS)?;
     let next = procedure.advance(alloc, program, Answer::GaveUp { error, begun: true })?;
@@ -58,13 +70,15 @@ fn gives_up(rt: &impl Abort, alloc: Global, program: &Program) -> Result<(), Fai
     Ok(())
 }
 
-#[test]
-fn gives_up_behind_step_six(rt: HostRuntime) -> Result<(), Fail> {
-    gives_up(&rt, rt.alloc(), &program(rt.alloc(), SOLO)?)
-}
-
-fn waits_and_gives_up(rt: &impl Abort, alloc: Global, program: &Program) -> Result<(), Fail> {
-    let mut procedure = Procedure::new(alloc);
+/// A thread gives up where it waits.
+fn waits_and_gives_up(
+    rt: &impl Abort,
+    alloc: Global,
+    program: &Program,
+    procedure: &mut Procedure,
+) -> Result<(), Fail>
+    requires { procedure.old ≡ standing [] None }
+{
     let error = program.built_in(BuiltIn::InternalError);
     procedure.request(CLASS)?;
     let waits = Answer::Decided(Decision::Waits { first: false });
@@ -89,13 +103,15 @@ fn waits_and_gives_up(rt: &impl Abort, alloc: Global, program: &Program) -> Resu
     Ok(())
 }
 
-#[test]
-fn gives_up_at_a_look(rt: HostRuntime) -> Result<(), Fail> {
-    waits_and_gives_up(&rt, rt.alloc(), &program(rt.alloc(), SOLO)?)
-}
-
-fn runs_a_body(rt: &impl Abort, alloc: Global, program: &Program) -> Result<(), Fail> {
-    let mut procedure = Procedure::new(alloc);
+/// A body is begun once.
+fn runs_a_body(
+    rt: &impl Abort,
+    alloc: Global,
+    program: &Program,
+    procedure: &mut Procedure,
+) -> Result<(), Fail>
+    requires { procedure.old ≡ standing [] None }
+{
     procedure.request(CLASS)?;
     let next = procedure.advance(alloc, program, Answer::Decided(Decision::Begins))?;
     assert_eq!(rt; next, Next::Body(CLASS));
@@ -109,8 +125,15 @@ fn runs_a_body(rt: &impl Abort, alloc: Global, program: &Program) -> Result<(), 
     Ok(())
 }
 
-fn throws(rt: &impl Abort, alloc: Global, program: &Program) -> Result<(), Fail> {
-    let mut procedure = Procedure::new(alloc);
+/// A body throws.
+fn throws(
+    rt: &impl Abort,
+    alloc: Global,
+    program: &Program,
+    procedure: &mut Procedure,
+) -> Result<(), Fail>
+    requires { procedure.old ≡ standing [] None }
+{
     procedure.request(CLASS)?;
     procedure.advance(alloc, program, Answer::Decided(Decision::Begins))?;
     if let Next::Body(_) = procedure.next() {
@@ -120,9 +143,16 @@ fn throws(rt: &impl Abort, alloc: Global, program: &Program) -> Result<(), Fail>
     Ok(())
 }
 
+fn all(rt: &impl Abort, alloc: Global, program: &Program) -> Result<(), Fail> {
+    refuses(rt, alloc, program, &mut Procedure::new(alloc))?;
+    gives_up(rt, alloc, program, &mut Procedure::new(alloc))?;
+    waits_and_gives_up(rt, alloc, program, &mut Procedure::new(alloc))?;
+    runs_a_body(rt, alloc, program, &mut Procedure::new(alloc))?;
+    throws(rt, alloc, program, &mut Procedure::new(alloc))
+}
+
 #[test]
-fn a_body_by_itself(rt: HostRuntime) -> Result<(), Fail> {
+fn steps_of_one_class(rt: HostRuntime) -> Result<(), Fail> {
     let program = program(rt.alloc(), SOLO)?;
-    runs_a_body(&rt, rt.alloc(), &program)?;
-    throws(&rt, rt.alloc(), &program)
+    all(&rt, rt.alloc(), &program)
 }

@@ -1,9 +1,10 @@
 //! One class's record, by one thread and by two.
 
 use crate::programs::program;
-use hierarchy::ClassId;
+use hierarchy::{ClassId, Program};
 use init_core::{ClassRecord, Decision, Event, Kind, Label};
 use sequence::Text;
+use std::alloc::Global;
 use std::process::Abort;
 use std::test::Fail;
 
@@ -67,12 +68,14 @@ fn kept(rt: &impl Abort, record: &ClassRecord) {
     assert!(rt; record.history() == events.as_slice());
 }
 
-#[test]
-fn completes_for_all_threads(rt: HostRuntime) -> Result<(), Fail> {
-    let program = program(rt.alloc(), SOLO)?;
-    let mut record = ClassRecord::new(rt.alloc(), &program, CLASS)?;
-    completes(&rt, &mut record)?;
-    kept(&rt, &record);
+fn completes_for_all_threads(
+    rt: &impl Abort,
+    alloc: Global,
+    program: &Program,
+) -> Result<(), Fail> {
+    let mut record = ClassRecord::new(alloc, program, CLASS)?;
+    completes(rt, &mut record)?;
+    kept(rt, &record);
     Ok(())
 }
 
@@ -97,17 +100,14 @@ fn fails(rt: &impl Abort, record: &mut ClassRecord, by_super: bool) -> Result<()
     Ok(())
 }
 
-#[test]
-fn fails_for_all_threads(rt: HostRuntime) -> Result<(), Fail> {
-    let program = program(rt.alloc(), SOLO)?;
-    for by_super in [false, true] {
-        fails(
-            &rt,
-            &mut ClassRecord::new(rt.alloc(), &program, CLASS)?,
-            by_super,
-        )?;
-    }
-    Ok(())
+fn fails_for_all_threads(
+    rt: &impl Abort,
+    alloc: Global,
+    program: &Program,
+    by_super: bool,
+) -> Result<(), Fail> {
+    let mut record = ClassRecord::new(alloc, program, CLASS)?;
+    fails(rt, &mut record, by_super)
 }
 
 fn begins(rt: &impl Abort, record: &mut ClassRecord) -> Result<(), Fail> {
@@ -116,10 +116,22 @@ fn begins(rt: &impl Abort, record: &mut ClassRecord) -> Result<(), Fail> {
     Ok(())
 }
 
+fn begins_in_reserved_room(rt: &impl Abort, alloc: Global, program: &Program) -> Result<(), Fail> {
+    let mut record = ClassRecord::new(alloc, program, CLASS)?;
+    begins(rt, &mut record)
+}
+
+fn all(rt: &impl Abort, alloc: Global, program: &Program) -> Result<(), Fail> {
+    completes_for_all_threads(rt, alloc, program)?;
+    fails_for_all_threads(rt, alloc, program, false)?;
+    fails_for_all_threads(rt, alloc, program, true)?;
+    begins_in_reserved_room(rt, alloc, program)
+}
+
 #[test]
-fn begins_in_reserved_room(rt: HostRuntime) -> Result<(), Fail> {
+fn records_of_one_class(rt: HostRuntime) -> Result<(), Fail> {
     let program = program(rt.alloc(), SOLO)?;
-    begins(&rt, &mut ClassRecord::new(rt.alloc(), &program, CLASS)?)
+    all(&rt, rt.alloc(), &program)
 }
 
 #[test]

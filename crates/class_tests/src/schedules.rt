@@ -176,6 +176,27 @@ pub(crate) fn makes(
     Ok(made)
 }
 
+/// Makes these choices.
+fn makes_all(
+    alloc: Global,
+    program: &Program,
+    run: &mut Run,
+    mains: &[usize],
+    choices: &[Choice],
+) -> Result<(), AllocError>
+    requires program { program.now ≡ run.old.world.program }
+    requires threads { length run.old.world.threads ≡ 2 }
+    ensures program { run.new.world.program ≡ run.old.world.program }
+    ensures threads { length run.new.world.threads ≡ 2 }
+{
+    for choice in choices {
+        if choice.thread < 2 {
+            makes(alloc, program, run, mains, *choice)?;
+        }
+    }
+    Ok(())
+}
+
 /// A new run after these choices.
 pub(crate) fn replayed(
     alloc: Global,
@@ -190,11 +211,7 @@ pub(crate) fn replayed(
         world: World::new(alloc, program, 2)?,
         returned: [None, None],
     };
-    for choice in choices {
-        if choice.thread < 2 {
-            makes(alloc, program, &mut run, mains, *choice)?;
-        }
-    }
+    makes_all(alloc, program, &mut run, mains, choices)?;
     Ok(run)
 }
 

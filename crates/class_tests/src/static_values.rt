@@ -8,11 +8,14 @@ use std::process::Abort;
 use std::test::Fail;
 use trace::write_trace;
 
+const FILES: [&[u8]; 2] = [
+    b".class C\n.field static b B = 300\n.field static z Z = 2\n.field static s Ljava/lang/String; = \"a\"\n.field static n I",
+    b".class D\n.field static k I = 5\n.field static n S",
+];
+
 const C: ClassId = ClassId { number: 0 };
 
-const CONSTANTS: &[&[u8]] = &[
-    b".class C\n.field static b B = 300\n.field static z Z = 2\n.field static s Ljava/lang/String; = \"a\"\n.field static n I",
-];
+const D: ClassId = ClassId { number: 1 };
 
 const DEFAULTS: [Value; 4] = [Value::Int(0), Value::Int(0), Value::Null, Value::Int(0)];
 
@@ -23,12 +26,10 @@ const NARROWED: [Value; 4] = [
     Value::Int(0),
 ];
 
-const CONSTANT_AND_NONE: &[&[u8]] = &[b".class C\n.field static k I = 5\n.field static n S"];
-
 fn get(field: usize, value: Value) -> Event {
     Event {
         thread: 0,
-        class: Some(C),
+        class: Some(D),
         kind: Kind::Gets { field, value },
     }
 }
@@ -79,27 +80,21 @@ const READS: &[u8] = b"0 t0 step6 C
 4 t0 get C n:I 0
 ";
 
-fn begins_with_constants(
-    rt: &impl Abort,
-    alloc: Global,
-    program: &Program,
-    record: &mut ClassRecord,
-) -> Result<(), Fail> {
+/// Constants are narrowed to their field's type.
+fn begins_with_constants(rt: &impl Abort, record: &mut ClassRecord) -> Result<(), Fail> {
     holds(rt, record, &DEFAULTS);
     assert_eq!(rt; record.enter(0)?, Decision::Begins);
-    reads(rt, record, &NARROWED)?;
+    reads(rt, record, &NARROWED)
+}
+
+fn narrowed_constants(rt: &impl Abort, alloc: Global, program: &Program) -> Result<(), Fail> {
+    let mut record = ClassRecord::new(alloc, program, C)?;
+    begins_with_constants(rt, &mut record)?;
     assert!(rt; write_trace(alloc, program, record.history())?.as_slice() == READS);
     Ok(())
 }
 
-/// Constants are narrowed to their field's type.
-#[test]
-fn narrowed_constants(rt: HostRuntime) -> Result<(), Fail> {
-    let program = program(rt.alloc(), CONSTANTS)?;
-    let mut record = ClassRecord::new(rt.alloc(), &program, C)?;
-    begins_with_constants(&rt, rt.alloc(), &program, &mut record)
-}
-
+/// From step 6 on constants are there, before anything that the class needs is done.
 fn reads_within_step_7(rt: &impl Abort, record: &mut ClassRecord) -> Result<(), Fail> {
     assert_eq!(rt; record.enter(0)?, Decision::Begins);
     for (place, value) in [Value::Int(5), Value::Int(0)].iter().enumerate() {
@@ -111,13 +106,7 @@ fn reads_within_step_7(rt: &impl Abort, record: &mut ClassRecord) -> Result<(), 
     Ok(())
 }
 
-/// From step 6 on constants are there, before anything that the class needs is done.
-#[test]
-fn constants_before_supers(rt: HostRuntime) -> Result<(), Fail> {
-    let program = program(rt.alloc(), CONSTANT_AND_NONE)?;
-    reads_within_step_7(&rt, &mut ClassRecord::new(rt.alloc(), &program, C)?)
-}
-
+/// A field holds what was written last, as the field keeps it.
 fn writes(rt: &impl Abort, record: &mut ClassRecord) -> Result<(), Fail> {
     assert_eq!(rt; record.enter(0)?, Decision::Begins);
     write(record, 0, Value::Int(-9))?;
@@ -129,9 +118,14 @@ fn writes(rt: &impl Abort, record: &mut ClassRecord) -> Result<(), Fail> {
     Ok(())
 }
 
-/// A field holds what was written last, as the field keeps it.
+fn all(rt: &impl Abort, alloc: Global, program: &Program) -> Result<(), Fail> {
+    narrowed_constants(rt, alloc, program)?;
+    reads_within_step_7(rt, &mut ClassRecord::new(alloc, program, D)?)?;
+    writes(rt, &mut ClassRecord::new(alloc, program, D)?)
+}
+
 #[test]
-fn writes_are_read_again(rt: HostRuntime) -> Result<(), Fail> {
-    let program = program(rt.alloc(), CONSTANT_AND_NONE)?;
-    writes(&rt, &mut ClassRecord::new(rt.alloc(), &program, C)?)
+fn constants_and_writes(rt: HostRuntime) -> Result<(), Fail> {
+    let program = program(rt.alloc(), &FILES)?;
+    all(&rt, rt.alloc(), &program)
 }

@@ -9,7 +9,14 @@ use std::process::Abort;
 use std::test::Fail;
 use trace::write_trace;
 
-const SOLO: &[&[u8]] = &[b".class a/Solo"];
+const FILES: [&[u8]; 2] = [
+    b".class a/Solo",
+    b".class C\n.field static b B\n.field i I\n.field static s [[Ljava/lang/String;",
+];
+
+const SOLO: ClassId = ClassId { number: 0 };
+
+const C: ClassId = ClassId { number: 1 };
 
 const STEPS: &[u8] = b"0 t0 step6 a/Solo
 1 t0 step9 a/Solo
@@ -22,10 +29,6 @@ const STEPS: &[u8] = b"0 t0 step6 a/Solo
 8 t1 step10 a/Solo
 ";
 
-const FIELDS: &[&[u8]] = &[
-    b".class C\n.field static b B\n.field i I\n.field static s [[Ljava/lang/String;",
-];
-
 const USES: &[u8] = b"0 t0 get C b:B -44
 1 t3 put C s:[[Ljava/lang/String; #12
 2 t3 get C s:[[Ljava/lang/String; null
@@ -35,7 +38,7 @@ const USES: &[u8] = b"0 t0 get C b:B -44
 fn event(thread: usize, kind: Kind) -> Event {
     Event {
         thread,
-        class: Some(ClassId { number: 0 }),
+        class: Some(SOLO),
         kind,
     }
 }
@@ -63,17 +66,20 @@ fn writes_steps(rt: &impl Abort, alloc: Global, program: &Program) -> Result<(),
     Ok(())
 }
 
-#[test]
-fn writes_each_step(rt: HostRuntime) -> Result<(), Fail> {
-    writes_steps(&rt, rt.alloc(), &program(rt.alloc(), SOLO)?)
-}
-
 fn gets(thread: usize, field: usize, value: Value) -> Event {
-    event(thread, Kind::Gets { field, value })
+    Event {
+        thread,
+        class: Some(C),
+        kind: Kind::Gets { field, value },
+    }
 }
 
 fn puts(thread: usize, field: usize, value: Value) -> Event {
-    event(thread, Kind::Puts { field, value })
+    Event {
+        thread,
+        class: Some(C),
+        kind: Kind::Puts { field, value },
+    }
 }
 
 /// A trace with reads, a write and a print of this text.
@@ -97,7 +103,13 @@ fn writes_uses(rt: &impl Abort, alloc: Global, program: &Program) -> Result<(), 
     Ok(())
 }
 
+fn writes_all(rt: &impl Abort, alloc: Global, program: &Program) -> Result<(), Fail> {
+    writes_steps(rt, alloc, program)?;
+    writes_uses(rt, alloc, program)
+}
+
 #[test]
-fn writes_reads_writes_and_prints(rt: HostRuntime) -> Result<(), Fail> {
-    writes_uses(&rt, rt.alloc(), &program(rt.alloc(), FIELDS)?)
+fn writes_each_event(rt: HostRuntime) -> Result<(), Fail> {
+    let program = program(rt.alloc(), &FILES)?;
+    writes_all(&rt, rt.alloc(), &program)
 }

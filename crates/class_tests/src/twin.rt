@@ -328,6 +328,20 @@ fn find_words_at(
     Ok(())
 }
 
+/// Finds all words and beginnings, from the list's end.
+fn find_all(
+    alloc: Global,
+    small: &Small,
+    list: &[Made],
+    found: &mut Found,
+) -> Result<(), AllocError> {
+    find_words_at(alloc, small, list, found, list.len())?;
+    for from in (0..list.len()).rev() {
+        find_words_at(alloc, small, list, found, from)?;
+    }
+    Ok(())
+}
+
 /// Whether this list of one thread begins its word: the procedure for its main class, and then a body.
 pub(crate) fn begins_thread_word(
     alloc: Global,
@@ -339,14 +353,21 @@ pub(crate) fn begins_thread_word(
         words: Vec::new(alloc),
         beginnings: Vec::new(alloc),
     };
-    find_words_at(alloc, small, list, &mut found, list.len())?;
-    for from in (0..list.len()).rev() {
-        find_words_at(alloc, small, list, &mut found, from)?;
-    }
+    find_all(alloc, small, list, &mut found)?;
+    begins_word(alloc, main, list, &found)
+}
+
+/// Whether the list begins the word, by what was found.
+fn begins_word(
+    alloc: Global,
+    main: usize,
+    list: &[Made],
+    found: &Found,
+) -> Result<bool, AllocError> {
     let words = found.words_at(alloc, main, 0)?;
     let mut begins = found.begins_at(main, 0);
     for word in words.as_slice() {
-        begins = begins || is_finished(alloc, list, &found, word)?;
+        begins = begins || is_finished(alloc, list, found, word)?;
     }
     Ok(begins)
 }

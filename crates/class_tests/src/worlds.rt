@@ -8,7 +8,7 @@ use crate::schedules::{Action, Choice, Run, list_of, replayed};
 use crate::twin::{Act, Made};
 use hierarchy::{ClassId, Program};
 use init_core::{Event, Label};
-use init_world::safety;
+use init_world::{World, safety};
 use std::alloc::{AllocError, Global};
 use std::process::Abort;
 use std::test::Fail;
@@ -61,7 +61,17 @@ const A_DEFAULT_SEEN_TWICE: Case = Case {
 /// at least.
 fn agrees(rt: &impl Abort, alloc: Global, case: &Case, depth: usize) -> Result<(), Fail> {
     let program = program(alloc, case.files)?;
-    let (lists, differ) = compared(alloc, &program, case, depth)?;
+    agrees_on(rt, alloc, &program, case, depth)
+}
+
+fn agrees_on(
+    rt: &impl Abort,
+    alloc: Global,
+    program: &Program,
+    case: &Case,
+    depth: usize,
+) -> Result<(), Fail> {
+    let (lists, differ) = compared(alloc, program, case, depth)?;
     assert!(rt; lists >= 200, "only {lists} lists");
     assert_eq!(rt; differ, 0);
     Ok(())
@@ -111,14 +121,18 @@ const OTHER_NEEDS: [Case; 2] = [
     },
 ];
 
+/// How many events World and the twin judge otherwise.
+fn differing(alloc: Global, case: &Case) -> Result<usize, Fail> {
+    let program = program(alloc, case.files)?;
+    let (_, differ) = compared(alloc, &program, case, 3)?;
+    Ok(differ)
+}
+
 /// The comparison finds a twin that is told to need too little, and one that needs too much.
 #[test]
 fn notices_other_needs(rt: HostRuntime) -> Result<(), Fail> {
-    let alloc = rt.alloc();
     for case in OTHER_NEEDS {
-        let program = program(alloc, case.files)?;
-        let (_, differ) = compared(alloc, &program, &case, 3)?;
-        assert!(rt; differ > 0);
+        assert!(rt; differing(rt.alloc(), &case)? > 0);
     }
     Ok(())
 }
@@ -186,12 +200,15 @@ fn run_of(
 }
 
 /// B extends A, and one thread requests B.
+fn upward(rt: &impl Abort, alloc: Global, program: &Program) -> Result<(), Fail> {
+    let run = run_of(alloc, program, 1, &UPWARD)?;
+    are(rt, alloc, &run.world.into_events(), &SUPERCLASS_FIRST)
+}
+
 #[test]
 fn superclass_first(rt: HostRuntime) -> Result<(), Fail> {
-    let alloc = rt.alloc();
-    let program = program(alloc, A_SUPERCLASS.files)?;
-    let run = run_of(alloc, &program, 1, &UPWARD)?;
-    are(&rt, alloc, &run.world.into_events(), &SUPERCLASS_FIRST)
+    let program = program(rt.alloc(), A_SUPERCLASS.files)?;
+    upward(&rt, rt.alloc(), &program)
 }
 
 const BESIDE: [(usize, Action); 5] = [
@@ -210,17 +227,28 @@ const TWO_THREADS_ONE_CLASS: [(usize, usize, Act); 5] = [
     (1, 0, Act::FindsInitialized),
 ];
 
-/// Two threads on one class A, turned in the order 0, 0, 1, 0, 1.
-#[test]
-fn two_threads_one_class(rt: HostRuntime) -> Result<(), Fail> {
-    let alloc = rt.alloc();
-    let program = program(alloc, ONE_CLASS.files)?;
-    let run = run_of(alloc, &program, 0, &BESIDE)?;
-    are(&rt, alloc, run.world.events(), &TWO_THREADS_ONE_CLASS)?;
+/// How the class stands behind these turns.
+fn is_initialized(rt: &impl Abort, program: &Program, world: &World)
+    requires { program.now ≡ world.now.program }
+{
     assert!(rt; program.len() == 1);
-    let record = run.world.record(ClassId { number: 0 });
+    let record = world.record(ClassId { number: 0 });
     assert!(rt; record.label() == Label::Initialized);
     assert_eq!(rt; record.history().len(), 4);
+}
+
+/// Two threads on one class A, turned in the order 0, 0, 1, 0, 1.
+fn beside(rt: &impl Abort, alloc: Global, program: &Program) -> Result<(), Fail> {
+    let run = run_of(alloc, program, 0, &BESIDE)?;
+    are(rt, alloc, run.world.events(), &TWO_THREADS_ONE_CLASS)?;
+    is_initialized(rt, program, &run.world);
+    Ok(())
+}
+
+#[test]
+fn two_threads_one_class(rt: HostRuntime) -> Result<(), Fail> {
+    let program = program(rt.alloc(), ONE_CLASS.files)?;
+    beside(&rt, rt.alloc(), &program)?;
     safety();
     Ok(())
 }
