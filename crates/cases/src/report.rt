@@ -62,8 +62,8 @@ impl Report {
 
     /// A case passed.
     pub(crate) fn passes(&mut self) {
-        self.cases = self.cases.saturating_add(1);
         self.passed = self.passed.saturating_add(1);
+        self.cases = self.cases.saturating_add(1);
     }
 
     /// The case at this line of the file failed: another answer was wanted than the one that came.

@@ -11,8 +11,8 @@ use jasmin_words::{Token, words};
 use std::alloc::{AllocError, Global};
 
 /// Adds what a word of a line is, and its text.
-fn push_row(list: &mut Vec<u8>, name: &[u8], text: &[u8]) -> Result<(), AllocError> {
-    list.extend_from_slice(name)?;
+fn push_row(list: &mut Vec<u8>, name: &str, text: &[u8]) -> Result<(), AllocError> {
+    list.extend_from_slice(name.as_bytes())?;
     list.extend_from_slice(text)?;
     list.push(b'\n')?;
     Ok(())
@@ -20,15 +20,15 @@ fn push_row(list: &mut Vec<u8>, name: &[u8], text: &[u8]) -> Result<(), AllocErr
 
 fn push_token(alloc: Global, list: &mut Vec<u8>, token: &Token<'_>) -> Result<(), AllocError> {
     match token {
-        Token::Word(word) => push_row(list, b"word ", word),
-        Token::LongWord(_) => push_row(list, b"long word", b""),
-        Token::BadWord => push_row(list, b"bad word", b""),
-        Token::Equals => push_row(list, b"=", b""),
-        Token::Colon => push_row(list, b":", b""),
-        Token::Text(characters) => push_row(list, b"string ", characters.as_slice()),
+        Token::Word(word) => push_row(list, "word ", word),
+        Token::LongWord(_) => push_row(list, "long word", b""),
+        Token::BadWord => push_row(list, "bad word", b""),
+        Token::Equals => push_row(list, "=", b""),
+        Token::Colon => push_row(list, ":", b""),
+        Token::Text(characters) => push_row(list, "string ", characters.as_slice()),
         Token::BadText(kind) => {
             let kind = format!(in alloc; "{kind}")?;
-            push_row(list, b"bad string ", kind.as_bytes())
+            push_row(list, "bad string ", kind.as_bytes())
         }
     }
 }
