@@ -64,13 +64,25 @@ fn put_files(alloc: Global, part: &Part, files: &mut Texts) -> Result<(), AllocE
     put_numbered(alloc, count, name, body, files)
 }
 
+/// What comes of a run, under the heads that say it.
+fn outcome_of(
+    alloc: Global,
+    out: &[u8],
+    err: &[u8],
+    status: &[u8],
+    files: &Texts,
+) -> Result<Texts, AllocError> {
+    let mut outcome = Texts::new(alloc);
+    outcome.put("stdout", out)?;
+    outcome.put("stderr", err)?;
+    outcome.put("status", status)?;
+    outcome.put_all("left", files)?;
+    Ok(outcome)
+}
+
 /// What is to come of a run over these files, as the parts say.
 fn wanted_of(alloc: Global, parts: &[Part], files: &Texts) -> Result<Texts, AllocError> {
-    let mut wanted = Texts::new(alloc);
-    wanted.put("stdout", b"")?;
-    wanted.put("stderr", b"")?;
-    wanted.put("status", b"0\n")?;
-    wanted.put_all("left", files)?;
+    let mut wanted = outcome_of(alloc, b"", b"", b"0\n", files)?;
     for part in parts {
         if !has_files(part) {
             wanted.put(head_of(part), part.body.as_slice())?;
@@ -95,12 +107,13 @@ fn run(alloc: Global, command: &str, files: &mut Texts) -> Result<Texts, AllocEr
     let mut err = Vec::new(alloc);
     let status = serve(alloc, words.as_slice(), files, &mut out, &mut err);
     let status = format!(in alloc; "{status}\n")?;
-    let mut came = Texts::new(alloc);
-    came.put("stdout", out.as_slice())?;
-    came.put("stderr", err.as_slice())?;
-    came.put("status", status.as_bytes())?;
-    came.put_all("left", files)?;
-    Ok(came)
+    outcome_of(
+        alloc,
+        out.as_slice(),
+        err.as_slice(),
+        status.as_bytes(),
+        files,
+    )
 }
 
 /// Judges what came of a run.
