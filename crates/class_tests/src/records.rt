@@ -46,6 +46,11 @@ fn completes(rt: &impl Abort, record: &mut ClassRecord) -> Result<(), Fail> {
     finds(rt, record, &[(0, Decision::Begins)])?;
     assert_eq!(rt; record.owner(), Some(0));
     finds(rt, record, &BESIDE_THE_OWNER)?;
+    ends(rt, record)
+}
+
+/// Its owner completes the class.
+fn ends(rt: &impl Abort, record: &mut ClassRecord) -> Result<(), Fail> {
     let Label::InProgress(0) = record.label() else {
         return Err(Fail::from("not in progress"));
     };
