@@ -1,4 +1,4 @@
-use Rattle.std.proofs.Common.{rules, option_map}
+use Rattle.std.proofs.Common.{option_map}
 use Rattle.std.proofs.lemmas.Result.{on_ok_weaker}
 use Rattle.cli.proofs.KnownFiles.{keeps_then}
 use Rattle.cli.proofs.serving.run.Goals as goal
