@@ -14,7 +14,7 @@
 //! - `«300 times ab»` is `ab` 300 times. In what is repeated, `#` is the number of the repeat, from 0, and `¶` a
 //!   line feed.
 
-use std::alloc::{AllocError, AllocFailed, Global};
+use std::alloc::{AllocError, Global};
 
 /// A head with its body.
 #[derive(Drop)]
@@ -46,12 +46,6 @@ pub(crate) enum ArchiveFault {
 
 impl From<AllocError> for ArchiveFault {
     fn from(_e: AllocError) -> Self {
-        ArchiveFault::NoMemory
-    }
-}
-
-impl<T: Drop> From<AllocFailed<T>> for ArchiveFault {
-    fn from(_e: AllocFailed<T>) -> Self {
         ArchiveFault::NoMemory
     }
 }
