@@ -5,8 +5,6 @@
 #[cfg(test)]
 mod comparing;
 #[cfg(test)]
-mod limits;
-#[cfg(test)]
 mod procedures;
 #[cfg(test)]
 mod programs;

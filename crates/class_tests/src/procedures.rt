@@ -1,8 +1,5 @@
 //! One thread's procedure for one class.
 
-ghost use Rattle.std.specs.Prelude.{◌≡◌, [], None};
-ghost use Rattle.init_core.specs.Leads.{standing};
-
 use crate::programs::program;
 use hierarchy::{BuiltIn, ClassId, Program};
 use init_core::{Answer, Completed, Decision, Ending, Next, Outcome, Procedure};
@@ -17,14 +14,8 @@ const CLASS: ClassId = ClassId { number: 0 };
 const ERROR: ClassId = ClassId { number: 7 };
 
 /// A second look finds the class erroneous.
-fn refuses(
-    rt: &impl Abort,
-    alloc: Global,
-    program: &Program,
-    procedure: &mut Procedure,
-) -> Result<(), Fail>
-    requires { procedure.old ≡ standing [] None }
-{
+fn refuses(rt: &impl Abort, alloc: Global, program: &Program) -> Result<(), Fail> {
+    let mut procedure = Procedure::new(alloc);
     assert_eq!(rt; procedure.next(), Next::Idle);
     procedure.request(CLASS)?;
     assert_eq!(rt; procedure.next(), Next::Look(CLASS));
@@ -48,14 +39,8 @@ fn refuses(
 }
 
 /// Memory runs out behind step 6.
-fn gives_up(
-    rt: &impl Abort,
-    alloc: Global,
-    program: &Program,
-    procedure: &mut Procedure,
-) -> Result<(), Fail>
-    requires { procedure.old ≡ standing [] None }
-{
+fn gives_up(rt: &impl Abort, alloc: Global, program: &Program) -> Result<(), Fail> {
+    let mut procedure = Procedure::new(alloc);
     let error = program.built_in(BuiltIn::OutOfMemoryError);
     procedure.request(CLASS)?;
     let next = procedure.advance(alloc, program, Answer::GaveUp { error, begun: true })?;
@@ -71,14 +56,8 @@ fn gives_up(
 }
 
 /// A thread gives up where it waits.
-fn waits_and_gives_up(
-    rt: &impl Abort,
-    alloc: Global,
-    program: &Program,
-    procedure: &mut Procedure,
-) -> Result<(), Fail>
-    requires { procedure.old ≡ standing [] None }
-{
+fn waits_and_gives_up(rt: &impl Abort, alloc: Global, program: &Program) -> Result<(), Fail> {
+    let mut procedure = Procedure::new(alloc);
     let error = program.built_in(BuiltIn::InternalError);
     procedure.request(CLASS)?;
     let waits = Answer::Decided(Decision::Waits { first: false });
@@ -104,14 +83,8 @@ fn waits_and_gives_up(
 }
 
 /// A body is begun once.
-fn runs_a_body(
-    rt: &impl Abort,
-    alloc: Global,
-    program: &Program,
-    procedure: &mut Procedure,
-) -> Result<(), Fail>
-    requires { procedure.old ≡ standing [] None }
-{
+fn runs_a_body(rt: &impl Abort, alloc: Global, program: &Program) -> Result<(), Fail> {
+    let mut procedure = Procedure::new(alloc);
     procedure.request(CLASS)?;
     let next = procedure.advance(alloc, program, Answer::Decided(Decision::Begins))?;
     assert_eq!(rt; next, Next::Body(CLASS));
@@ -126,14 +99,8 @@ fn runs_a_body(
 }
 
 /// A body throws.
-fn throws(
-    rt: &impl Abort,
-    alloc: Global,
-    program: &Program,
-    procedure: &mut Procedure,
-) -> Result<(), Fail>
-    requires { procedure.old ≡ standing [] None }
-{
+fn throws(rt: &impl Abort, alloc: Global, program: &Program) -> Result<(), Fail> {
+    let mut procedure = Procedure::new(alloc);
     procedure.request(CLASS)?;
     procedure.advance(alloc, program, Answer::Decided(Decision::Begins))?;
     if let Next::Body(_) = procedure.next() {
@@ -144,11 +111,11 @@ fn throws(
 }
 
 fn all(rt: &impl Abort, alloc: Global, program: &Program) -> Result<(), Fail> {
-    refuses(rt, alloc, program, &mut Procedure::new(alloc))?;
-    gives_up(rt, alloc, program, &mut Procedure::new(alloc))?;
-    waits_and_gives_up(rt, alloc, program, &mut Procedure::new(alloc))?;
-    runs_a_body(rt, alloc, program, &mut Procedure::new(alloc))?;
-    throws(rt, alloc, program, &mut Procedure::new(alloc))
+    refuses(rt, alloc, program)?;
+    gives_up(rt, alloc, program)?;
+    waits_and_gives_up(rt, alloc, program)?;
+    runs_a_body(rt, alloc, program)?;
+    throws(rt, alloc, program)
 }
 
 #[test]

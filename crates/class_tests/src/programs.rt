@@ -1,12 +1,13 @@
 //! Programs for tests, from the texts of their classes.
 
-use hierarchy::{ClassId, LinkFault, Program, link};
+use hierarchy::{Program, link};
 use jasmin_reader::read_class;
+use jasmin_text::ClassText;
 use std::alloc::Global;
 use std::test::Fail;
 
-/// What `link` answers for these files.
-pub(crate) fn linked(alloc: Global, files: &[&[u8]]) -> Result<Result<Program, LinkFault>, Fail> {
+/// The classes of these files.
+fn class_texts(alloc: Global, files: &[&[u8]]) -> Result<Vec<ClassText>, Fail> {
     let mut classes = Vec::new(alloc);
     for file in files {
         match read_class(alloc, file) {
@@ -14,18 +15,13 @@ pub(crate) fn linked(alloc: Global, files: &[&[u8]]) -> Result<Result<Program, L
             Err(_) => return Err(Fail::from("a file has a fault")),
         }
     }
-    Ok(link(alloc, classes))
+    Ok(classes)
 }
 
 /// The program of these files.
 pub(crate) fn program(alloc: Global, files: &[&[u8]]) -> Result<Program, Fail> {
-    match linked(alloc, files)? {
+    match link(alloc, class_texts(alloc, files)?) {
         Ok(program) => Ok(program),
         Err(_) => Err(Fail::from("the classes have a fault")),
     }
-}
-
-/// The class of that name.
-pub(crate) fn class(program: &Program, name: &[u8]) -> Result<ClassId, Fail> {
-    Ok(program.class_named(name).ok_or("no such class")?)
 }

@@ -248,7 +248,11 @@ fn beside(rt: &impl Abort, alloc: Global, program: &Program) -> Result<(), Fail>
 #[test]
 fn two_threads_one_class(rt: HostRuntime) -> Result<(), Fail> {
     let program = program(rt.alloc(), ONE_CLASS.files)?;
-    beside(&rt, rt.alloc(), &program)?;
+    beside(&rt, rt.alloc(), &program)
+}
+
+/// The law is there for all callers.
+#[test]
+fn safety_is_published() {
     safety();
-    Ok(())
 }
