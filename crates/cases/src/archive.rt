@@ -1,10 +1,10 @@
 //! Cases as text: the form of the files in data/.
 //!
-//! A file is UTF-8 text, an archive of parts. What stands before the first head is a comment.
+//! A file is UTF-8 text, an archive of parts. The lines before the first head are a comment.
 //!
 //! - A line `-- TEXT --` is a head. The lines after it, up to the next head, are its body, each with its line feed.
 //! - A line `== TEXT ==` is a head too. It begins a group of cases and says why they are answered so, with the
-//!   section of the standard where there is one. What stands in its body is a comment.
+//!   section of the standard where there is one. Its body is a comment.
 //! - An empty line directly before a `== ==` head belongs to no body. Any other empty line is one of the body.
 //!
 //! In a body `«` and `»` spell what a text editor doesn't show:
@@ -14,7 +14,7 @@
 //! - `«300 times ab»` is `ab` 300 times. In what is repeated, `#` is the number of the repeat, from 0, and `¶` a
 //!   line feed.
 
-use std::alloc::{AllocError, AllocFailed, Global};
+use std::alloc::{AllocError, Global};
 
 /// A head with its body.
 #[derive(Drop)]
@@ -38,7 +38,7 @@ pub(crate) struct Archive {
 /// Why a file is no archive.
 #[derive(Drop)]
 pub(crate) enum ArchiveFault {
-    /// What stands in `«»` in this line is of no known form, or the file isn't UTF-8 (line 0).
+    /// An escape in this line is malformed, or the file isn't UTF-8 (line 0).
     Escape { line: usize },
     /// Out of memory.
     NoMemory,
@@ -46,12 +46,6 @@ pub(crate) enum ArchiveFault {
 
 impl From<AllocError> for ArchiveFault {
     fn from(_e: AllocError) -> Self {
-        ArchiveFault::NoMemory
-    }
-}
-
-impl<T: Drop> From<AllocFailed<T>> for ArchiveFault {
-    fn from(_e: AllocFailed<T>) -> Self {
         ArchiveFault::NoMemory
     }
 }
@@ -92,7 +86,7 @@ fn push_times(
     Ok(())
 }
 
-/// Adds what stands in `«»`, or answers that it is of no known form.
+/// Adds what an escape spells, or answers that it is malformed.
 fn push_escape(alloc: Global, body: &mut Vec<u8>, escape: &str) -> Result<bool, AllocError> {
     let Some((count, text)) = escape.split_once(" times ") else {
         return push_bytes(body, escape);
@@ -104,7 +98,7 @@ fn push_escape(alloc: Global, body: &mut Vec<u8>, escape: &str) -> Result<bool, 
     Ok(true)
 }
 
-/// Adds what stands behind a `«`, or answers that it is of no known form.
+/// Adds what is spelled after a `«`, or answers that the escape is malformed.
 fn push_piece(alloc: Global, body: &mut Vec<u8>, piece: &str) -> Result<bool, AllocError> {
     let Some((escape, after)) = piece.split_once('»') else {
         return Ok(false);
@@ -116,7 +110,7 @@ fn push_piece(alloc: Global, body: &mut Vec<u8>, piece: &str) -> Result<bool, Al
     Ok(true)
 }
 
-/// Adds what a line of a body spells, or answers that an escape is of no known form.
+/// Adds what a line of a body spells, or answers that an escape is malformed.
 fn push_line(alloc: Global, body: &mut Vec<u8>, line: &str) -> Result<bool, AllocError> {
     let mut is_first = true;
     for piece in line.split('«') {
@@ -151,7 +145,7 @@ fn push_part(
     Ok(())
 }
 
-/// Adds a line to the last part's body, or answers that an escape is of no known form.
+/// Adds a line to the last part's body, or answers that an escape is malformed.
 fn push_body(alloc: Global, parts: &mut Vec<Part>, line: &str) -> Result<bool, AllocError> {
     match parts.last_mut() {
         Some(part) => push_line(alloc, &mut part.body, line),

@@ -8,9 +8,9 @@
 //! - `-- words --` and heads of one word: see [`words`](crate::words).
 //! - `-- each: HEAD --`: each line of the body is a case with this head.
 //!
-//! `-- around --` has a file with three dots: from here on each case stands there, without its last line feed. A
-//! head `-- and around --` after it has one more, and each case is judged in each. `-- around as --` is the same
-//! for canonical texts.
+//! `-- around --` has a file with three dots: from here on each case is put in their place, without its last line
+//! feed. A head `-- and around --` after it has one more, and each case is judged in each. `-- around as --` is the
+//! same for canonical texts.
 
 use crate::archive::{Archive, Part};
 use crate::report::Report;
@@ -34,7 +34,7 @@ struct Around<'a> {
     canonical: Option<Frame<'a>>,
 }
 
-/// A case: its head, its body, the line of the file where it stands, and the canonical text, where that is told.
+/// A case: its head, its body, the line where it begins, and the canonical text, where that is given.
 #[derive(Clone, Copy, Drop)]
 struct Case<'a> {
     head: &'a str,
@@ -81,7 +81,7 @@ fn first_line(frame: Option<Frame<'_>>) -> usize {
     line
 }
 
-/// The answer that a head tells of.
+/// The answer that a head demands.
 fn answer_wanted(alloc: Global, head: &str, line: usize) -> Result<String, AllocError> {
     if head == "read" || head.contains(" in line ") {
         return String::from_str(alloc, head);
@@ -186,7 +186,7 @@ fn judge_lines(
     Ok(())
 }
 
-/// Adds a frame, or tells that the body has no dots.
+/// Adds a frame, or reports that the body has no dots.
 fn add_frame<'a>(
     part: &'a Part,
     frames: &mut Vec<Option<Frame<'a>>>,
@@ -245,7 +245,7 @@ fn judge_part<'a>(
     judge_case(alloc, case, around, report)
 }
 
-/// The body of a part that tells a canonical text.
+/// The body of a part `-- as --`.
 fn canonical_of(part: Option<&Part>) -> Option<&[u8]> {
     let part = part?;
     if part.head.as_slice() == b"as".as_slice() {

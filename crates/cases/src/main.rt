@@ -2,8 +2,11 @@
 //! are: files in the Jasmin form (`jasmin`), classes (`classes`), and a file `NAME.txtar` is a whole command line
 //! with its files (`programs`).
 //!
-//! What each file has, and each case that failed, is told on standard output. The exit status is 0 where all files
-//! could be read and all cases passed, else 1.
+//! The number of cases of each file, and each case that failed, is reported on standard output. The exit status is 0
+//! where all files could be read and all cases passed, else 1.
+//!
+//! In the crate's folder `rt run -- data/jasmin/words.txt` judges one file. The file `args` names all, and `stdout` has
+//! their counts, so that no case is lost unnoticed.
 #![tactic(auto)]
 
 mod archive;

@@ -52,7 +52,7 @@ impl Report {
         self.file.extend_from_slice(file.as_bytes())
     }
 
-    /// Tells how many cases the file has.
+    /// Reports how many cases the file has.
     pub(crate) fn ends(&mut self) -> Result<(), AllocError> {
         let cases = self.cases;
         let count = format!(in self.alloc; ": {cases} cases\n")?;
@@ -109,7 +109,7 @@ impl Report {
         Ok(())
     }
 
-    /// Tells how many cases passed and failed, and answers whether all passed.
+    /// Reports how many cases passed and failed, and answers whether all passed.
     pub(crate) fn closes(&mut self) -> Result<bool, AllocError> {
         let passed = self.passed;
         let failed = self.failed;
