@@ -5,3 +5,4 @@ pub mod Same
 pub mod SameLaws
 pub mod Spelling
 pub mod Reading
+pub mod Messages

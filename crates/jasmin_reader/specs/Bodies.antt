@@ -91,9 +91,17 @@ limit_by b false false rest = Err fault.BadOperand
 abbrev pub limit_word : Body → List ℕ × Bool → List Item → Result Body FaultKind
 limit_word b w rest = limit_by b (same_bytes w.0 (codes "stack") && not w.1) (same_bytes w.0 (codes "locals") && not w.1) rest
 
+-- the limit of the stack, or of the locals
+abbrev pub with_limit : Body → Bool → ℕ → Body
+with_limit b true n = record b { stack = n }
+with_limit b false n = record b { locals = n }
+
+abbrev pub limit_from : Body → List Item → Result Body FaultKind
+limit_from b items = next_word items >>= λ w. limit_word b w.0 w.1
+
 -- behind .limit; the last limit counts
 unfoldable pub limit_at : Body → List Item → Result Body FaultKind
-limit_at b items = outside_switch b >>= λ _. next_word items >>= λ w. limit_word b w.0 w.1
+limit_at b items = outside_switch b >>= λ _. limit_from b items
 
 abbrev pub caught_in : List ℕ → Result (Option (List ℕ)) FaultKind
 caught_in w = if same_bytes w (codes "all") then Ok None else class_name_in w >>= λ name. Ok (Some name)
@@ -106,10 +114,17 @@ keyword_in keyword w = if same_bytes w keyword then Ok tt else Err fault.BadOper
 abbrev pub label_behind : List ℕ → List Item → Result (List ℕ × List Item) FaultKind
 label_behind keyword items = operand (keyword_in keyword) items >>= λ k. operand label_in k.1
 
+abbrev pub row_of : Option (List ℕ) → List ℕ → List ℕ → List ℕ → Catch
+row_of class from to handler = record { class = class; from = from; to = to; handler = handler }
+
+-- the row that catches these, by the labels that follow
+abbrev pub row_from : Option (List ℕ) → List Item → Result Catch FaultKind
+row_from class items = label_behind (codes "from") items >>= λ from. label_behind (codes "to") from.1 >>= λ to.
+    label_behind (codes "using") to.1 >>= λ handler. ended_at handler.1 >>= λ _. Ok (row_of class from.0 to.0 handler.0)
+
 -- a row of the handler table by labels
 unfoldable pub catch_from : List Item → Result Catch FaultKind
-catch_from items = operand caught_in items >>= λ class. label_behind (codes "from") class.1 >>= λ from. label_behind (codes "to") from.1 >>= λ to.
-    label_behind (codes "using") to.1 >>= λ handler. ended_at handler.1 >>= λ _. Ok (record { class = class.0; from = from.0; to = to.0; handler = handler.0 })
+catch_from items = operand caught_in items >>= λ class. row_from class.0 class.1
 
 -- behind .catch
 unfoldable pub catch_at : Body → List Item → Result Body FaultKind
@@ -170,7 +185,10 @@ body_of b is hs =
     else if length b.listing.instructions == 0 then Err fault.BadBody
     else Ok (Some (record { stack = b.stack; locals = b.locals; handlers = hs; instructions = is }))
 
+abbrev pub method_with : Body → Option Code → Method
+method_with b code = record { access = b.access; name = b.name; method_type = b.method_type; code = code }
+
 -- the method, at its end
 unfoldable pub closed : Body → Result Method FaultKind
 closed b = all_placed b.labels b.listing.instructions >>= λ is. placed_catches b.labels b.catches >>= λ hs. body_of b is hs >>= λ code.
-    Ok (record { access = b.access; name = b.name; method_type = b.method_type; code = code })
+    Ok (method_with b code)

@@ -31,10 +31,14 @@ Reads (Err f) read = Tells f read
 abbrev pub object_name : List ℕ
 object_name = codes "java/lang/Object"
 
+-- the parts of a class with this head and superclass
+abbrev pub parts_with : Reader → HeadWords × List ℕ → List ℕ → ClassParts
+parts_with r c superclass =
+    record { kind = c.0.kind; access = c.0.access; name = c.1; superclass = superclass; interfaces = r.interfaces; fields = r.fields; methods = r.methods }
+
 -- the parts of a class that is read whole
 abbrev pub parts_of : Reader → HeadWords × List ℕ → ClassParts
-parts_of r c =
-    record { kind = c.0.kind; access = c.0.access; name = c.1; superclass = unwrap_or r.superclass object_name; interfaces = r.interfaces; fields = r.fields; methods = r.methods }
+parts_of r c = parts_with r c (unwrap_or r.superclass object_name)
 
 -- at the file's end, behind so many lines
 unfoldable pub finished : Reader → ℕ → Result ClassParts ReadFault

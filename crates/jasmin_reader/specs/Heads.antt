@@ -169,11 +169,15 @@ field_of a name t value = record { access = a; name = name; field_type = t; valu
 abbrev pub described_from : List Item → Result (FieldType × List Item) FaultKind
 described_from items = if is_signature items then Err fault.BadOperand else operand type_in items
 
+-- the field with these access words and this name, by its descriptor and value
+abbrev pub field_named : Access → List ℕ → List Item → Result Field FaultKind
+field_named a name items = described_from items >>= λ t. value_from t.0 t.1 >>= λ value. Ok (field_of a name t.0 value)
+
 -- behind .field
 unfoldable pub field_from : List Item → Result Field FaultKind
 field_from items = named_from place.Field (start Class) items >>= λ n.
     no_access_in place.Field n.1.0.0 >>= λ _. member_name_in n.1.0.0 >>= λ name. within_limit n.1.0.1 >>= λ _.
-    described_from n.1.1 >>= λ t. value_from t.0 t.1 >>= λ value. Ok (field_of n.0.access name t.0 value)
+    field_named n.0.access name n.1.1
 
 -- ---- methods
 
@@ -184,8 +188,14 @@ may_initialize a m = a.is_static && length m.parameters == 0 && not (is_some m.r
 abbrev pub fits_initializer : Access → List ℕ × Signature → Result (Unit {0}) FaultKind
 fits_initializer a m = if same_bytes m.0 (codes "<clinit>") && not (may_initialize a m.1) then Err fault.BadInitializer else Ok tt
 
+-- the method with this name and type, at the line's end
+abbrev pub method_there : Access → List ℕ × Signature → Bool → List Item → Result (Access × (List ℕ × Signature)) FaultKind
+method_there a m is_long rest = within_limit is_long >>= λ _. fits_initializer a m >>= λ _. ended_at rest >>= λ _. Ok (a, m)
+
+-- the method with these access words, by the word in the name's place and what follows it
+abbrev pub method_named : Access → (List ℕ × Bool) × List Item → Result (Access × (List ℕ × Signature)) FaultKind
+method_named a n = typed_in member_name_in n.0.0 >>= λ m. method_there a m n.0.1 n.1
+
 -- behind .method: the access words, the name and the type
 unfoldable pub method_from : List Item → Result (Access × (List ℕ × Signature)) FaultKind
-method_from items = named_from place.Method (start Class) items >>= λ n.
-    no_access_in place.Method n.1.0.0 >>= λ _. typed_in member_name_in n.1.0.0 >>= λ m. within_limit n.1.0.1 >>= λ _. fits_initializer n.0.access m >>= λ _.
-    ended_at n.1.1 >>= λ _. Ok (n.0.access, m)
+method_from items = named_from place.Method (start Class) items >>= λ n. no_access_in place.Method n.1.0.0 >>= λ _. method_named n.0.access n.1

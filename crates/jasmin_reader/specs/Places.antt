@@ -58,6 +58,11 @@ first_word other _ = Err other
 abbrev pub lowest : FaultKind → FaultKind → FaultKind
 lowest j k = if nat_le (number_of j) (number_of k) then j else k
 
+-- the lower kind, where the other reading has a fault too
+abbrev pub lowest_with : {A : Type 0} → FaultKind → Result A FaultKind → FaultKind
+lowest_with j (Ok a) = j
+lowest_with j (Err k) = lowest j k
+
 -- two readings of one word: of two faults the lowest kind
 abbrev pub both : {A B : Type 0} → Result A FaultKind → Result B FaultKind → Result (A × B) FaultKind
 both (Ok a) (Ok b) = Ok (a, b)

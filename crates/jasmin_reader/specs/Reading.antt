@@ -63,15 +63,23 @@ field_line r items = allowed (is_in_class r) >>= λ _. has_room_for (member_room
 abbrev pub empty_body : Access → List ℕ → Signature → Body
 empty_body a name m = record { access = a; name = name; method_type = m; stack = 1024; locals = 1024; labels = []; catches = []; listing = empty_listing }
 
+abbrev pub with_body : Reader → Body → Reader
+with_body r b = record r { body = Some b }
+
 unfoldable pub method_line : Reader → List Item → Result Reader FaultKind
 method_line r items = allowed (is_in_class r) >>= λ _. has_room_for (member_room r) >>= λ _. method_from items >>= λ m.
-    Ok (record r { body = Some (empty_body m.0 m.1.0 m.1.1) })
+    Ok (with_body r (empty_body m.0 m.1.0 m.1.1))
 
 -- ---- in methods
 
 abbrev pub in_body : Reader → Option Body → (Body → Result Body FaultKind) → Result Reader FaultKind
 in_body r None add = Err fault.Misplaced
 in_body r (Some b) add = add b >>= λ c. Ok (record r { body = Some c })
+
+-- a method stands open, and no switch in it
+abbrev pub open_at : Option Body → Result (Unit {0}) FaultKind
+open_at None = Err fault.Misplaced
+open_at (Some b) = outside_switch b
 
 abbrev pub ended_by : Reader → List Item → Option Body → Result Reader FaultKind
 ended_by r rest None = Err fault.Misplaced

@@ -1,10 +1,12 @@
 //! A method that is not at its end.
 
-ghost use Rattle.std.specs.Prelude.{◌≡◌, is_some, None, true, codes};
+ghost use Rattle.std.specs.Prelude.{◌≡◌, ℕ, List, Option, is_some, None, true, codes};
 ghost use Rattle.jasmin_words.specs.Gives.{Gives};
 ghost use Rattle.jasmin_reader.specs.Places.{IsFaultOr};
 ghost use Rattle.jasmin_words.specs.Lexing.{views};
-ghost use Rattle.jasmin_reader.specs.Bodies.{label_at, end_from, no_directive, labelled_at, plain_by, statement_by, statement_at, outside_switch, limit_at, caught_in, label_behind, catch_from, catch_at};
+ghost use Rattle.jasmin_reader.specs.declared.body.Body.{Body};
+ghost use Rattle.jasmin_reader.specs.Operands.{limit_in, last_operand as last_operand_of};
+ghost use Rattle.jasmin_reader.specs.Bodies.{label_at, end_from, no_directive, labelled_at, plain_by, statement_by, statement_at, outside_switch, with_limit, limit_from, limit_at, caught_in, label_behind, row_of, row_from, catch_from, catch_at};
 ghost use Rattle.jasmin_reader.specs.Listing.{behind_colon as behind_colon_of};
 
 use crate::labels::Labels;
@@ -20,7 +22,7 @@ use sequence::{Sequence, Text};
 use std::alloc::Global;
 
 /// A row of the handler table by labels.
-#[derive(Debug, Drop)]
+#[derive(Drop)]
 pub(crate) struct Catch {
     /// The class that is caught, `None` for all.
     pub class: Option<ClassName>,
@@ -107,22 +109,55 @@ fn label_after<'a, 't>(
     operand::<Text>(alloc, rest)
 }
 
+/// The labels of a row of the handler table: the beginning of the range, its end and the handler.
+fn row_labels(alloc: Global, tokens: &[Token<'_>]) -> Result<(Text, Text, Text), LineError>
+    ensures { (class : Option (List ℕ)) → Gives (λ x. row_of class x.0 x.1 x.2) result (row_from class (views tokens.now)) }
+{
+    let (from, rest) = label_after(alloc, b"from", tokens)?;
+    let (to, rest) = label_after(alloc, b"to", rest)?;
+    let (handler, rest) = label_after(alloc, b"using", rest)?;
+    ended(rest)?;
+    Ok((from, to, handler))
+}
+
 /// The row of the handler table behind `.catch`.
 #[tactic(auto, unfolding(crate::specs::Bodies::catch_from))]
 fn handler_row(alloc: Global, tokens: &[Token<'_>]) -> Result<Catch, LineError>
     ensures { Gives (λ x. x) result (catch_from (views tokens.now)) }
 {
     let (class, rest) = operand::<Option<ClassName>>(alloc, tokens)?;
-    let (from, rest) = label_after(alloc, b"from", rest)?;
-    let (to, rest) = label_after(alloc, b"to", rest)?;
-    let (handler, rest) = label_after(alloc, b"using", rest)?;
-    ended(rest)?;
+    let (from, to, handler) = row_labels(alloc, rest)?;
     Ok(Catch {
         class,
         from,
         to,
         handler,
     })
+}
+
+/// The number of a limit.
+fn last_limit(tokens: &[Token<'_>]) -> Result<u16, LineError>
+    ensures { Gives (λ x. x) result (last_operand_of limit_in (views tokens.now)) }
+{
+    let ((word, is_long), rest) = next(tokens)?;
+    let count = limit(word)?;
+    within(is_long)?;
+    ended(rest)?;
+    Ok(count)
+}
+
+/// Whether the limit is that of the stack, and its number.
+fn limit_behind(tokens: &[Token<'_>]) -> Result<(bool, u16), LineError>
+    ensures { (b : Body) → Gives (λ x. with_limit b x.0 x.1) result (limit_from b (views tokens.now)) }
+{
+    let ((word, is_long), rest) = next(tokens)?;
+    if same(word, b"stack") && !is_long {
+        Ok((true, last_limit(rest)?))
+    } else if same(word, b"locals") && !is_long {
+        Ok((false, last_limit(rest)?))
+    } else {
+        Err(bad_operand())
+    }
 }
 
 impl Body {
@@ -245,15 +280,7 @@ impl Body {
         ensures { Gives (λ _. self.new) result (limit_at self.old (views tokens.now)) }
     {
         self.not_in_switch()?;
-        let ((word, is_long), rest) = next(tokens)?;
-        let is_stack = same(word, b"stack") && !is_long;
-        if !is_stack && !(same(word, b"locals") && !is_long) {
-            return Err(bad_operand());
-        }
-        let ((word, is_long), rest) = next(rest)?;
-        let count = limit(word)?;
-        within(is_long)?;
-        ended(rest)?;
+        let (is_stack, count) = limit_behind(tokens)?;
         if is_stack {
             self.stack = count;
         } else {

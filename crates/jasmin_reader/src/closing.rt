@@ -2,7 +2,8 @@
 
 ghost use Rattle.std.specs.Prelude.{◌≡◌};
 ghost use Rattle.jasmin_words.specs.Gives.{Gives};
-ghost use Rattle.jasmin_reader.specs.Bodies.{placed_label, placed_labels, placed_cases, placed, all_placed, placed_catch, placed_catches, body_of, closed};
+ghost use Rattle.jasmin_text.specs.declared.instruction.Instruction.TheVariants as instructions;
+ghost use Rattle.jasmin_reader.specs.Bodies.{placed_label, placed_labels, placed_cases, placed, all_placed, handler_of, placed_catch, placed_catches, body_of, method_with, closed};
 
 use crate::body::{Body, Catch};
 use crate::labels::Labels;
@@ -11,6 +12,7 @@ use jasmin_text::{Code, Handler, Instruction, Method};
 use jasmin_words::{FaultKind, Refusal};
 use sequence::{Sequence, Text};
 use std::alloc::Global;
+use std::mem::replace;
 
 /// The place of a label.
 fn place(labels: &Labels, label: &Text) -> Result<u16, LineError>
@@ -54,6 +56,35 @@ fn cases(
     Ok(all)
 }
 
+/// A `tableswitch` with places for its labels.
+#[tactic(auto, unfolding(crate::specs::Bodies::placed))]
+fn table_with_places(
+    alloc: Global,
+    labels: &Labels,
+    low: i32,
+    names: &[Text],
+    label: &Text,
+) -> Result<Instruction<u16>, LineError>
+    ensures { Gives (λ x. x) result (placed labels.now (instructions.TableSwitch low names.now label.now)) }
+{
+    let targets = places(alloc, labels, names)?;
+    Ok(Instruction::TableSwitch(low, targets, place(labels, label)?))
+}
+
+/// A `lookupswitch` with places for its labels.
+#[tactic(auto, unfolding(crate::specs::Bodies::placed))]
+fn lookup_with_places(
+    alloc: Global,
+    labels: &Labels,
+    names: &[(i32, Text)],
+    label: &Text,
+) -> Result<Instruction<u16>, LineError>
+    ensures { Gives (λ x. x) result (placed labels.now (instructions.LookupSwitch names.now label.now)) }
+{
+    let targets = cases(alloc, labels, names)?;
+    Ok(Instruction::LookupSwitch(targets, place(labels, label)?))
+}
+
 /// An instruction with places for its labels.
 #[tactic(auto, unfolding(crate::specs::Bodies::placed))]
 fn with_places(
@@ -63,27 +94,25 @@ fn with_places(
 ) -> Result<Instruction<u16>, LineError>
     ensures { Gives (λ x. x) result (placed labels.now instruction) }
 {
-    Ok(match instruction {
-        Instruction::Plain(plain) => Instruction::Plain(plain),
-        Instruction::Constant(constant) => Instruction::Constant(constant),
-        Instruction::Local(local, number) => Instruction::Local(local, number),
-        Instruction::Increment(number, by) => Instruction::Increment(number, by),
-        Instruction::Jump(jump, label) => Instruction::Jump(jump, place(labels, &label)?),
+    match instruction {
+        Instruction::Plain(plain) => Ok(Instruction::Plain(plain)),
+        Instruction::Constant(constant) => Ok(Instruction::Constant(constant)),
+        Instruction::Local(local, number) => Ok(Instruction::Local(local, number)),
+        Instruction::Increment(number, by) => Ok(Instruction::Increment(number, by)),
+        Instruction::Jump(jump, label) => Ok(Instruction::Jump(jump, place(labels, &label)?)),
         Instruction::TableSwitch(low, names, label) => {
-            let targets = places(alloc, labels, names.as_slice())?;
-            Instruction::TableSwitch(low, targets, place(labels, &label)?)
+            table_with_places(alloc, labels, low, names.as_slice(), &label)
         }
         Instruction::LookupSwitch(names, label) => {
-            let targets = cases(alloc, labels, names.as_slice())?;
-            Instruction::LookupSwitch(targets, place(labels, &label)?)
+            lookup_with_places(alloc, labels, names.as_slice(), &label)
         }
-        Instruction::Field(access, field) => Instruction::Field(access, field),
-        Instruction::Call(call, method) => Instruction::Call(call, method),
-        Instruction::CallInterface(method) => Instruction::CallInterface(method),
-        Instruction::New(name) => Instruction::New(name),
-        Instruction::NewArray(base) => Instruction::NewArray(base),
-        Instruction::TypeUse(use_of, class) => Instruction::TypeUse(use_of, class),
-    })
+        Instruction::Field(access, field) => Ok(Instruction::Field(access, field)),
+        Instruction::Call(call, method) => Ok(Instruction::Call(call, method)),
+        Instruction::CallInterface(method) => Ok(Instruction::CallInterface(method)),
+        Instruction::New(name) => Ok(Instruction::New(name)),
+        Instruction::NewArray(base) => Ok(Instruction::NewArray(base)),
+        Instruction::TypeUse(use_of, class) => Ok(Instruction::TypeUse(use_of, class)),
+    }
 }
 
 /// All instructions with places for their labels.
@@ -102,15 +131,26 @@ fn all_with_places(
     Ok(all)
 }
 
-/// A row of the handler table with places for its labels.
+/// The places of the beginning, the end and the handler of a row of the handler table.
 #[tactic(auto, unfolding(crate::specs::Bodies::placed_catch))]
+fn row_places(labels: &Labels, row: &Catch) -> Result<(u16, u16, u16), LineError>
+    ensures { Gives (λ x. handler_of row.now.class x.0 x.1 x.2) result (placed_catch labels.now row.now) }
+{
+    let from = place(labels, &row.from)?;
+    let to = place(labels, &row.to)?;
+    let handler = place(labels, &row.handler)?;
+    Ok((from, to, handler))
+}
+
+/// A row of the handler table with places for its labels.
 fn handler(labels: &Labels, row: Catch) -> Result<Handler, LineError>
     ensures { Gives (λ x. x) result (placed_catch labels.now row) }
 {
+    let (from, to, handler) = row_places(labels, &row)?;
     Ok(Handler {
-        from: place(labels, &row.from)?,
-        to: place(labels, &row.to)?,
-        handler: place(labels, &row.handler)?,
+        from,
+        to,
+        handler,
         class: row.class,
     })
 }
@@ -132,43 +172,55 @@ fn handlers(
 }
 
 impl Body {
-    /// The method, at its end: each label that is named is there, and there is a body unless the method is abstract.
+    /// The code of the method, at its end, whose instructions and rows are taken out.
     #[tactic(auto, unfolding(crate::specs::Bodies::closed))]
+    fn code(&mut self, alloc: Global) -> Result<Option<Code>, LineError>
+        ensures access { self.new.access ≡ self.old.access }
+        ensures name { self.new.name ≡ self.old.name }
+        ensures types { self.new.method_type ≡ self.old.method_type }
+        ensures gives { Gives (λ code. method_with self.old code) result (closed self.old) }
+    {
+        let has_instructions = self.listing.place() != 0;
+        let has_other = self.labels.len() != 0 || !self.catches.is_empty();
+        let instructions = self.listing.take_instructions(alloc);
+        let instructions = all_with_places(alloc, &self.labels, instructions)?;
+        let catches = replace(&mut self.catches, Sequence::new(alloc));
+        let handlers = handlers(alloc, &self.labels, catches.into_vec())?;
+        if !self.access.is_abstract && has_instructions {
+            Ok(Some(Code {
+                stack: self.stack,
+                locals: self.locals,
+                handlers,
+                instructions,
+            }))
+        } else if self.access.is_abstract && !has_instructions && !has_other {
+            Ok(None)
+        } else {
+            Err(Refusal::Fault(FaultKind::BadBody))
+        }
+    }
+
+    /// The method, at its end: each label that is named is there, and there is a body unless the method is abstract.
     pub(crate) fn close(self, alloc: Global) -> Result<Method, LineError>
         ensures { Gives (λ x. x) result (closed self) }
     {
+        let mut body = self;
+        let code = body.code(alloc);
         let Body {
             access,
             name,
             method_type,
-            stack,
-            locals,
             labels,
             catches,
             listing,
-        } = self;
-        let instructions = listing.into_instructions();
-        let has_instructions = !instructions.is_empty();
-        let has_other = labels.len() != 0 || !catches.is_empty();
-        let instructions = all_with_places(alloc, &labels, instructions)?;
-        let handlers = handlers(alloc, &labels, catches.into_vec())?;
-        let code = if !access.is_abstract && has_instructions {
-            Some(Code {
-                stack,
-                locals,
-                handlers,
-                instructions,
-            })
-        } else if access.is_abstract && !has_instructions && !has_other {
-            None
-        } else {
-            return Err(Refusal::Fault(FaultKind::BadBody));
-        };
+            ..
+        } = body;
+        drop((labels, catches, listing));
         Ok(Method {
             access,
             name,
             method_type,
-            code,
+            code: code?,
         })
     }
 }

@@ -7,7 +7,7 @@ ghost use Rattle.jasmin_words.specs.Gives.{Gives};
 ghost use Rattle.jasmin_words.specs.Lexing.{words_of};
 ghost use Rattle.jasmin_reader.specs.Reading.{line_at};
 ghost use Rattle.jasmin_text.specs.Lines.{line_len, lines_of};
-ghost use Rattle.jasmin_reader.specs.File.{Reads, class_at, finished, fault_at, fault_of, object_name};
+ghost use Rattle.jasmin_reader.specs.File.{Reads, class_at, empty_reader, parts_with, finished, fault_at, fault_of, object_name};
 ghost use Rattle.jasmin_reader.specs.Good.{IsGood};
 ghost use Rattle.jasmin_words.specs.declared.fault.FaultKind.TheVariants as faults;
 
@@ -18,7 +18,9 @@ use crate::reader::Reader;
 use descriptors::ClassName;
 use jasmin_text::{ClassParts, ClassText};
 use jasmin_words::{FaultKind, Refusal, words};
+use sequence::Sequence;
 use std::alloc::{AllocError, Global};
+use std::mem::replace;
 
 fn line_length(bytes: &[u8]) -> usize
     ensures value { result ≡ line_len bytes.now }
@@ -89,43 +91,48 @@ fn fault(kind: FaultKind, line: usize) -> ReadFault
     ReadFault { kind, line }
 }
 
-/// The parts of a class that is read whole.
-#[tactic(auto, unfolding(crate::specs::File::finished))]
-fn parts(alloc: Global, reader: Reader, last: usize) -> Result<ClassParts, ReadFault>
-    ensures { Reads result (finished reader last) }
+/// The parts of a class with this head and superclass. The others are taken out of the reader.
+fn assembled(
+    alloc: Global,
+    reader: &mut Reader,
+    head: (HeadWords, ClassName),
+    superclass: ClassName,
+) -> ClassParts
+    ensures { result ≡ parts_with reader.old head superclass }
 {
-    let Reader {
-        class,
-        superclass,
-        interfaces,
-        fields,
-        methods,
-        body,
-    } = reader;
-    let Some((HeadWords { kind, access }, name)) = class else {
-        return Err(fault(FaultKind::Misplaced, 1));
-    };
-    if body.is_some() {
-        return Err(fault(FaultKind::Unfinished, last));
-    }
-    let Ok(superclass) = or_object(alloc, superclass) else {
-        return Err(fault(FaultKind::NoMemory, last));
-    };
-    Ok(ClassParts {
+    let (HeadWords { kind, access }, name) = head;
+    ClassParts {
         kind,
         access,
         name,
         superclass,
-        interfaces,
-        fields,
-        methods,
-    })
+        interfaces: replace(&mut reader.interfaces, Sequence::new(alloc)),
+        fields: replace(&mut reader.fields, Sequence::new(alloc)),
+        methods: replace(&mut reader.methods, Sequence::new(alloc)),
+    }
+}
+
+/// The parts of a class that is read whole, which are taken out of the reader.
+#[tactic(auto, unfolding(crate::specs::File::finished))]
+fn parts(alloc: Global, reader: &mut Reader, last: usize) -> Result<ClassParts, ReadFault>
+    ensures { Reads result (finished reader.old last) }
+{
+    let Some(head) = reader.class.take() else {
+        return Err(fault(FaultKind::Misplaced, 1));
+    };
+    if reader.body.is_some() {
+        return Err(fault(FaultKind::Unfinished, last));
+    }
+    match or_object(alloc, reader.superclass.take()) {
+        Ok(superclass) => Ok(assembled(alloc, reader, head, superclass)),
+        Err(_) => Err(fault(FaultKind::NoMemory, last)),
+    }
 }
 
 /// The class text of a class that is read whole.
-fn finish(alloc: Global, reader: Reader, last: usize) -> Result<ClassText, ReadFault>
-    requires { IsGood reader }
-    ensures { Reads result (finished reader last) }
+fn finish(alloc: Global, reader: &mut Reader, last: usize) -> Result<ClassText, ReadFault>
+    requires { IsGood reader.old }
+    ensures { Reads result (finished reader.old last) }
 {
     let parts = parts(alloc, reader, last)?;
     match ClassText::new(alloc, parts) {
@@ -135,17 +142,17 @@ fn finish(alloc: Global, reader: Reader, last: usize) -> Result<ClassText, ReadF
     }
 }
 
-/// The class that the lines spell, or the first fault and its line.
-fn read_lines(alloc: Global, bytes: &[u8]) -> Result<ClassText, ReadFault>
+/// The class that the lines spell, or the first fault and its line. The reader has read nothing yet.
+fn read_lines(alloc: Global, reader: &mut Reader, bytes: &[u8]) -> Result<ClassText, ReadFault>
+    requires { reader.old ≡ empty_reader }
     ensures { Reads result (class_at bytes.now) }
 {
-    let mut reader = Reader::new(alloc);
     let mut rest = bytes;
     let mut last = 0;
     while !rest.is_empty() {
         let (line, after) = cut(rest);
         last += 1;
-        if let Err(error) = add_line(&mut reader, alloc, line) {
+        if let Err(error) = add_line(reader, alloc, line) {
             return Err(fault_on(error, last));
         }
         rest = after;
@@ -165,5 +172,8 @@ pub fn read_class(alloc: Global, bytes: &[u8]) -> Result<ClassText, ReadFault>
     // What the lines spell is read, unless memory runs out.
     ensures only { (c : ClassParts) → Spells (lines_of bytes.now) c → Reads result (Ok c) }
 {
-    read_lines(alloc, bytes)
+    let mut reader = Reader::new(alloc);
+    let read = read_lines(alloc, &mut reader, bytes);
+    drop(reader);
+    read
 }

@@ -15,7 +15,7 @@ use jasmin_words::{FaultKind, Refusal, Token};
 use std::alloc::Global;
 
 /// What a line names.
-#[derive(Clone, Copy, Debug, PartialEq, Eq)]
+#[derive(Clone, Copy)]
 pub(crate) enum Place {
     /// `.class`
     Class,
@@ -28,7 +28,7 @@ pub(crate) enum Place {
 }
 
 /// The words before a name, so far.
-#[derive(Clone, Copy, Debug, PartialEq, Eq)]
+#[derive(Clone, Copy)]
 pub(crate) struct HeadWords {
     /// Whether `.interface` or the word `interface` stands there.
     pub kind: ClassKind,

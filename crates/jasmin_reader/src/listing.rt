@@ -4,7 +4,7 @@ ghost use Rattle.std.specs.Prelude.{◌≡◌, ◌≤◌, ◌<◌, ◌+◌, leng
 ghost use Rattle.jasmin_words.specs.Gives.{Gives};
 ghost use Rattle.jasmin_words.specs.Lexing.{views};
 ghost use Rattle.std.specs.Option.{option_map};
-ghost use Rattle.jasmin_reader.specs.Listing.{empty_listing, has_room, with_instruction, with_switch, with_begun, unknown_word as unknown_word_of, instruction_at, behind_colon as behind_colon_of, colon_from, is_default, less_room, is_full, without_switch, key_in, target_at, table_end, table_by, case_from, case_at, lookup_end, switch_at};
+ghost use Rattle.jasmin_reader.specs.Listing.{empty_listing, has_room, with_instruction, with_switch, with_begun, unknown_word as unknown_word_of, instruction_at, behind_colon as behind_colon_of, colon_from, is_default, less_room, is_full, without_switch, key_in, with_target, target_at, table_end, table_by, case_from, case_at, lookup_end, switch_at};
 
 use crate::operands::{Begun, begin};
 use crate::place::{FromWord, LineError, bad_operand, ended, fault_at, last_operand, within};
@@ -17,6 +17,7 @@ use jasmin_words::{FaultKind, Refusal, Token};
 use sequence::{Sequence, Text};
 use std::alloc::{AllocError, Global};
 use std::marker::Model;
+use std::mem::replace;
 
 /// How many instructions a method may have. Each label and key of a switch counts as one more.
 const MOST_INSTRUCTIONS: u16 = 16_384;
@@ -126,12 +127,11 @@ impl Listing {
         }
     }
 
-    /// The instructions so far. Takes no memory.
-    pub(crate) fn into_instructions(self) -> Vec<Instruction<Text>>
-        ensures { result.items ≡ self.instructions }
+    /// The instructions so far, which are taken out. Takes no memory.
+    pub(crate) fn take_instructions(&mut self, alloc: Global) -> Vec<Instruction<Text>>
+        ensures { result.items ≡ self.old.instructions }
     {
-        let Listing { instructions, .. } = self;
-        instructions.into_vec()
+        replace(&mut self.instructions, Sequence::new(alloc)).into_vec()
     }
 
     /// The place of the next instruction: how many there are.
@@ -222,8 +222,28 @@ impl Listing {
         Ok(())
     }
 
-    /// A label of a `tableswitch`.
+    /// The label on a line of a `tableswitch`, and how many may come after it.
     #[tactic(auto, unfolding(crate::specs::Listing::target_at))]
+    fn next_target(
+        &self,
+        alloc: Global,
+        table: &Table,
+        word: &[u8],
+        is_long: bool,
+        rest: &[Token<'_>],
+    ) -> Result<(Text, Option<u64>), LineError>
+        ensures room { OnOk result (0 < self.now.room) }
+        ensures gives { Gives (λ x. with_switch self.now (with_target table.now x.1 x.0)) result (target_at self.now table.now (word.now, is_long) (views rest.now)) }
+    {
+        let label = Text::from_word(alloc, word)?;
+        let room = one_less(table.room)?;
+        within(is_long)?;
+        self.room()?;
+        ended(rest)?;
+        Ok((label, room))
+    }
+
+    /// A label of a `tableswitch`.
     fn target(
         &mut self,
         alloc: Global,
@@ -235,16 +255,12 @@ impl Listing {
         requires spare { length self.old.instructions + 1 + self.old.room ≤ 16384 }
         ensures { Gives (λ _. self.new) result (target_at self.old table (word.now, is_long) (views rest.now)) }
     {
-        let label = Text::from_word(alloc, word)?;
+        let (label, room) = self.next_target(alloc, &table, word, is_long, rest)?;
         let Table {
             low,
-            room,
             mut labels,
+            ..
         } = table;
-        let room = one_less(room)?;
-        within(is_long)?;
-        self.room()?;
-        ended(rest)?;
         labels.push(label)?;
         self.open(Switch::Table(Table { low, room, labels }));
         Ok(())

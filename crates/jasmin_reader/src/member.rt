@@ -4,7 +4,7 @@ ghost use Rattle.std.specs.Prelude.{◌≡◌};
 ghost use Rattle.jasmin_words.specs.Gives.{Gives};
 ghost use Rattle.jasmin_words.specs.Lexing.{views};
 ghost use Rattle.jasmin_text.specs.Spellable.{is_int_type, is_string_type};
-ghost use Rattle.jasmin_reader.specs.Heads.{behind_signature, constant_for, value_at, value_from, described_from, field_from, may_initialize, fits_initializer, method_from};
+ghost use Rattle.jasmin_reader.specs.Heads.{behind_signature, constant_for, value_at, value_from, described_from, field_named, field_from, may_initialize, fits_initializer, method_there, method_named, method_from};
 
 use crate::head::{Place, is_at_signature, no_access_word, no_words, read_name};
 use crate::place::{FromWord, LineError, bad_operand, ended, fault_at, operand, string, within};
@@ -128,6 +128,25 @@ fn descriptor<'a, 't>(
     operand::<FieldType>(alloc, tokens)
 }
 
+/// The field with these access words and this name, whose descriptor and value follow.
+fn field_behind(
+    alloc: Global,
+    access: Access,
+    name: MemberName,
+    tokens: &[Token<'_>],
+) -> Result<Field, LineError>
+    ensures { Gives (λ x. x) result (field_named access name (views tokens.now)) }
+{
+    let (field_type, rest) = descriptor(alloc, tokens)?;
+    let value = value(alloc, &field_type, rest)?;
+    Ok(Field {
+        access,
+        name,
+        field_type,
+        value,
+    })
+}
+
 /// The field behind `.field`.
 #[tactic(auto, unfolding(crate::specs::Heads::field_from))]
 pub(crate) fn field(alloc: Global, tokens: &[Token<'_>]) -> Result<Field, LineError>
@@ -137,14 +156,7 @@ pub(crate) fn field(alloc: Global, tokens: &[Token<'_>]) -> Result<Field, LineEr
     no_access_word(Place::Field, named.name.0)?;
     let name = MemberName::from_word(alloc, named.name.0)?;
     within(named.name.1)?;
-    let (field_type, rest) = descriptor(alloc, named.rest)?;
-    let value = value(alloc, &field_type, rest)?;
-    Ok(Field {
-        access: named.words.access,
-        name,
-        field_type,
-        value,
-    })
+    field_behind(alloc, named.words.access, name, named.rest)
 }
 
 /// Whether such a method may be the initializer of a class (JVMS SE 8 2.9).
@@ -175,6 +187,35 @@ pub(crate) struct MethodHead {
     pub method_type: MethodType,
 }
 
+/// Whether the head may stand so: its word isn't too long, an initializer is one, and nothing follows.
+fn may_stand(head: &MethodHead, is_long: bool, rest: &[Token<'_>]) -> Result<(), LineError>
+    ensures { Gives (λ _. (head.now.access, (head.now.name, head.now.method_type))) result (method_there head.now.access (head.now.name, head.now.method_type) is_long (views rest.now)) }
+{
+    within(is_long)?;
+    fit_initializer(head.access, &head.name, &head.method_type)?;
+    ended(rest)
+}
+
+/// The head of a method with these access words, by the word in the name's place and what follows it.
+fn method_behind(
+    alloc: Global,
+    access: Access,
+    word: &[u8],
+    is_long: bool,
+    rest: &[Token<'_>],
+) -> Result<MethodHead, LineError>
+    ensures { Gives (λ x. (x.access, (x.name, x.method_type))) result (method_named access ((word.now, is_long), views rest.now)) }
+{
+    let (name, method_type) = typed::<MemberName>(alloc, word)?;
+    let head = MethodHead {
+        access,
+        name,
+        method_type,
+    };
+    may_stand(&head, is_long, rest)?;
+    Ok(head)
+}
+
 /// The access words, the name and the type behind `.method`.
 #[tactic(auto, unfolding(crate::specs::Heads::method_from))]
 pub(crate) fn method_head(alloc: Global, tokens: &[Token<'_>]) -> Result<MethodHead, LineError>
@@ -182,13 +223,11 @@ pub(crate) fn method_head(alloc: Global, tokens: &[Token<'_>]) -> Result<MethodH
 {
     let named = read_name(Place::Method, no_words(ClassKind::Class), tokens)?;
     no_access_word(Place::Method, named.name.0)?;
-    let (name, method_type) = typed::<MemberName>(alloc, named.name.0)?;
-    within(named.name.1)?;
-    fit_initializer(named.words.access, &name, &method_type)?;
-    ended(named.rest)?;
-    Ok(MethodHead {
-        access: named.words.access,
-        name,
-        method_type,
-    })
+    method_behind(
+        alloc,
+        named.words.access,
+        named.name.0,
+        named.name.1,
+        named.rest,
+    )
 }

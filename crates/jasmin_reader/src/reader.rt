@@ -1,12 +1,12 @@
 //! A class, line by line. "Own choice" marks this project's own choice (docs/JASMIN.md).
 
-ghost use Rattle.std.specs.Prelude.{◌≡◌, Some, None, Err};
+ghost use Rattle.std.specs.Prelude.{◌≡◌, Some, None, Err, OnOk, is_some, true};
 ghost use Rattle.jasmin_words.specs.Gives.{Gives};
 ghost use Rattle.jasmin_words.specs.Lexing.{views};
 ghost use Rattle.jasmin_text.specs.Forms.{form_at};
 ghost use Rattle.jasmin_reader.specs.File.{empty_reader};
 ghost use Rattle.jasmin_reader.specs.Listing.{behind_colon as behind_colon_of};
-ghost use Rattle.jasmin_reader.specs.Reading.{allowed as allowed_if, has_room_for, class_line, is_in_class, is_in_header, super_line, implements_line, member_room, field_line, empty_body, method_line, in_body, end_line, directive_line, stray_by, statement_line, no_word as no_word_of, line_at};
+ghost use Rattle.jasmin_reader.specs.Reading.{allowed as allowed_if, has_room_for, class_line, is_in_class, is_in_header, super_line, implements_line, member_room, field_line, empty_body, with_body, method_line, in_body, open_at, end_line, directive_line, stray_by, statement_line, no_word as no_word_of, line_at};
 ghost use Rattle.jasmin_reader.specs.Bodies.{limit_at, catch_at};
 
 use crate::body::{Body, behind_end};
@@ -180,6 +180,13 @@ impl Reader {
         Ok(())
     }
 
+    /// Opens a method without lines.
+    fn open(&mut self, alloc: Global, head: MethodHead)
+        ensures { self.new ≡ with_body self.old (empty_body head.access head.name head.method_type) }
+    {
+        drop(self.body.replace(opened(alloc, head)));
+    }
+
     #[tactic(auto, unfolding(crate::specs::Reading::method_line))]
     fn method(&mut self, alloc: Global, tokens: &[Token<'_>]) -> Result<(), LineError>
         ensures { Gives (λ _. self.new) result (method_line self.old (views tokens.now)) }
@@ -187,8 +194,19 @@ impl Reader {
         allowed(self.in_class())?;
         has_room(self.takes_member())?;
         let head = method_head(alloc, tokens)?;
-        self.body = Some(opened(alloc, head));
+        self.open(alloc, head);
         Ok(())
+    }
+
+    /// A method stands open, and no switch in it.
+    fn may_end(&self) -> Result<(), LineError>
+        ensures open { OnOk result (is_some self.now.body ≡ true) }
+        ensures gives { Gives (λ x. x) result (open_at self.now.body) }
+    {
+        match &self.body {
+            None => Err(Refusal::Fault(FaultKind::Misplaced)),
+            Some(body) => body.not_in_switch(),
+        }
     }
 
     #[tactic(auto, unfolding(crate::specs::Reading::end_line))]
@@ -196,14 +214,13 @@ impl Reader {
         ensures { Gives (λ _. self.new) result (end_line self.old (views tokens.now)) }
     {
         let rest = behind_end(tokens)?;
+        self.may_end()?;
         match self.body.take() {
-            None => Err(Refusal::Fault(FaultKind::Misplaced)),
+            None => unreachable!(),
             Some(body) => {
-                body.not_in_switch()?;
                 let method = body.close(alloc)?;
-                ended(rest)?;
                 self.methods.push(method)?;
-                Ok(())
+                ended(rest)
             }
         }
     }

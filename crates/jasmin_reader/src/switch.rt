@@ -9,7 +9,7 @@ use std::collections::BTreeMap;
 use std::marker::Model;
 
 /// A `tableswitch`.
-#[derive(Debug, Drop)]
+#[derive(Drop)]
 pub(crate) struct Table {
     /// The first key.
     pub low: i32,

@@ -23,7 +23,7 @@ fn find<T: Copy>(word: &[u8], table: &[(&[u8], T)]) -> Option<T>
 }
 
 /// A word before the name of a class.
-#[derive(Clone, Copy, Debug, PartialEq, Eq)]
+#[derive(Clone, Copy)]
 pub(crate) enum ClassWord {
     /// It makes the class an interface.
     Interface,
@@ -46,7 +46,7 @@ pub(crate) fn class_word_of(word: &[u8]) -> Option<ClassWord>
 }
 
 /// A word behind `newarray`.
-#[derive(Clone, Copy, Debug, PartialEq, Eq)]
+#[derive(Clone, Copy)]
 pub(crate) enum BaseWord {
     /// A type that the machine knows.
     Known(BaseType),

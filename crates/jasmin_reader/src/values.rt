@@ -2,6 +2,7 @@
 
 ghost use Rattle.std.specs.Prelude.{◌≡◌, ◌≤◌, ◌<◌, length, IfOk, IfSome};
 ghost use Rattle.jasmin_words.specs.Gives.{Gives};
+ghost use Rattle.jasmin_reader.specs.Places.{IsFaultOr, lowest_with};
 ghost use Rattle.jasmin_reader.specs.Operands.{integer_in, number_in, limit_in, refusal_of, signature_in, slash_in, name_len, typed_in, begins_with};
 
 use crate::place::{FromWord, LineError, bad_operand, lowest};
@@ -246,21 +247,27 @@ fn name_length(word: &[u8]) -> usize
     count
 }
 
+/// The fault of a word whose name has this one; the descriptor may have a lower one.
+fn fault_with(alloc: Global, kind: FaultKind, descriptor: &[u8]) -> LineError
+    ensures { IsFaultOr result (lowest_with kind (signature_in descriptor.now)) }
+{
+    match signature(alloc, descriptor) {
+        Ok(_) => Refusal::Fault(kind),
+        Err(Refusal::Fault(other)) => Refusal::Fault(lowest(kind, other)),
+        Err(Refusal::Memory) => Refusal::Memory,
+    }
+}
+
 /// What stands before a method's descriptor, and the type. Of two faults the lowest kind is told.
 #[tactic(auto, unfolding(crate::specs::Operands::typed_in))]
 pub(crate) fn typed<T: FromWord>(alloc: Global, word: &[u8]) -> Result<(T, MethodType), LineError>
     ensures { Gives (λ x. x) result (typed_in T.read word.now) }
 {
     let (name, descriptor) = word.split_at(name_length(word));
-    match (T::from_word(alloc, name), signature(alloc, descriptor)) {
-        (Ok(name), Ok(method_type)) => Ok((name, method_type)),
-        (Err(Refusal::Memory), _) | (_, Err(Refusal::Memory)) => Err(Refusal::Memory),
-        (Err(Refusal::Fault(one)), Err(Refusal::Fault(other))) => {
-            Err(Refusal::Fault(lowest(one, other)))
-        }
-        (Err(Refusal::Fault(kind)), Ok(_)) | (Ok(_), Err(Refusal::Fault(kind))) => {
-            Err(Refusal::Fault(kind))
-        }
+    match T::from_word(alloc, name) {
+        Ok(name) => Ok((name, signature(alloc, descriptor)?)),
+        Err(Refusal::Fault(kind)) => Err(fault_with(alloc, kind, descriptor)),
+        Err(Refusal::Memory) => Err(Refusal::Memory),
     }
 }
 

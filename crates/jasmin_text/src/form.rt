@@ -15,7 +15,7 @@ use crate::instruction::{Call, FieldAccess, Jump, Local, Plain, TypeUse};
 use crate::table::{find, stands_in};
 
 /// What an instruction's word asks for behind it.
-#[derive(Clone, Copy, Debug, PartialEq, Eq)]
+#[derive(Clone, Copy)]
 pub enum Form {
     /// No operand.
     Plain(Plain),
@@ -285,7 +285,7 @@ pub fn left_out(word: &[u8]) -> bool
 }
 
 /// What a line that begins with a dot says.
-#[derive(Clone, Copy, Debug, PartialEq, Eq)]
+#[derive(Clone, Copy)]
 pub enum Directive {
     /// `.class`
     Class,

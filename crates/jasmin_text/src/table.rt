@@ -6,7 +6,7 @@ ghost use Rattle.jasmin_text.specs.Tables.{find_row, rows, stands_in as is_among
 use jasmin_words::name::same;
 
 /// What a word before a name says.
-#[derive(Clone, Copy, Debug, PartialEq, Eq)]
+#[derive(Clone, Copy)]
 pub enum AccessWord {
     /// `public`
     Public,

@@ -9,7 +9,7 @@ use crate::refusal::Refusal;
 use std::alloc::{AllocError, Global};
 
 /// What is wrong with an escape.
-#[derive(Clone, Copy, Debug, PartialEq, Eq)]
+#[derive(Clone, Copy)]
 pub(crate) enum EscapeFault {
     /// No escape begins so, or a surrogate has no partner.
     Wrong,

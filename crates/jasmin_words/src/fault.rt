@@ -3,55 +3,42 @@
 ghost use Rattle.std.specs.Prelude.{◌≡◌};
 ghost use Rattle.jasmin_words.specs.Fault.{number_of};
 
-use thiserror::Error;
+use std::error::Error;
+use std::fmt;
 
 /// What is wrong with a Jasmin file. Of several faults at one place the lowest kind is told, in the order of
 /// this list. A kind prints as its code, `J1` to `J14`.
-#[derive(Clone, Copy, Debug, PartialEq, Eq, PartialOrd, Ord, Error)]
+#[derive(Clone, Copy, Debug, PartialEq, Eq, PartialOrd, Ord)]
 pub enum FaultKind {
     /// `J1`: a byte above 127 or a control byte outside comment and string, or a string that isn't UTF-8.
-    #[error("J1")]
     BadByte,
     /// `J2`: a word that begins with a dot and is no directive.
-    #[error("J2")]
     UnknownDirective,
     /// `J3`: a word in an instruction's place that is none.
-    #[error("J3")]
     UnknownInstruction,
     /// `J4`: a directive, an instruction, an access word or a type that is left out (`long`, `float`,
     /// `double`, `jsr`, `native` and others).
-    #[error("J4")]
     LeftOut,
     /// `J5`: an operand that is missing, superfluous or not of its form, where no other kind names it.
-    #[error("J5")]
     BadOperand,
     /// `J6`: a label that its method doesn't have, met at `.end method`.
-    #[error("J6")]
     UnknownLabel,
     /// `J7`: a label that its method has already.
-    #[error("J7")]
     RepeatedLabel,
     /// `J8`: a string without its closing quote, or a method without its end, met at the last line.
-    #[error("J8")]
     Unfinished,
     /// `J9`: a directive where it may not stand, an instruction outside a method, a second `.class` or
     /// `.super`, no `.class` at all (met at line 1).
-    #[error("J9")]
     Misplaced,
     /// `J10`: a descriptor that is none.
-    #[error("J10")]
     BadDescriptor,
     /// `J11`: a word, a string, a number or a count beyond its limit.
-    #[error("J11")]
     LimitExceeded,
     /// `J12`: a `<clinit>` that isn't static, isn't void or has parameters.
-    #[error("J12")]
     BadInitializer,
     /// `J13`: a method without a body that isn't abstract, or the reverse, met at `.end method`.
-    #[error("J13")]
     BadBody,
     /// `J14`: no memory for what was read. Its line is open.
-    #[error("J14")]
     NoMemory,
 }
 
@@ -78,3 +65,11 @@ impl FaultKind {
         }
     }
 }
+
+impl fmt::Display for FaultKind {
+    fn fmt<W: fmt::Write>(&self, f: &mut fmt::Formatter<W>) -> fmt::Result {
+        write!(f, "J{}", self.number())
+    }
+}
+
+impl Error for FaultKind {}

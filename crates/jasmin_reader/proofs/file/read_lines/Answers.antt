@@ -8,7 +8,7 @@ use Rattle.jasmin_reader.proofs.file.read_lines.Goals as goal
 
 pub loop-rest-init : goal.loop-rest-init
 unfolding class_at
-loop-rest-init c = rw (c.new-reader.ensures) (refl, omega arith, empty_is_good)
+loop-rest-init c = rw (c.requires) (refl, omega arith, empty_is_good)
 
 pub loop-rest-preserved : goal.loop-rest-preserved
 loop-rest-preserved c = (goes_on c.loop-rest.last c.loop-rest.reader c.add_line.new.reader c.loop-rest.rest.now c.cut.result.0.now c.cut.result.1.now (class_at c.args.bytes.now) c.cut.ensures.lines (search rules) c.loop-rest.invariant.0, omega (arith, c.loop-rest.invariant.1, c.cut.ensures.shorter), (search (rules, c.loop-rest.invariant.2)))
