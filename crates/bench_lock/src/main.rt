@@ -6,174 +6,152 @@
 //! run, and nothing is printed that hangs on time.
 #![tactic(auto)]
 
-ghost use Rattle.std.specs.Prelude.{◌≡◌, ◌<◌, ◌≤◌, ◌*◌, IfOk, IfSome};
+ghost use Rattle.std.specs.Prelude.{◌≡◌, ◌≤◌, IfOk, IfSome};
 ghost use Rattle.std.specs.List.{AllByRecursion};
-ghost use Rattle.init_lock.specs.Known.{IsAway};
 ghost use Rattle.bench_lock.specs.Ready.{IsReady};
 
 mod rounds;
 mod ticks;
 
-use crate::rounds::{alone, both};
-use crate::ticks::Ticks;
+use crate::rounds::in_threads;
+use crate::ticks::{Ticks, four_records};
 use init_lock::{InitTable, Pass};
 use std::alloc::{AllocError, Global};
+use std::env::Args;
 use std::rt::Runtime;
 use std::sync::Wait;
 use std::sync::atomic::{AtomicU64, Ordering};
-use std::thread::{Threads, join};
+use std::thread::Threads;
 use std::time::Instant;
 use std::{env, io};
 
-// A table of four records, and four passes with room for so many events each.
-#[derive(Drop)]
-struct Four {
-    table: InitTable<Ticks>,
-    first: Pass<Ticks>,
-    second: Pass<Ticks>,
-    third: Pass<Ticks>,
-    fourth: Pass<Ticks>,
+// Some threads that tick side by side, each on a record of its own or all on the first.
+struct Contest {
+    name: &'static str,
+    threads: usize,
+    apart: bool,
 }
 
-// The last of the passes, with room for so many events.
-fn next_ready(
-    table: &InitTable<Ticks>,
-    passes: &mut Vec<Pass<Ticks>>,
-    rounds: usize,
-) -> Result<Pass<Ticks>, AllocError>
-    requires rounds { rounds ≤ 100_000_000 }
-    requires ready { AllByRecursion (IsReady table.now.id) passes.old.items }
-    ensures ready { IfOk result (λ p. AllByRecursion (IsReady table.now.id) passes.new.items) }
-    ensures pass { IfOk result (λ p. (p.table ≡ table.now.id) × (p.room ≡ rounds) × IsAway p.places) }
-{
-    let Some(mut pass) = passes.pop() else {
-        return Err(AllocError);
-    };
-    pass.reserve(rounds)?;
-    Ok(pass)
+const CONTESTS: [Contest; 5] = [
+    Contest {
+        name: "1 thread           ",
+        threads: 1,
+        apart: false,
+    },
+    Contest {
+        name: "2 threads, 1 record",
+        threads: 2,
+        apart: false,
+    },
+    Contest {
+        name: "2 threads, 2 records",
+        threads: 2,
+        apart: true,
+    },
+    Contest {
+        name: "4 threads, 1 record",
+        threads: 4,
+        apart: false,
+    },
+    Contest {
+        name: "4 threads, 4 records",
+        threads: 4,
+        apart: true,
+    },
+];
+
+fn add_often(rounds: usize) {
+    let word = AtomicU64::new(0);
+    for _ in 0..rounds {
+        word.fetch_add(1, Ordering::SeqCst);
+    }
 }
 
-fn four_of_each(alloc: Global, rounds: usize) -> Result<Four, AllocError>
-    requires { rounds ≤ 100_000_000 }
-    ensures places { IfOk result (λ f. f.table.places ≡ 4) }
-    ensures first { IfOk result (λ f. (f.first.table ≡ f.table.id) × (f.first.room ≡ rounds) × IsAway f.first.places) }
-    ensures second { IfOk result (λ f. (f.second.table ≡ f.table.id) × (f.second.room ≡ rounds) × IsAway f.second.places) }
-    ensures third { IfOk result (λ f. (f.third.table ≡ f.table.id) × (f.third.room ≡ rounds) × IsAway f.third.places) }
-    ensures fourth { IfOk result (λ f. (f.fourth.table ≡ f.table.id) × (f.fourth.room ≡ rounds) × IsAway f.fourth.places) }
-{
-    let records = vec![in alloc; Ticks::new(), Ticks::new(), Ticks::new(), Ticks::new()]?;
-    let (table, mut passes) = InitTable::new(alloc, records, 4)?;
-    let first = next_ready(&table, &mut passes, rounds)?;
-    let second = next_ready(&table, &mut passes, rounds)?;
-    let third = next_ready(&table, &mut passes, rounds)?;
-    let fourth = next_ready(&table, &mut passes, rounds)?;
-    Ok(Four {
-        table,
-        first,
-        second,
-        third,
-        fourth,
-    })
+// The time since the start, in nanoseconds.
+fn nanoseconds_since(rt: &impl Runtime, start: &Instant) -> io::Result<u128> {
+    Ok(start.elapsed(rt)?.as_nanos())
 }
 
 // So many `fetch_add`s on a word of their own, in nanoseconds.
 fn fetch_add_time(rt: &impl Runtime, rounds: usize) -> io::Result<u128> {
-    let word = AtomicU64::new(0);
     let start = Instant::now(rt)?;
-    for _ in 0..rounds {
-        word.fetch_add(1, Ordering::SeqCst);
-    }
-    Ok(start.elapsed(rt)?.as_nanos())
+    add_often(rounds);
+    nanoseconds_since(rt, &start)
 }
 
-// So many rounds of one thread, in nanoseconds.
-fn alone_time(rt: &impl Runtime, alloc: Global, rounds: usize) -> io::Result<u128>
-    requires { rounds ≤ 100_000_000 }
-{
-    let four = four_of_each(alloc, rounds)?;
-    let Four { table, first, .. } = four;
-    let start = Instant::now(rt)?;
-    alone(&table, first, 0, rounds);
-    Ok(start.elapsed(rt)?.as_nanos())
-}
-
-// So many rounds in each of two threads, in nanoseconds. A step of 0 is one record for both, 1 is a record each.
-fn two_time<R: Runtime + Threads + Wait + Sync>(
+// So many rounds of each pass in a thread of its own, in nanoseconds.
+fn contest_time<R: Runtime + Threads + Wait + Sync>(
     rt: &R,
-    alloc: Global,
-    step: usize,
+    table: &InitTable<Ticks>,
+    passes: Vec<Pass<Ticks>>,
+    apart: bool,
     rounds: usize,
 ) -> io::Result<u128>
+    requires passes { AllByRecursion (IsReady table.now.id) passes.items }
+    requires places { table.now.places ≡ 4 }
     requires rounds { rounds ≤ 100_000_000 }
-    requires step { step ≤ 1 }
 {
-    let Four {
-        table,
-        first,
-        second,
-        ..
-    } = four_of_each(alloc, rounds)?;
     let start = Instant::now(rt)?;
-    both(rt, &table, first, second, [0, step], rounds);
-    Ok(start.elapsed(rt)?.as_nanos())
+    in_threads(rt, table, passes, apart, rounds)?;
+    nanoseconds_since(rt, &start)
 }
 
-// The same in four threads.
-fn four_time<R: Runtime + Threads + Wait + Sync>(
+// A table of four records, and a pass for each thread.
+fn opened(alloc: Global, threads: usize) -> Result<(InitTable<Ticks>, Vec<Pass<Ticks>>), AllocError>
+    requires threads { threads ≤ 4 }
+    ensures places { IfOk result (λ t. t.0.places ≡ 4) }
+    ensures passes { IfOk result (λ t. AllByRecursion (IsReady t.0.id) t.1.items) }
+{
+    let records = four_records(alloc)?;
+    InitTable::new(alloc, records, threads)
+}
+
+// A contest of so many rounds in each thread, in nanoseconds.
+fn rounds_time<R: Runtime + Threads + Wait + Sync>(
     rt: &R,
     alloc: Global,
-    step: usize,
+    contest: &Contest,
     rounds: usize,
 ) -> io::Result<u128>
+    requires threads { contest.now.threads ≤ 4 }
     requires rounds { rounds ≤ 100_000_000 }
-    requires step { step ≤ 1 }
 {
-    let Four {
-        table,
-        first,
-        second,
-        third,
-        fourth,
-    } = four_of_each(alloc, rounds)?;
-    let start = Instant::now(rt)?;
-    join(
-        rt,
-        ||
-            requires { (4 ≤ table.places) × (first.table ≡ table.id) × (second.table ≡ table.id) × (rounds ≤ first.room) × (rounds ≤ second.room) × IsAway first.places × IsAway second.places }
-        { both(rt, &table, first, second, [0, step], rounds) },
-        ||
-            requires { (4 ≤ table.places) × (third.table ≡ table.id) × (fourth.table ≡ table.id) × (rounds ≤ third.room) × (rounds ≤ fourth.room) × IsAway third.places × IsAway fourth.places × (step ≤ 1) }
-        {
-            both(
-                rt,
-                &table,
-                third,
-                fourth,
-                [step + step, step + step + step],
-                rounds,
-            )
-        },
-    );
-    Ok(start.elapsed(rt)?.as_nanos())
+    let (table, passes) = opened(alloc, contest.threads)?;
+    contest_time(rt, &table, passes, contest.apart, rounds)
 }
 
 // How often one time holds another, with one decimal.
-fn ratio(alloc: Global, time: u128, unit: u128) -> Result<String, AllocError> {
+fn print_ratio(rt: &impl Runtime, name: &str, time: u128, unit: u128) -> io::Result<()> {
     let tenths = time.saturating_mul(10) / unit.max(1);
-    format!(in alloc; "{}.{}", tenths / 10, tenths % 10)
+    println!(rt; "{name} {}.{}", tenths / 10, tenths % 10)
 }
 
-// The number of rounds, if there is an argument that is one.
-fn rounds_asked(rt: &impl Runtime) -> io::Result<Option<usize>>
-    ensures { IfOk result (λ r. IfSome r (λ n. n ≤ 100_000_000)) }
+fn print_contest<R: Runtime + Threads + Wait + Sync>(
+    rt: &R,
+    alloc: Global,
+    contest: &Contest,
+    rounds: usize,
+    unit: u128,
+) -> io::Result<()>
+    requires threads { contest.now.threads ≤ 4 }
+    requires rounds { rounds ≤ 100_000_000 }
 {
-    let Some(word) = env::args(rt)?.nth(1) else {
-        return Ok(None);
-    };
-    let Ok(rounds) = word.parse::<usize>() else {
-        return Ok(None);
-    };
-    Ok(Some(rounds.min(100_000_000)))
+    let time = rounds_time(rt, alloc, contest, rounds)?;
+    print_ratio(rt, contest.name, time, unit)
+}
+
+fn print_contests<R: Runtime + Threads + Wait + Sync>(
+    rt: &R,
+    alloc: Global,
+    rounds: usize,
+    unit: u128,
+) -> io::Result<()>
+    requires { rounds ≤ 100_000_000 }
+{
+    for contest in &CONTESTS {
+        print_contest(rt, alloc, contest, rounds, unit)?;
+    }
+    Ok(())
 }
 
 fn print_ratios<R: Runtime + Threads + Wait + Sync>(
@@ -184,36 +162,41 @@ fn print_ratios<R: Runtime + Threads + Wait + Sync>(
     requires { rounds ≤ 100_000_000 }
 {
     let unit = fetch_add_time(rt, rounds)?;
-    let one = alone_time(rt, alloc, rounds)?;
     println!(rt; "one round against one fetch_add, {rounds} rounds a thread")?;
-    println!(rt; "1 thread            {}", ratio(alloc, one, unit)?)?;
-    println!(rt;
-        "2 threads, 1 record {}",
-        ratio(alloc, two_time(rt, alloc, 0, rounds)?, unit)?
-    )?;
-    println!(rt;
-        "2 threads, 2 records {}",
-        ratio(alloc, two_time(rt, alloc, 1, rounds)?, unit)?
-    )?;
-    println!(rt;
-        "4 threads, 1 record {}",
-        ratio(alloc, four_time(rt, alloc, 0, rounds)?, unit)?
-    )?;
-    println!(rt;
-        "4 threads, 4 records {}",
-        ratio(alloc, four_time(rt, alloc, 1, rounds)?, unit)?
-    )?;
-    Ok(())
+    print_contests(rt, alloc, rounds, unit)
+}
+
+// A few rounds of each contest.
+fn try_out<R: Runtime + Threads + Wait + Sync>(rt: &R, alloc: Global) -> io::Result<()> {
+    for contest in &CONTESTS {
+        rounds_time(rt, alloc, contest, 10)?;
+    }
+    println!(rt; "give a number of rounds to see ratios")
+}
+
+// The number of rounds that a word tells, if it is a number.
+fn rounds_in(word: &str) -> Option<usize>
+    ensures { IfSome result (λ n. n ≤ 100_000_000) }
+{
+    match word.parse::<usize>() {
+        Ok(rounds) => Some(rounds.min(100_000_000)),
+        Err(_) => None,
+    }
+}
+
+// The number of rounds, if there is an argument that is one.
+fn rounds_among(mut words: Args) -> Option<usize>
+    ensures { IfSome result (λ n. n ≤ 100_000_000) }
+{
+    match words.nth(1) {
+        Some(word) => rounds_in(&word),
+        None => None,
+    }
 }
 
 fn main(rt: HostRuntime) -> io::Result<()> {
-    match rounds_asked(&rt)? {
+    match rounds_among(env::args(&rt)?) {
         Some(rounds) => print_ratios(&rt, rt.alloc(), rounds),
-        None => {
-            alone_time(&rt, rt.alloc(), 10)?;
-            two_time(&rt, rt.alloc(), 0, 10)?;
-            four_time(&rt, rt.alloc(), 1, 10)?;
-            println!(&rt; "give a number of rounds to see ratios")
-        }
+        None => try_out(&rt, rt.alloc()),
     }
 }

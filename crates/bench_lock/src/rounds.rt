@@ -1,11 +1,15 @@
 //! Rounds on a table: take, count up, draw, give back.
 ghost use Rattle.std.specs.Prelude.{◌≡◌, ◌+◌, ◌^◌, ◌<◌, ◌≤◌, [], replicate, Some, IfOk};
+ghost use Rattle.std.specs.List.{AllByRecursion};
 ghost use Rattle.init_lock.specs.Known.{seen_at, out_of, IsAway, IsAwayBut, IsSamePass};
+ghost use Rattle.bench_lock.specs.Ready.{IsReady};
 
 use crate::ticks::{Tick, Ticks};
 use init_lock::{Held, InitTable, Pass};
+use std::alloc::AllocError;
 use std::sync::Wait;
-use std::thread::{Threads, join};
+use std::thread;
+use std::thread::Threads;
 
 /// Draws a tick on a record that the pass has, and gives the record back.
 fn tick(table: &InitTable<Ticks>, pass: &mut Pass<Ticks>, mut held: Held<Ticks>)
@@ -25,83 +29,70 @@ fn tick(table: &InitTable<Ticks>, pass: &mut Pass<Ticks>, mut held: Held<Ticks>)
     table.give_back(pass, held);
 }
 
-/// Ticks on one record, each time after a single try of its lock.
-pub fn alone(
-    table: &InitTable<Ticks>,
-    mut pass: Pass<Ticks>,
-    place: usize,
-    rounds: usize,
-) -> Pass<Ticks>
-    requires table { pass.table ≡ table.now.id }
-    requires place { place < table.now.places }
-    requires room { rounds ≤ pass.room }
-    requires away { IsAway pass.places }
-    ensures pass { (result.table ≡ pass.table) × (result.number ≡ pass.number) }
-    ensures away { IsAway result.places }
-{
-    let mut left = rounds;
-    while left > 0 {
-        left -= 1;
-        let Some(held) = table.try_take(&mut pass, place) else {
-            return pass;
-        };
-        tick(table, &mut pass, held);
-    }
-    pass
-}
-
 // Ticks on one record, waiting for its lock.
 fn often<W: Wait>(
     rt: &W,
     table: &InitTable<Ticks>,
-    mut pass: Pass<Ticks>,
+    pass: &mut Pass<Ticks>,
     place: usize,
     rounds: usize,
-) -> Pass<Ticks>
-    requires table { pass.table ≡ table.now.id }
+)
+    requires table { pass.old.table ≡ table.now.id }
     requires place { place < table.now.places }
-    requires room { rounds ≤ pass.room }
-    requires away { IsAway pass.places }
-    ensures pass { (result.table ≡ pass.table) × (result.number ≡ pass.number) }
-    ensures away { IsAway result.places }
+    requires room { rounds ≤ pass.old.room }
+    requires away { IsAway pass.old.places }
+    ensures pass { IsSamePass pass.old pass.new }
+    ensures away { IsAway pass.new.places }
 {
     let mut left = rounds;
     while left > 0 {
         left -= 1;
-        let Ok(held) = table.take(rt, &mut pass, place, 0) else {
+        let Ok(held) = table.take(rt, pass, place, 0) else {
             unreachable!()
         };
-        tick(table, &mut pass, held);
+        tick(table, pass, held);
     }
-    pass
 }
 
-/// Two threads tick, each on its place.
-pub fn both<R: Threads + Wait + Sync>(
+// The rounds of one thread: on the record of its number, or on the first.
+fn rounds_of<W: Wait>(
+    rt: &W,
+    table: &InitTable<Ticks>,
+    mut pass: Pass<Ticks>,
+    apart: bool,
+    rounds: usize,
+) -> Result<(), AllocError>
+    requires pass { IsReady table.now.id pass }
+    requires places { table.now.places ≡ 4 }
+    requires rounds { rounds ≤ 100_000_000 }
+{
+    pass.reserve(rounds)?;
+    let place = if apart { pass.number() % 4 } else { 0 };
+    often(rt, table, &mut pass, place, rounds);
+    Ok(())
+}
+
+/// A thread for each pass makes so many rounds: on a record of its own, or all on the first.
+pub fn in_threads<R: Threads + Wait + Sync>(
     rt: &R,
     table: &InitTable<Ticks>,
-    first: Pass<Ticks>,
-    second: Pass<Ticks>,
-    places: [usize; 2],
+    passes: Vec<Pass<Ticks>>,
+    apart: bool,
     rounds: usize,
-) -> (Pass<Ticks>, Pass<Ticks>)
-    requires first { (first.table ≡ table.now.id) × (rounds ≤ first.room) × IsAway first.places }
-    requires second { (second.table ≡ table.now.id) × (rounds ≤ second.room) × IsAway second.places }
-    requires places { 4 ≤ table.now.places }
-    ensures first { (result.0.table ≡ first.table) × IsAway result.0.places }
-    ensures second { (result.1.table ≡ second.table) × IsAway result.1.places }
+) -> Result<(), AllocError>
+    requires passes { AllByRecursion (IsReady table.now.id) passes.items }
+    requires places { table.now.places ≡ 4 }
+    requires rounds { rounds ≤ 100_000_000 }
 {
-    let low = places[0] % 4;
-    let high = places[1] % 4;
-    join(
+    let ends = thread::map_vec(
         rt,
-        || -> Pass<Ticks>
-            requires { (first.table ≡ table.now.id) × (low < table.now.places) × (rounds ≤ first.room) × IsAway first.places }
-            ensures { (result.table ≡ first.table) × IsAway result.places }
-        { often(rt, table, first, low, rounds) },
-        || -> Pass<Ticks>
-            requires { (second.table ≡ table.now.id) × (high < table.now.places) × (rounds ≤ second.room) × IsAway second.places }
-            ensures { (result.table ≡ second.table) × IsAway result.places }
-        { often(rt, table, second, high, rounds) },
-    )
+        passes,
+        &|pass: Pass<Ticks>| -> Result<(), AllocError>
+            requires { IsReady table.now.id pass × (table.now.places ≡ 4) × (rounds ≤ 100_000_000) }
+        { rounds_of(rt, table, pass, apart, rounds) },
+    )?;
+    for end in ends {
+        end?;
+    }
+    Ok(())
 }

@@ -1,7 +1,9 @@
 //! A record that only counts what was drawn on it.
-ghost use Rattle.std.specs.Prelude.{◌≡◌, replicate};
+ghost use Rattle.std.specs.Prelude.{◌≡◌, [], replicate, vec_len, IfOk};
+ghost use Rattle.std.specs.List.{AllByRecursion};
 
 use init_lock::Keeps;
+use std::alloc::{AllocError, Global};
 
 /// An event that says nothing.
 #[derive(Drop)]
@@ -43,4 +45,17 @@ impl Keeps for Ticks {
     ghost follows_itself = { λ x. tt };
 
     ghost follows_on = { λ x y z p q. tt };
+}
+
+/// Four records that keep no ticks.
+pub fn four_records(alloc: Global) -> Result<Vec<Ticks>, AllocError>
+    ensures four { IfOk result (λ records. vec_len records ≡ 4) }
+    ensures blank { IfOk result (λ records. AllByRecursion (λ r. r.count ≡ 0) records.items) }
+{
+    let mut records = Vec::new(alloc);
+    records.push(Ticks::new())?;
+    records.push(Ticks::new())?;
+    records.push(Ticks::new())?;
+    records.push(Ticks::new())?;
+    Ok(records)
 }

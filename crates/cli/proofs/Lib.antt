@@ -1,4 +1,5 @@
 pub mod OneThread
 pub mod CommandLine
+mod Refusals
 pub mod KnownFiles
 pub mod KnownOutput

@@ -56,6 +56,12 @@ pub record IsRunOfNamed (mains : Option (List ℕ)) (p : LinkedProgram) (r : Rep
   pub run : IsRunOf p main r
   pub bodiless : holds_code p ≡ false
 
+-- why a program isn't run: the first fault, in this order, or want of memory at any time
+pub data IsRunRefusal (p : LinkedProgram) (mains : Option (List ℕ)) : Fault → Type 0 where
+  unnamed : main_in p mains ≡ None → IsRunRefusal p mains Mains
+  coded : {main : ClassId} → main_in p mains ≡ Some main → holds_code p ≡ true → IsRunRefusal p mains Body
+  no_memory : IsRunRefusal p mains Memory
+
 -- why class texts and a text of `--mains` aren't run: the first fault, in this order, or want of memory at any time
 pub data IsRefusal (texts : List ClassParts) (mains : Option (List ℕ)) : Fault → Type 0 where
   unlinked : {f : Fault} → IsLinkRefusal texts f → IsRefusal texts mains f

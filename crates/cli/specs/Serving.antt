@@ -21,6 +21,17 @@ pub record Surroundings : Type 0 where
 abbrev pub around : Option Files → Option (List ℕ) → Surroundings
 around files output = record { files = files; output = output }
 
+-- the program is linked from the classes that the files spell
+pub record IsLinkedFrom (known : Option Files) (files : List Text) (program : LinkedProgram) : Type 0 where
+  pub texts : List ClassParts
+  pub spelled : AreSpelled known files texts
+  pub linked : LinksTo texts program
+
+-- the output of a run was written, and its trace where a file for it is named
+pub record HasWritten (before after : Surroundings) (trace : Option Text) (program : LinkedProgram) (report : Report) : Type 0 where
+  pub output : Appends before.output after.output report.output
+  pub traced : IfSome trace (λ name. FileHolds after.files name (λ bytes. bytes ≡ trace_of program report.events))
+
 -- The classes that the files spell were linked, and the main class was run. The output is that of the run, and the
 -- trace file, where one is asked for, holds its trace.
 pub record HasRun (before after : Surroundings) (mains trace : Option Text) (files : List Text) : Type 0 where

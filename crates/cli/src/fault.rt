@@ -62,25 +62,30 @@ impl Fault<'_> {
 
     /// Writes the one line that tells of the fault.
     pub(crate) fn tell<W: io::Write>(&self, err: &mut W) -> io::Result<()> {
-        match self {
-            Fault::Words => writeln!(err, "cli: words"),
-            Fault::Files => writeln!(err, "cli: files"),
-            Fault::Io(name) => writeln!(err, "io: {name}"),
-            Fault::Jasmin { file, fault } => {
-                let line = fault.line;
-                let kind = fault.kind;
-                writeln!(err, "{file}:{line}: {kind}")
-            }
-            Fault::Link(fault) => {
-                let kind = fault.kind;
-                write!(err, "link: {kind} ")?;
-                err.write_all(fault.class.as_slice())?;
-                writeln!(err)
-            }
-            Fault::Mains => writeln!(err, "cli: mains"),
-            Fault::Body => writeln!(err, "cli: body"),
-            Fault::Memory => writeln!(err, "memory"),
-            Fault::Output => writeln!(err, "io: output"),
-        }
+        let words = match self {
+            Fault::Io(name) => return writeln!(err, "io: {name}"),
+            Fault::Jasmin { file, fault } => return tell_jasmin(file, fault, err),
+            Fault::Link(fault) => return tell_link(fault, err),
+            Fault::Words => "cli: words",
+            Fault::Files => "cli: files",
+            Fault::Mains => "cli: mains",
+            Fault::Body => "cli: body",
+            Fault::Memory => "memory",
+            Fault::Output => "io: output",
+        };
+        writeln!(err, "{words}")
     }
+}
+
+fn tell_jasmin<W: io::Write>(file: &str, fault: &ReadFault, err: &mut W) -> io::Result<()> {
+    let line = fault.line;
+    let kind = fault.kind;
+    writeln!(err, "{file}:{line}: {kind}")
+}
+
+fn tell_link<W: io::Write>(fault: &LinkFault, err: &mut W) -> io::Result<()> {
+    let kind = fault.kind;
+    write!(err, "link: {kind} ")?;
+    err.write_all(fault.class.as_slice())?;
+    writeln!(err)
 }

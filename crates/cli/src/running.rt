@@ -4,7 +4,7 @@ ghost use Rattle.std.specs.Prelude.{◌≡◌, ◌<◌, IfErr, IfOk, IfSome, len
 ghost use Rattle.std.specs.Option.{option_map};
 ghost use Rattle.hierarchy.specs.FirstFault.{LinksTo};
 ghost use Rattle.cli.specs.Bodiless.{has_code, declares_code, holds_code};
-ghost use Rattle.cli.specs.Running.{IsLinkRefusal, IsRefusal, IsRunOfNamed, main_named};
+ghost use Rattle.cli.specs.Running.{IsLinkRefusal, IsRefusal, IsRunOfNamed, IsRunRefusal, main_named};
 
 use crate::fault::Fault;
 use crate::ordered::run_ordered;
@@ -63,6 +63,30 @@ fn has_body(program: &Program) -> bool
     program.classes().iter().any(is_class_with_code)
 }
 
+/// Runs the main class that the text of `--mains` names, where no class has code.
+fn run_program<'a>(
+    alloc: Global,
+    program: &Program,
+    mains: Option<&str>,
+) -> Result<Report, Fault<'a>>
+    ensures ran { IfOk result (IsRunOfNamed (option_map (λ name. name.now) mains.entry) program.now) }
+    ensures refused { IfErr result (IsRunRefusal program.now (option_map (λ name. name.now) mains.entry)) }
+{
+    let Some(name) = mains else {
+        return Err(Fault::Mains);
+    };
+    let Some(main) = main_of(program, name) else {
+        return Err(Fault::Mains);
+    };
+    if has_body(program) {
+        return Err(Fault::Body);
+    }
+    match run_ordered(alloc, program, main) {
+        Ok(report) => Ok(report),
+        Err(_) => Err(Fault::Memory),
+    }
+}
+
 /// A program and what its run was.
 #[derive(Drop)]
 pub struct ProgramRun {
@@ -92,15 +116,9 @@ pub fn run_texts<'a>(
     ensures refused { IfErr result (IsRefusal texts.items (option_map (λ name. name.now) mains.entry)) }
 {
     let program = link_texts(alloc, texts)?;
-    let Some(name) = mains else {
-        return Err(Fault::Mains);
+    let report = match run_program(alloc, &program, mains) {
+        Ok(report) => report,
+        Err(fault) => return Err(fault),
     };
-    let Some(main) = main_of(&program, name) else {
-        return Err(Fault::Mains);
-    };
-    if has_body(&program) {
-        return Err(Fault::Body);
-    }
-    let report = run_ordered(alloc, &program, main)?;
     Ok(ProgramRun { program, report })
 }

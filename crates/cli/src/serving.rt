@@ -1,6 +1,6 @@
 //! The program's body.
 
-ghost use Rattle.std.specs.Prelude.{◌≡◌, ◌⊎◌, None, IfSome, OnOk};
+ghost use Rattle.std.specs.Prelude.{◌≡◌, ◌⊎◌, None, IfOk, IfSome, OnOk};
 ghost use Rattle.std.specs.Io.KnownBytes.{Appends, Keeps};
 ghost use Rattle.std.specs.Option.{option_map};
 ghost use Rattle.clap.specs.Walk.{texts};
@@ -9,7 +9,9 @@ ghost use Rattle.clap.specs.declared.error.kind.ErrorKind.TheVariants.{DisplayHe
 ghost use Rattle.trace.specs.TraceText.{trace_of};
 ghost use Rattle.cli.specs.CommandLine.{request_of};
 ghost use Rattle.cli.specs.Files.{FileHolds, KeepsAllBut};
-ghost use Rattle.cli.specs.Serving.{HasRun, HasToldNeeds, IsDone, IsServed, around, request_in, trace_in};
+ghost use Rattle.cli.specs.NeedsText.{needs_text};
+ghost use Rattle.cli.specs.Running.{IsRunOfNamed};
+ghost use Rattle.cli.specs.Serving.{HasRun, HasToldNeeds, HasWritten, IsDone, IsLinkedFrom, IsServed, around, request_in, trace_in};
 ghost use Rattle.cli.specs.Status.{IsStatus};
 
 use crate::fault::Fault;
@@ -18,6 +20,7 @@ use crate::needed::write_needs;
 use crate::running::{ProgramRun, link_texts, run_texts};
 use crate::words::{Asked, Run, parse};
 use clap::error::ErrorKind;
+use hierarchy::Program;
 use std::alloc::Global;
 use std::io;
 use trace::write_trace;
@@ -51,6 +54,38 @@ fn write_traced<'a, N: Named>(
     write_named(named, name, &text)
 }
 
+/// Reads and links the classes of the files, and runs the main class.
+fn run_files<'a, N: Named>(
+    alloc: Global,
+    files: &[&'a str],
+    mains: Option<&str>,
+    named: &mut N,
+) -> Result<ProgramRun, Fault<'a>>
+    ensures files { KeepsAllBut None (N.held named.old) (N.held named.new) }
+    ensures linked { IfOk result (λ ran. IsLinkedFrom (N.held named.old) (texts files.now) ran.program) }
+    ensures ran { IfOk result (λ ran. IsRunOfNamed (option_map (λ s. s.now) mains.entry) ran.program ran.report) }
+{
+    let texts = read_texts(alloc, named, files)?;
+    let ran = run_texts(alloc, texts, mains)?;
+    Ok(ran)
+}
+
+/// Writes the output and the trace of a run.
+fn write_run<'a, N: Named, O: io::Write>(
+    alloc: Global,
+    ran: &ProgramRun,
+    trace: Option<&'a str>,
+    named: &mut N,
+    out: &mut O,
+) -> Result<(), Fault<'a>>
+    ensures written { OnOk result (HasWritten (around (N.held named.old) (O.contents out.old)) (around (N.held named.new) (O.contents out.new))
+        (option_map (λ s. s.now) trace.entry) ran.now.program ran.now.report) }
+    ensures files { KeepsAllBut (option_map (λ s. s.now) trace.entry) (N.held named.old) (N.held named.new) }
+{
+    write_output(out, ran.report.output.as_slice())?;
+    write_traced(alloc, ran, trace, named)
+}
+
 /// Runs what the words ask for, and writes the output and the trace.
 fn run<'a, N: Named, O: io::Write>(
     alloc: Global,
@@ -62,10 +97,37 @@ fn run<'a, N: Named, O: io::Write>(
     ensures ran { OnOk result (HasRun (around (N.held named.old) (O.contents out.old)) (around (N.held named.new) (O.contents out.new))
         (option_map (λ s. s.now) run.now.mains) (option_map (λ s. s.now) run.now.trace) (texts run.now.files.items)) }
 {
-    let texts = read_texts(alloc, named, &run.files)?;
-    let ran = run_texts(alloc, texts, run.mains)?;
-    write_output(out, ran.report.output.as_slice())?;
-    write_traced(alloc, &ran, run.trace, named)
+    let ran = match run_files(alloc, &run.files, run.mains, named) {
+        Ok(ran) => ran,
+        Err(fault) => return Err(fault),
+    };
+    write_run(alloc, &ran, run.trace, named, out)
+}
+
+/// Reads and links the classes of the files.
+fn link_files<'a, N: Named>(
+    alloc: Global,
+    files: &[&'a str],
+    named: &mut N,
+) -> Result<Program, Fault<'a>>
+    ensures files { KeepsAllBut None (N.held named.old) (N.held named.new) }
+    ensures linked { IfOk result (IsLinkedFrom (N.held named.old) (texts files.now)) }
+{
+    let texts = read_texts(alloc, named, files)?;
+    let program = link_texts(alloc, texts)?;
+    Ok(program)
+}
+
+/// Writes what each class needs.
+fn write_needed<'a, O: io::Write>(
+    alloc: Global,
+    program: &Program,
+    out: &mut O,
+) -> Result<(), Fault<'a>>
+    ensures { OnOk result (Appends (O.contents out.old) (O.contents out.new) (needs_text program.now)) }
+{
+    let text = write_needs(alloc, program)?;
+    write_output(out, &text)
 }
 
 /// Tells what each class of the files needs.
@@ -78,10 +140,11 @@ fn tell_needs<'a, N: Named, O: io::Write>(
     ensures files { KeepsAllBut None (N.held named.old) (N.held named.new) }
     ensures told { OnOk result (HasToldNeeds (around (N.held named.old) (O.contents out.old)) (around (N.held named.new) (O.contents out.new)) (texts files.now)) }
 {
-    let texts = read_texts(alloc, named, files)?;
-    let program = link_texts(alloc, texts)?;
-    let text = write_needs(alloc, &program)?;
-    write_output(out, &text)
+    let program = match link_files(alloc, files, named) {
+        Ok(program) => program,
+        Err(fault) => return Err(fault),
+    };
+    write_needed(alloc, &program, out)
 }
 
 /// Does what the words ask for.
@@ -126,6 +189,28 @@ fn tell_words<O: io::Write, E: io::Write>(error: &clap::Error, out: &mut O, err:
     }
 }
 
+/// Does what the words ask for, or tells why it isn't done, and answers the exit status.
+fn answer_or_tell<N: Named, O: io::Write, E: io::Write>(
+    alloc: Global,
+    asked: &Asked<'_>,
+    named: &mut N,
+    out: &mut O,
+    err: &mut E,
+) -> u8
+    ensures status { IsStatus result }
+    ensures served { result ≡ 0 → IsServed (around (N.held named.old) (O.contents out.old)) (around (N.held named.new) (O.contents out.new)) (request_of asked.now) }
+    ensures quiet { result ≡ 0 → Keeps (E.contents err.old) (E.contents err.new) }
+    ensures files { KeepsAllBut (trace_in (request_of asked.now)) (N.held named.old) (N.held named.new) }
+{
+    match answer(alloc, asked, named, out) {
+        Ok(()) => 0,
+        Err(fault) => {
+            let _ = fault.tell(err);
+            fault.status()
+        }
+    }
+}
+
 /// Does what the words of a command line ask for, and answers the exit status. The first word is the
 /// program's name.
 ///
@@ -150,15 +235,8 @@ pub fn serve<N: Named, O: io::Write, E: io::Write>(
     ensures quiet { result ≡ 0 → Keeps (E.contents err.old) (E.contents err.new) }
     ensures files { KeepsAllBut (trace_in (request_in (texts words.entry.now))) (N.held named.old) (N.held named.new) }
 {
-    let asked = match parse(alloc, words) {
-        Ok(asked) => asked,
-        Err(error) => return tell_words(&error, out, err),
-    };
-    match answer(alloc, &asked, named, out) {
-        Ok(()) => 0,
-        Err(fault) => {
-            let _ = fault.tell(err);
-            fault.status()
-        }
+    match parse(alloc, words) {
+        Ok(asked) => answer_or_tell(alloc, &asked, named, out, err),
+        Err(error) => tell_words(&error, out, err),
     }
 }

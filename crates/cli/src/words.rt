@@ -1,8 +1,9 @@
 //! The words of the command line.
 
-ghost use Rattle.std.specs.Prelude.{◌≡◌, IfOk, false};
+ghost use Rattle.std.specs.Prelude.{◌≡◌, IfOk, codes, false, true};
+ghost use Rattle.clap.specs.Simple.{on_top};
 ghost use Rattle.clap.specs.Walk.{texts};
-ghost use Rattle.clap.specs.Words.{FailsBy, app_of, fault_of, found_of, rule_of, subcommand_of};
+ghost use Rattle.clap.specs.Words.{FailsBy, app_of, fault_of, found_of, new_app, rule_of, subcommand_of, with_rule, with_subcommand};
 ghost use Rattle.clap.specs.declared.builder.command.Command.TheViews.{out-Command as fields_of};
 ghost use Rattle.cli.specs.CommandLine.{command_line, file_words, files_found, option_named, request_by, request_found, request_of, subcommand_named};
 
@@ -31,8 +32,14 @@ pub enum Asked<'a> {
     Unfit,
 }
 
-/// An option with one value: its name, and for the help the name of the value and a line.
-fn option<'a>(alloc: Global, name: &'a str, value: &'a str, help: &'a str) -> Arg<'a>
+/// An option with one value: its name, and for the help the name of the value, a line, and whether it is hidden.
+fn option<'a>(
+    alloc: Global,
+    name: &'a str,
+    value: &'a str,
+    help: &'a str,
+    is_hidden: bool,
+) -> Arg<'a>
     ensures rule { rule_of result ≡ option_named name.entry.now }
     ensures local { result.global ≡ false }
 {
@@ -40,6 +47,7 @@ fn option<'a>(alloc: Global, name: &'a str, value: &'a str, help: &'a str) -> Ar
         .long(name)
         .value_name(value)
         .help(help)
+        .hide(is_hidden)
 }
 
 fn files_argument<'a>(alloc: Global) -> Arg<'a>
@@ -53,6 +61,15 @@ fn files_argument<'a>(alloc: Global) -> Arg<'a>
         .num_args(0..)
 }
 
+/// The command with one more argument.
+fn with_argument<'a>(command: Command<'a>, argument: Arg<'a>) -> Result<Command<'a>, AllocError>
+    requires argument { argument.global ≡ false }
+    ensures rules { IfOk result (λ c. app_of c ≡ with_rule (app_of command.entry) (rule_of argument.entry)) }
+    ensures local { IfOk result (λ c. (fields_of c).has_globals ≡ (fields_of command.entry).has_globals) }
+{
+    command.arg(argument)
+}
+
 /// A subcommand. It knows the options of the others too, but shows only those that it takes.
 fn subcommand<'a>(
     alloc: Global,
@@ -63,37 +80,46 @@ fn subcommand<'a>(
     ensures rules { IfOk result (λ c. app_of c ≡ subcommand_named name.entry.now) }
     ensures local { IfOk result (λ c. (fields_of c).has_globals ≡ false) }
 {
-    let mains = option(
-        alloc,
-        "mains",
-        "CLASS",
-        "The main class, as its file names it",
-    );
-    let trace = option(
-        alloc,
-        "trace",
-        "FILE",
-        "Writes every initialization step to FILE",
-    );
-    Command::new(alloc, name)
-        .about(about)
-        .arg(mains.hide(!takes_options))?
-        .arg(trace.hide(!takes_options))?
-        .arg(files_argument(alloc))
+    let help = "The main class, as its file names it";
+    let mains = option(alloc, "mains", "CLASS", help, !takes_options);
+    let command = with_argument(Command::new(alloc, name).about(about), mains)?;
+    let help = "Writes every initialization step to FILE";
+    let trace = option(alloc, "trace", "FILE", help, !takes_options);
+    let command = with_argument(command, trace)?;
+    with_argument(command, files_argument(alloc))
+}
+
+/// The program's command line without its subcommands.
+fn bare_command<'a>(alloc: Global) -> Command<'a>
+    ensures { app_of result ≡ on_top (λ s. record s { has_version = true; subcommand_required = true }) (new_app (codes "jinit")) }
+{
+    Command::new(alloc, "jinit")
+        .about("Initializes Java classes as JLS SE 8 12.4.2 demands, and tells each step")
+        .version("0.1.0")
+        .subcommand_required(true)
+}
+
+/// The command with one more subcommand.
+fn with_command<'a>(
+    command: Command<'a>,
+    subcommand: Command<'a>,
+) -> Result<Command<'a>, AllocError>
+    requires { (fields_of subcommand).has_globals ≡ false }
+    ensures { IfOk result (λ c. app_of c ≡ with_subcommand (app_of command.entry) (app_of subcommand.entry).top) }
+{
+    command.subcommand(subcommand)
 }
 
 /// The program's command line.
 fn command<'a>(alloc: Global) -> Result<Command<'a>, AllocError>
     ensures { IfOk result (λ c. app_of c ≡ command_line) }
 {
-    let run = "Initializes the main class, with all that it needs, and writes its output";
-    let needs = "Writes for each class what is initialized before its own initializer runs";
-    Command::new(alloc, "jinit")
-        .about("Initializes Java classes as JLS SE 8 12.4.2 demands, and tells each step")
-        .version("0.1.0")
-        .subcommand_required(true)
-        .subcommand(subcommand(alloc, "run", run, true)?)?
-        .subcommand(subcommand(alloc, "needs", needs, false)?)
+    let about = "Initializes the main class, with all that it needs, and writes its output";
+    let run = subcommand(alloc, "run", about, true)?;
+    let command = with_command(bare_command(alloc), run)?;
+    let about = "Writes for each class what is initialized before its own initializer runs";
+    let needs = subcommand(alloc, "needs", about, false)?;
+    with_command(command, needs)
 }
 
 fn files_of<'a>(alloc: Global, matches: &ArgMatches<'a>) -> Result<Vec<&'a str>, AllocError>

@@ -1,5 +1,5 @@
 //! How a table is made.
-ghost use Rattle.std.specs.Prelude.{◌≡◌, ℕ, ◌-◌, ◌<◌, ◌≤◌, [], length, map, vec_len, Some, IfOk};
+ghost use Rattle.std.specs.Prelude.{◌≡◌, ℕ, ◌+◌, ◌-◌, ◌*◌, ◌^◌, ◌<◌, ◌≤◌, [], length, map, vec_len, Some, IfOk};
 ghost use Rattle.std.specs.List.{AllByRecursion};
 ghost use Rattle.init_lock.specs.Rule.{newcomers};
 ghost use Rattle.init_lock.specs.Known.{IsNewPass};
@@ -15,6 +15,8 @@ use atomic_table::{Seat, Shared, Table};
 use crossbeam_utils::CachePadded;
 use std::alloc::{AllocError, Global};
 use std::snapshot::Snapshot;
+
+type LockTable<R> = Table<Option<R>, View<R, <R as Keeps>::Event>, Setup<R>, LockRule<R>, Global>;
 
 impl<R: Keeps> InitTable<R> {
     /// A table of the records, each free, and one pass for each thread, numbered from 0 on.
@@ -37,27 +39,61 @@ impl<R: Keeps> InitTable<R> {
         if places > usize::MAX / 128 {
             return Err(AllocError);
         }
-        let setup = Setup {
-            threads,
-            records: Snapshot::of(&records),
-        };
-        let words = vec![in alloc; 0; places * 8 + 8]?;
-        let spare = Vec::with_capacity(alloc, places)?;
-        let journals = Vec::with_capacity(alloc, threads)?;
-        let slots = shelve(alloc, records)?;
-        let Ok((table, seat)) = Table::new(alloc, words.as_slice(), slots, &setup) else {
-            return Err(AllocError);
-        };
+        let (table, seat) = lay(alloc, records, threads)?;
         let passes = deal(alloc, &table.shared, seat, threads)?;
-        let made = InitTable {
-            table,
-            places,
-            threads,
-            records: spare,
-            journals,
-        };
+        let made = with_room(alloc, table, places, threads)?;
         Ok((made, passes))
     }
+}
+
+// The words and the slots, and the first seat, which has the views of all passes.
+fn lay<R: Keeps>(
+    alloc: Global,
+    records: Vec<R>,
+    threads: usize,
+) -> Result<(LockTable<R>, Seat<Option<R>, View<R, R::Event>>), AllocError>
+    requires threads { threads ≤ 16 }
+    requires few { vec_len records < 2 ^ 58 }
+    requires records { AllByRecursion (λ r. R.kept r ≡ []) records.items }
+    ensures words { IfOk result (λ t. t.0.shared.table_id.words ≡ vec_len records * 8 + 8) }
+    ensures slots { IfOk result (λ t. t.0.shared.table_id.slots ≡ vec_len records) }
+    ensures key { IfOk result (λ t. (t.0.shared.key.threads ≡ threads) × (t.0.shared.key.records.value ≡ records)) }
+    ensures seat { IfOk result (λ t. (t.1.table_id ≡ t.0.shared.table_id) × (t.1.me ≡ (newcomers 0 threads records.items, []))) }
+{
+    let setup = Setup {
+        threads,
+        records: Snapshot::of(&records),
+    };
+    let words = vec![in alloc; 0; records.len() * 8 + 8]?;
+    let slots = shelve(alloc, records)?;
+    match Table::new(alloc, words.as_slice(), slots, &setup) {
+        Ok(laid) => Ok(laid),
+        Err(_) => Err(AllocError),
+    }
+}
+
+// The table with room for what `finish` gives out.
+fn with_room<R: Keeps>(
+    alloc: Global,
+    table: LockTable<R>,
+    places: usize,
+    threads: usize,
+) -> Result<InitTable<R>, AllocError>
+    requires few { places < 2 ^ 58 }
+    requires words { table.shared.table_id.words ≡ places * 8 + 8 }
+    requires slots { table.shared.table_id.slots ≡ places }
+    requires threads { table.shared.key.threads ≡ threads }
+    ensures { IfOk result (λ t. t ≡ record { id = table.shared.table_id; places = places; threads = threads }) }
+{
+    let records = Vec::with_capacity(alloc, places)?;
+    let journals = Vec::with_capacity(alloc, threads)?;
+    Ok(InitTable {
+        table,
+        places,
+        threads,
+        records,
+        journals,
+    })
 }
 
 // Each record in its slot.

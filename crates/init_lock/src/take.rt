@@ -56,9 +56,7 @@ impl<R: Keeps> InitTable<R> {
             if left == 1 {
                 return Err(GaveUp);
             }
-            if left > 1 {
-                left -= 1;
-            }
+            left = left.saturating_sub(1);
             thread::yield_now();
         }
         unreachable!()

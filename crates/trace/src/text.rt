@@ -1,6 +1,7 @@
 //! A trace as text.
 
-ghost use Rattle.std.specs.Prelude.{◌≡◌, ◌++◌, IfOk, OnOk, OnErr, Some};
+ghost use Rattle.std.specs.Prelude.{◌≡◌, ◌++◌, IfOk, OnOk, OnErr, Some, codes};
+ghost use Rattle.jasmin_words.specs.Quoting.{quoted};
 ghost use Rattle.trace.specs.TraceText.{class_text, event_class_text, throwable_text, head, step_text, field_text, field_in_trace, value_text, use_text, kind_text, line, trace_of};
 
 use descriptors::write_field;
@@ -144,6 +145,14 @@ fn write_use(
     Ok(())
 }
 
+fn write_print(out: &mut Vec<u8>, text: &[u8]) -> Result<(), AllocError>
+    ensures { OnOk result (out.new.items ≡ out.old.items ++ codes " print " ++ quoted text.now) }
+{
+    out.extend_from_slice(b" print ")?;
+    push_quoted(out, text)?;
+    Ok(())
+}
+
 /// What stands behind the number and the thread.
 fn write_kind(
     out: &mut Vec<u8>,
@@ -155,27 +164,23 @@ fn write_kind(
     ensures { OnOk result (out.new.items ≡ out.old.items ++ kind_text program.now class kind.now) }
 {
     match kind {
-        Kind::Waits => write_step(out, program, 2, class, None)?,
-        Kind::Recurs => write_step(out, program, 3, class, None)?,
-        Kind::FindsInitialized => write_step(out, program, 4, class, None)?,
-        Kind::FindsErroneous => write_step(out, program, 5, class, None)?,
-        Kind::Begins => write_step(out, program, 6, class, None)?,
-        Kind::SuperFails(throwable) => write_step(out, program, 7, class, Some(*throwable))?,
-        Kind::Runs => write_step(out, program, 9, class, None)?,
-        Kind::Completes => write_step(out, program, 10, class, None)?,
-        Kind::Fails(throwable) => write_step(out, program, 12, class, Some(*throwable))?,
+        Kind::Waits => write_step(out, program, 2, class, None),
+        Kind::Recurs => write_step(out, program, 3, class, None),
+        Kind::FindsInitialized => write_step(out, program, 4, class, None),
+        Kind::FindsErroneous => write_step(out, program, 5, class, None),
+        Kind::Begins => write_step(out, program, 6, class, None),
+        Kind::SuperFails(throwable) => write_step(out, program, 7, class, Some(*throwable)),
+        Kind::Runs => write_step(out, program, 9, class, None),
+        Kind::Completes => write_step(out, program, 10, class, None),
+        Kind::Fails(throwable) => write_step(out, program, 12, class, Some(*throwable)),
         Kind::Gets { field, value } => {
-            write_use(out, alloc, program, b" get ", class, *field, *value)?;
+            write_use(out, alloc, program, b" get ", class, *field, *value)
         }
         Kind::Puts { field, value } => {
-            write_use(out, alloc, program, b" put ", class, *field, *value)?;
+            write_use(out, alloc, program, b" put ", class, *field, *value)
         }
-        Kind::Prints(text) => {
-            out.extend_from_slice(b" print ")?;
-            push_quoted(out, text.as_slice())?;
-        }
+        Kind::Prints(text) => write_print(out, text.as_slice()),
     }
-    Ok(())
 }
 
 fn write_line(

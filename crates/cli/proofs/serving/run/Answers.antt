@@ -4,17 +4,17 @@ use Rattle.cli.proofs.KnownFiles.{keeps_then}
 use Rattle.cli.proofs.serving.run.Goals as goal
 
 pub returns-clause-files : goal.returns-clause-files
-returns-clause-files g c = keeps_then (option_map (λ s. s.now) c.args.run.now.trace) (g.N.Named.held c.args.named.now) (g.N.Named.held c.read_texts.new.named)
-    (g.N.Named.held c.write_traced.new.named) c.read_texts.ensures.files c.write_traced.ensures.files
+returns-clause-files g c = keeps_then (option_map (λ s. s.now) c.args.run.now.trace) (g.N.Named.held c.args.named.now) (g.N.Named.held c.run_files.new.named)
+    (g.N.Named.held c.write_run.new.named) c.run_files.ensures.files c.write_run.ensures.files
 
 pub returns-clause-ran : goal.returns-clause-ran
-returns-clause-ran g c = on_ok_weaker c.write_traced.result (λ traced. record {
-  texts = c.in_ok-texts.texts.items;
-  program = c.in_ok-ran.ran.program;
-  report = c.in_ok-ran.ran.report;
-  spelled = search rules;
-  linked = c.in_ok-ran.ensures.linked;
-  ran = c.in_ok-ran.ensures.ran;
-  output = search rules;
-  traced = traced;
-}) c.write_traced.ensures.traced
+returns-clause-ran g c = on_ok_weaker c.write_run.result (λ written. record {
+  texts = c.in-Ok.ensures.linked.texts;
+  program = c.in-Ok.ran.program;
+  report = c.in-Ok.ran.report;
+  spelled = rw c.deref.ensures.value at c.in-Ok.ensures.linked.spelled;
+  linked = c.in-Ok.ensures.linked.linked;
+  ran = c.in-Ok.ensures.ran;
+  output = written.output;
+  traced = written.traced;
+}) c.write_run.ensures.written
