@@ -2,7 +2,11 @@
 
 ghost use Rattle.std.specs.Prelude.{◌≡◌, ◌≤◌, [], IfOk, length};
 ghost use Rattle.hierarchy.specs.LinkedProgram.{linked};
+ghost use Rattle.hierarchy.specs.ClassLists.{distinct};
+ghost use Rattle.hierarchy.specs.Fields.{field_order};
 ghost use Rattle.hierarchy.specs.Hierarchy.{IsAcyclic};
+ghost use Rattle.hierarchy.specs.Methods.{all_superinterfaces as inherited_of};
+ghost use Rattle.hierarchy.specs.Superinterfaces.{IsTable, superinterfaces as superinterfaces_of};
 ghost use Rattle.hierarchy.specs.Searched.{HasSupertypes};
 ghost use Rattle.hierarchy.specs.Tables.{AreTables};
 ghost use Rattle.hierarchy.specs.Quoted.{quoted_texts, cells_of};
@@ -47,6 +51,31 @@ pub(crate) fn no_tables(alloc: Global) -> Tables
     }
 }
 
+/// Of each class in file order, classes in the orders in which they are looked through.
+#[derive(Drop)]
+struct Orders {
+    superinterfaces: Vec<ClassSet>,
+    field_orders: Vec<ClassSet>,
+    inherited: Vec<ClassSet>,
+}
+
+fn orders_of(alloc: Global, classes: &[Class]) -> Result<Orders, AllocError>
+    requires few { length classes.now ≤ 1024 }
+    requires acyclic { IsAcyclic (linked classes.now) }
+    ensures superinterfaces { IfOk result (λ made. IsTable (superinterfaces_of (linked classes.now)) (length classes.now) made.superinterfaces.items) }
+    ensures field_orders { IfOk result (λ made. IsTable (λ c. distinct (field_order (linked classes.now) c)) (length classes.now) made.field_orders.items) }
+    ensures inherited { IfOk result (λ made. IsTable (inherited_of (linked classes.now)) (length classes.now) made.inherited.items) }
+{
+    let superinterfaces = all_superinterfaces(alloc, classes)?;
+    let field_orders = field_orders(alloc, classes)?;
+    let inherited = all_inherited(alloc, classes)?;
+    Ok(Orders {
+        superinterfaces,
+        field_orders,
+        inherited,
+    })
+}
+
 /// The tables of classes whose supertypes and quoted texts are found.
 pub(crate) fn tables_with(
     alloc: Global,
@@ -61,10 +90,12 @@ pub(crate) fn tables_with(
     requires cells { cells_of classes.now ≤ 1000000 }
     ensures { IfOk result (λ made. AreTables classes.now made) }
 {
-    let superinterfaces = all_superinterfaces(alloc, classes)?;
-    let field_orders = field_orders(alloc, classes)?;
-    let inherited = all_inherited(alloc, classes)?;
     let members = all_member_names(alloc, classes)?;
+    let Orders {
+        superinterfaces,
+        field_orders,
+        inherited,
+    } = orders_of(alloc, classes)?;
     Ok(Tables {
         supertypes,
         superinterfaces,

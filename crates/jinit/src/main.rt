@@ -4,7 +4,7 @@
 ghost use Rattle.std.specs.Prelude.{◌≤◌, vec_len, IfOk};
 
 use cli::{Named, NamedFault, serve};
-use std::alloc::Global;
+use std::alloc::{AllocError, Global};
 use std::fs::File;
 use std::io::{Read, Write};
 use std::process::ExitCode;
@@ -24,18 +24,24 @@ fn fault_of(error: &io::Error) -> NamedFault {
     }
 }
 
+/// The first bytes of a file, at most `most` of them.
+fn read_file(alloc: Global, file: impl Read + Drop, most: usize) -> Result<Vec<u8>, NamedFault>
+    ensures { IfOk result (λ bytes. vec_len bytes ≤ most) }
+{
+    let mut bytes = Vec::new(alloc);
+    match file.take(most as u64).read_to_end(&mut bytes) {
+        Ok(_) => {
+            bytes.truncate(most);
+            Ok(bytes)
+        }
+        Err(error) => Err(fault_of(&error)),
+    }
+}
+
 impl<R: Files> Named for MachineFiles<'_, R> {
     fn read(&mut self, alloc: Global, name: &str, most: usize) -> Result<Vec<u8>, NamedFault> {
-        let file = match File::open(self.rt, name) {
-            Ok(file) => file,
-            Err(error) => return Err(fault_of(&error)),
-        };
-        let mut bytes = Vec::new(alloc);
-        match file.take(most as u64).read_to_end(&mut bytes) {
-            Ok(_) => {
-                bytes.truncate(most);
-                Ok(bytes)
-            }
+        match File::open(self.rt, name) {
+            Ok(file) => read_file(alloc, file, most),
             Err(error) => Err(fault_of(&error)),
         }
     }
@@ -65,12 +71,21 @@ fn tell_no_words<E: Write>(error: &io::Error, err: &mut E) -> u8
     }
 }
 
+/// The words as texts.
+fn texts_of(alloc: Global, args: &[String]) -> Result<Vec<&str>, AllocError> {
+    let mut words = Vec::new(alloc);
+    for arg in args {
+        words.push(arg.as_str())?;
+    }
+    Ok(words)
+}
+
 /// Does what the words of the command line ask for, and answers the exit status. An `Err` says that there are
 /// no words.
 fn answer(rt: &HostRuntime) -> io::Result<u8> {
     let alloc = rt.alloc();
     let args: Vec<String> = env::args(rt)?.collect(alloc)?;
-    let words: Vec<&str> = args.iter().map(|word| word.as_str()).collect(alloc)?;
+    let words = texts_of(alloc, &args)?;
     let mut files = MachineFiles { rt };
     let mut out = rt.stdout();
     let mut err = rt.stderr();
