@@ -1,18 +1,18 @@
 -- No class at all.
 use Rattle.std.proofs.Common.{◌≡◌, ◌<◌, List, [], refl, sym, subst, arith}
+use Rattle.std.proofs.lemmas.List.Elements.{All-nil}
 use Rattle.jasmin_text.specs.declared.class_text.ClassParts.{ClassParts}
+use Rattle.jasmin_text.specs.Spellable.{IsSpellable}
 use Rattle.hierarchy.specs.declared.class.Class.{Class}
 use Rattle.hierarchy.specs.LinkedProgram.{LinkedProgram, linked, id}
 use Rattle.hierarchy.specs.Hierarchy.{IsAcyclic}
 use Rattle.hierarchy.specs.FirstFault.{LinksTo}
+use Rattle.hierarchy.specs.LinkedTexts.{IsLinked}
 use Rattle.hierarchy.proofs.Acyclic.{acyclic_all, not_cyclic}
 use Rattle.hierarchy.proofs.InRange.{in_range_all}
 
 nothing_acyclic : IsAcyclic (linked [])
 nothing_acyclic = acyclic_all (linked []) (in_range_all [] [] refl) (λ n h. absurd (omega (arith, h)))
-
-pub empty_acyclic : (classes : List Class) → classes ≡ [] → IsAcyclic (linked classes)
-empty_acyclic classes e = subst (λ z. IsAcyclic (linked z)) (sym e) nothing_acyclic
 
 nothing_links : LinksTo [] (linked [])
 nothing_links = record {
@@ -25,3 +25,6 @@ nothing_links = record {
 
 pub empty_links : (texts : List ClassParts) (p : LinkedProgram) → texts ≡ [] → p ≡ linked [] → LinksTo texts p
 empty_links texts p e q = subst (λ z. LinksTo z p) (sym e) (subst (λ z. LinksTo [] z) (sym q) nothing_links)
+
+pub empty_linked : (classes : List Class) → classes ≡ [] → IsLinked (linked classes)
+empty_linked classes e = subst (λ z. IsLinked (linked z)) (sym e) (record { texts = []; spellable = All-nil IsSpellable; links = nothing_links })

@@ -73,7 +73,7 @@ interface_within n (known_as.File place kind.Class) w = tt
 interface_within n (known_as.File place kind.Interface) w = omega (arith, w)
 interface_within n (known_as.BuiltIn b) w = tt
 
-joined_ok : {X E : Type 0} (r : Result X E) (rest : Result (List X) E) (xs : List X) → joined r rest ≡ Ok xs → (x : X) × (ys : List X) × (r ≡ Ok x) × (rest ≡ Ok ys) × (xs ≡ x ∷ ys)
+pub joined_ok : {X E : Type 0} (r : Result X E) (rest : Result (List X) E) (xs : List X) → joined r rest ≡ Ok xs → (x : X) × (ys : List X) × (r ≡ Ok x) × (rest ≡ Ok ys) × (xs ≡ x ∷ ys)
 joined_ok (Err e) rest xs q = absurd cc
 joined_ok (Ok x) (Err e) xs q = absurd cc
 joined_ok (Ok x) (Ok ys) xs q = (x, ys, refl, refl, cc)
@@ -104,7 +104,7 @@ interfaces_below names kinds (name ∷ wanted) ids e =
     (ok_at (λ c. c.number < length kinds + 32) (interface_id (known names kinds name)) r.0 (interface_within (length kinds) (known names kinds name) (known_within names kinds name)) r.2)
     (interfaces_below names kinds wanted r.1 r.3))
 
-class_ok : (t : ClassParts) (s : Result ClassId LinkFaultKind) (is : Result (List ClassId) LinkFaultKind) (c : Class) → class_by t s is ≡ Ok c → (sid : ClassId) × (ids : List ClassId) × (s ≡ Ok sid) × (is ≡ Ok ids) × (c ≡ class_of t sid ids)
+pub class_ok : (t : ClassParts) (s : Result ClassId LinkFaultKind) (is : Result (List ClassId) LinkFaultKind) (c : Class) → class_by t s is ≡ Ok c → (sid : ClassId) × (ids : List ClassId) × (s ≡ Ok sid) × (is ≡ Ok ids) × (c ≡ class_of t sid ids)
 class_ok t (Err k) is c e = absurd cc
 class_ok t (Ok sid) (Err k) c e = absurd cc
 class_ok t (Ok sid) (Ok ids) c e = (sid, ids, refl, refl, cc)

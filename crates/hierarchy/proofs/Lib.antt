@@ -2,7 +2,9 @@ pub mod Acyclic
 pub mod Ancestries
 pub mod BuiltIns
 pub mod ClassMembership
+pub mod ClassNames
 pub mod Counts
+pub mod DistinctMembers
 pub mod EmptyProgram
 pub mod Enumerations
 pub mod FieldOrders
@@ -11,10 +13,15 @@ pub mod InRange
 pub mod Linked
 pub mod MemberPlaces
 pub mod Named
+pub mod ObjectCells
+pub mod Positions
+pub mod ProvedByLinking
+pub mod Repeats
 pub mod Resolved
 pub mod Searches
 pub mod Subtypes
 pub mod Superclasses
 pub mod TextLists
+pub mod TextReferences
+pub mod Throwables
 pub mod Walks
-pub mod Repeats

@@ -7,11 +7,14 @@ pub mod FirstFault
 pub mod Found
 pub mod Hierarchy
 pub mod LinkedProgram
+pub mod LinkedTexts
 pub mod Linking
 pub mod MemberNames
 pub mod Members
 pub mod MethodResolution
 pub mod Methods
+pub mod Objects
+pub mod OwnNames
 pub mod Quoted
 pub mod Searched
 pub mod Selection

@@ -34,9 +34,11 @@ mod member_names;
 mod members;
 pub mod methods;
 mod naming;
+pub mod objects;
 mod order;
 pub mod program;
 mod quoted;
+pub mod ready;
 pub mod selection;
 mod subtype;
 mod supertype_names;
@@ -51,9 +53,13 @@ pub use class::{Class, ClassId};
 pub use declared_method::MethodId;
 pub use fault::{LinkFault, LinkFaultKind};
 pub use fields::{FieldId, FieldKind};
-pub use laws::members_are_looked_up_upward;
+pub use laws::{
+    classes_are_found_by_name, fields_keep_their_cells, members_are_looked_up_upward,
+    members_have_own_descriptors, texts_have_own_references, throwables_are_subclasses,
+};
 pub use linking::link;
 pub use methods::Invoke;
 pub use program::Program;
+pub use ready::ReadyObject;
 pub use selection::Call;
 pub use value::Value;

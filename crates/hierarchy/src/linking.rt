@@ -5,7 +5,7 @@ ghost use Rattle.std.specs.List.{All};
 ghost use Rattle.jasmin_text.specs.Spellable.{IsSpellable};
 ghost use Rattle.hierarchy.specs.LinkedProgram.{linked, class_names};
 ghost use Rattle.hierarchy.specs.Hierarchy.{IsAcyclic, IsInRange};
-ghost use Rattle.hierarchy.specs.SpellableClass.{IsSpellableClass};
+ghost use Rattle.hierarchy.specs.LinkedTexts.{IsResolved};
 ghost use Rattle.hierarchy.specs.Tables.{AreTables};
 ghost use Rattle.hierarchy.specs.Linking.{names_of, kinds_of, classes_of, classes_from, IsFirst, IsRepeated};
 ghost use Rattle.hierarchy.specs.FirstFault.{HasNames, IsNameFault, HasNoCycle, HasDistinctMembers, FitsHeap, IsClassFault, IsFirstFault, LinksTo, IsMemory, name_in_text, name_in_class};
@@ -152,10 +152,8 @@ fn name_of_class(classes: Vec<Class>, place: usize) -> ClassName
 /// The program of classes whose supertypes' names are resolved.
 fn program_of(alloc: Global, names: Texts, classes: Vec<Class>) -> Result<Program, LinkFault>
     requires some { 0 < vec_len classes }
-    requires few { vec_len classes ≤ 1024 }
-    requires in_range { IsInRange (linked classes.items) }
+    requires resolved { IsResolved classes.items }
     requires names { names ≡ class_names classes.items }
-    requires spellable { All IsSpellableClass classes.items }
     ensures program { IfOk result (λ program. program ≡ linked classes.items) }
     ensures cycles { IfOk result (λ program. HasNoCycle classes.items) }
     ensures members { IfOk result (λ program. HasDistinctMembers classes.items) }

@@ -1,6 +1,6 @@
 //! Sets of texts in the order in which they were noted.
 
-ghost use Rattle.std.specs.Prelude.{◌≡◌, [], IfSome, ◌<◌, OnOk, is_some, length};
+ghost use Rattle.std.specs.Prelude.{◌≡◌, [], IfSome, ◌<◌, OnOk, is_some, length, option_copied, slice_get};
 ghost use Rattle.hierarchy.specs.Texts.{place_of_text, has_text, note_text};
 
 use indexmap::IndexSet;
@@ -38,6 +38,16 @@ impl Texts {
         ensures within { IfSome result (λ place. place < length self.now) }
     {
         self.texts.get_index_of(text)
+    }
+
+    /// The text at that place.
+    pub(crate) fn at(&self, place: usize) -> Option<&[u8]>
+        ensures { option_copied result ≡ slice_get self.now place }
+    {
+        match self.texts.get_index(place) {
+            Some(text) => Some(text.as_slice()),
+            None => None,
+        }
     }
 
     /// How many texts there are.

@@ -2,7 +2,7 @@ use Rattle.std.proofs.Common.{◌≡◌, ◌∙◌, ap, sym, Ok, Err, length, ar
 use Rattle.hierarchy.specs.FirstFault.{HasNames}
 use Rattle.hierarchy.specs.Linking.{classes_of, names_of, kinds_of}
 use Rattle.hierarchy.proofs.EmptyProgram.{empty_links}
-use Rattle.hierarchy.proofs.InRange.{in_range_all, as_many, named_alike, spellable_all}
+use Rattle.hierarchy.proofs.InRange.{as_many, named_alike}
 use Rattle.hierarchy.proofs.Linked.{err_map, are_of, supertypes_fault, names_fault, classes_fault, none_there, some_there, either_map}
 use Rattle.hierarchy.proofs.linking.link_parts.Goals as goal
 
@@ -27,25 +27,14 @@ program_of-requires-clause-some c =
     let e : classes_of texts ≡ Ok classes = are_of texts _ _ (Ok classes) n k c.in-Ok-linked_classes.ensures.classes in
     omega (arith, as_many texts classes e, some_there texts _ (ap length (sym c.as_slice.ensures.value)) (sym c.is_empty.ensures ∙ c.if-is_empty.false))
 
-pub program_of-requires-clause-few : goal.program_of-requires-clause-few
-program_of-requires-clause-few c =
+pub program_of-requires-clause-resolved : goal.program_of-requires-clause-resolved
+program_of-requires-clause-resolved c =
     let texts = c.args.texts.items in
     let good : HasNames texts = rw c.deref.ensures.value at c.in-Ok.ensures.good in
     let n : c.in-Ok.field-0.names ≡ names_of texts = c.in-Ok.ensures.names ∙ ap names_of c.deref.ensures.value in
     let k : c.deref-in-Ok.result.now ≡ kinds_of texts = c.deref-in-Ok.ensures.value ∙ c.in-Ok.ensures.kinds ∙ ap kinds_of c.deref.ensures.value in
     let classes = c.in-Ok-linked_classes.classes.items in
-    let e : classes_of texts ≡ Ok classes = are_of texts _ _ (Ok classes) n k c.in-Ok-linked_classes.ensures.classes in
-    omega (arith, as_many texts classes e, good.room)
-
-pub program_of-requires-clause-in_range : goal.program_of-requires-clause-in_range
-program_of-requires-clause-in_range c =
-    let texts = c.args.texts.items in
-    let good : HasNames texts = rw c.deref.ensures.value at c.in-Ok.ensures.good in
-    let n : c.in-Ok.field-0.names ≡ names_of texts = c.in-Ok.ensures.names ∙ ap names_of c.deref.ensures.value in
-    let k : c.deref-in-Ok.result.now ≡ kinds_of texts = c.deref-in-Ok.ensures.value ∙ c.in-Ok.ensures.kinds ∙ ap kinds_of c.deref.ensures.value in
-    let classes = c.in-Ok-linked_classes.classes.items in
-    let e : classes_of texts ≡ Ok classes = are_of texts _ _ (Ok classes) n k c.in-Ok-linked_classes.ensures.classes in
-    in_range_all texts classes e
+    record { texts = texts; spellable = c.requires; names = good; supertypes = are_of texts _ _ (Ok classes) n k c.in-Ok-linked_classes.ensures.classes }
 
 pub program_of-requires-clause-names : goal.program_of-requires-clause-names
 program_of-requires-clause-names c =
@@ -56,15 +45,6 @@ program_of-requires-clause-names c =
     let classes = c.in-Ok-linked_classes.classes.items in
     let e : classes_of texts ≡ Ok classes = are_of texts _ _ (Ok classes) n k c.in-Ok-linked_classes.ensures.classes in
     n ∙ sym (named_alike (names_of texts) (kinds_of texts) texts classes e)
-
-pub program_of-requires-clause-spellable : goal.program_of-requires-clause-spellable
-program_of-requires-clause-spellable c =
-    let texts = c.args.texts.items in
-    let n : c.in-Ok.field-0.names ≡ names_of texts = c.in-Ok.ensures.names ∙ ap names_of c.deref.ensures.value in
-    let k : c.deref-in-Ok.result.now ≡ kinds_of texts = c.deref-in-Ok.ensures.value ∙ c.in-Ok.ensures.kinds ∙ ap kinds_of c.deref.ensures.value in
-    let classes = c.in-Ok-linked_classes.classes.items in
-    let e : classes_of texts ≡ Ok classes = are_of texts _ _ (Ok classes) n k c.in-Ok-linked_classes.ensures.classes in
-    spellable_all (names_of texts) (kinds_of texts) texts classes c.requires e
 
 pub returns-in-Ok-linked_classes-clause-fault : goal.returns-in-Ok-linked_classes-clause-fault
 returns-in-Ok-linked_classes-clause-fault c =
