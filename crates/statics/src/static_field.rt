@@ -1,7 +1,8 @@
 //! What is known of a static field before the program runs.
 
-ghost use Rattle.std.specs.Prelude.{◌≡◌, pos, ◌<ℤ◌, ◌≤ℤ◌, filter, option_copied, slice_get};
-ghost use Rattle.statics.specs.Statics.{base_in, default_of, signed_low, narrowed_int, narrowed as narrowed_value, constant_value, with_constant, static_field as static_field_of, static_fields, is_static_field, text_value};
+ghost use Rattle.std.specs.Prelude.{◌≡◌, ◌≤◌, pos, ◌<ℤ◌, ◌≤ℤ◌, filter, length, option_copied, slice_get, IfSome};
+ghost use Rattle.hierarchy.specs.OwnNames.{fields_of};
+ghost use Rattle.statics.specs.Statics.{static_place as static_place_of, base_in, default_of, signed_low, narrowed_int, narrowed as narrowed_value, constant_value, with_constant, static_field as static_field_of, static_fields, is_static_field, text_value};
 
 use descriptors::{BaseType, ElementType, FieldType};
 use hierarchy::{ClassId, Program, Value};
@@ -134,6 +135,45 @@ fn static_among(fields: &[Field], place: usize) -> Option<&Field>
         rest = after;
     }
     None
+}
+
+/// How many of these are static.
+fn static_count(fields: &[Field]) -> usize
+    ensures count { result ≡ length (filter is_static_field fields.now) }
+    ensures within { result ≤ length fields.now }
+{
+    let mut count = 0;
+    let mut rest = fields;
+    while let [field, after @ ..] = rest {
+        if field.access.is_static {
+            count += 1;
+        }
+        rest = after;
+    }
+    count
+}
+
+/// The place of a static field among the static ones of its class: the number of those before it.
+fn counted_place(program: &Program, class: ClassId, place: usize) -> Option<usize>
+    ensures { result ≡ static_place_of program.now class place }
+{
+    let fields = program.class(class)?.fields.as_slice();
+    let field = fields.get(place)?;
+    if !field.access.is_static {
+        return None;
+    }
+    Some(static_count(&fields[..place]))
+}
+
+/// The place of a static field among the static ones of its class, by which a [`crate::Bank`] knows it, from its place
+/// among all fields of the class, as field resolution gives it (JVMS SE 8 5.4.3.2). An instance field has none. Takes no
+/// memory, and time linear in the class's fields.
+#[tactic(auto, using(crate::proofs::StaticPlaces::place_found))]
+pub fn static_place(program: &Program, class: ClassId, place: usize) -> Option<usize>
+    ensures place { result ≡ static_place_of program.now class place }
+    ensures found { IfSome result (λ found. slice_get (static_fields program.now class) found ≡ slice_get (fields_of program.now class) place) }
+{
+    counted_place(program, class, place)
 }
 
 /// What is known of a field.
