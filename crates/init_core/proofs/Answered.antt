@@ -1,5 +1,5 @@
 -- What each answer leaves of a procedure's standing.
-use Rattle.std.proofs.Common.{◌≡◌, ◌≢◌, ℕ, List, [], ◌∷◌, Option, true, false, ◌==◌, eq-eqb, refl, sym, ◌∙◌}
+use Rattle.std.proofs.Common.{◌≡◌, ℕ, List, [], ◌∷◌, Option, Bool, true, false, ◌==◌, eq-eqb, refl, sym, ap, subst, ◌∙◌}
 use Rattle.hierarchy.specs.declared.class.ClassId.{ClassId}
 use Rattle.hierarchy.specs.declared.built_in.BuiltIn.TheVariants.{NoClassDefFoundError}
 use Rattle.hierarchy.specs.LinkedProgram.{LinkedProgram, built_in}
@@ -15,7 +15,9 @@ use Rattle.init_core.specs.declared.frames.Frame.{Frame}
 use Rattle.init_core.specs.declared.frames.Outcome.TheVariants.{Normal, Abrupt, Ended}
 use Rattle.init_core.specs.declared.frames.Phase.{Phase}
 use Rattle.init_core.specs.declared.frames.Phase.TheVariants.{Looking, Needing, Running, EndingBy}
-use Rattle.init_core.specs.Decisions.{Decides, entered}
+use Rattle.init_core.specs.Decisions.{Decides, entered, waits}
+use Rattle.init_core.specs.Label.{label_of}
+use Rattle.init_core.specs.Lawful.{IsInProgressByOther}
 use Rattle.init_core.specs.Leads.{frame, standing}
 use Rattle.init_core.specs.Standing.{Standing}
 use Rattle.init_core.specs.Advance.{Advances, step_2, still_step_2, step_3, step_4, step_5, step_6, ends_class, gives_up_look, MayStandFor, knows_all, Fits, LeavesAt, IsAtEnd, after_needs, after_word, next_of, is_waiting}
@@ -93,3 +95,9 @@ prepared_begins t decision.Recurs h = cc
 prepared_begins t decision.FindsInitialized h = cc
 prepared_begins t decision.FindsErroneous h = cc
 prepared_begins t decision.Begins h = refl
+
+-- whether the request waits already, where the look comes to a wait
+pub waits_so : (t : ℕ) {h g : List Event} {d : Decision} {first is waited : Bool} → g ≡ h → Decides (label_of g) t d → d ≡ decision.Waits first → (IsInProgressByOther t (label_of h) → waits t h ≡ is) → waits t g ≡ waited → is ≡ waited
+waits_so t {h = h} {g = g} same ok e waiting was =
+    let other : IsInProgressByOther t (label_of g) = rw e at ok in
+    sym (waiting (subst (λ (l : List Event). IsInProgressByOther t (label_of l)) same other)) ∙ (ap (λ (l : List Event). waits t l) (sym same) ∙ was)

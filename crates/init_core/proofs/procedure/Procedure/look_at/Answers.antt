@@ -1,7 +1,6 @@
-use Rattle.std.proofs.Common.{◌≡◌, sym, ap, ◌∙◌}
+use Rattle.std.proofs.Common.{◌≡◌, sym, ◌∙◌}
 use Rattle.init_core.specs.declared.event.Decision.TheVariants as decision
-use Rattle.init_core.specs.Decisions.{waits}
-use Rattle.init_core.proofs.Answered.{may_look, has_looked, prepared_begins}
+use Rattle.init_core.proofs.Answered.{may_look, has_looked, prepared_begins, waits_so}
 use Rattle.init_core.proofs.procedure.Procedure.look_at.Goals as goal
 
 pub advance-requires : goal.advance-requires
@@ -14,8 +13,14 @@ returns-in-Prepared-clause-standing c =
 
 pub advance-requires-2 : goal.advance-requires-2
 advance-requires-2 c =
-    may_look c.args.program.now c.args.class_record.now.class c.args.self.now c.in-Ok-enter.decision c.requires.next (λ e. sym c.requires.waiting ∙ (ap (waits c.args.thread) (sym c.reserve.ensures.events) ∙ c.in-Ok-enter.ensures.first e))
+    may_look c.args.program.now c.args.class_record.now.class c.args.self.now c.in-Ok-enter.decision c.requires.next (λ e. waits_so c.args.thread c.reserve.ensures.events c.in-Ok-enter.ensures.decision e c.requires.waiting (c.in-Ok-enter.ensures.first e))
 
 pub returns-clause-standing : goal.returns-clause-standing
 returns-clause-standing c =
-    has_looked c.args.program.now c.args.thread c.args.class_record.now.class c.args.self.now c.advance-2.new.self c.in-Ok-enter.decision c.requires.next (λ e. sym c.requires.waiting ∙ (ap (waits c.args.thread) (sym c.reserve.ensures.events) ∙ c.in-Ok-enter.ensures.first e)) c.in-Ok-advance.ensures.standing
+    has_looked c.args.program.now c.args.thread c.args.class_record.now.class c.args.self.now c.advance-2.new.self c.in-Ok-enter.decision c.requires.next (λ e. waits_so c.args.thread c.reserve.ensures.events c.in-Ok-enter.ensures.decision e c.requires.waiting (c.in-Ok-enter.ensures.first e)) c.in-Ok-advance.ensures.standing
+
+pub returns-clause-again : goal.returns-clause-again
+returns-clause-again c = λ e. waits_so c.args.thread c.reserve.ensures.events c.in-Ok-enter.ensures.decision e c.requires.waiting (c.in-Ok-enter.ensures.again e)
+
+pub returns-clause-first : goal.returns-clause-first
+returns-clause-first c = λ e. waits_so c.args.thread c.reserve.ensures.events c.in-Ok-enter.ensures.decision e c.requires.waiting (c.in-Ok-enter.ensures.first e)
