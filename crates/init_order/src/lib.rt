@@ -8,12 +8,12 @@
 //! [`needs`] goes over them once.
 #![tactic(auto)]
 
-ghost use Rattle.std.specs.Prelude.{◌≡◌, ◌++◌, ◌∷◌, [], OnOk, IfOk};
-ghost use Rattle.std.specs.List.{flat_map, filter};
+ghost use Rattle.std.specs.Prelude.{◌≡◌, ◌++◌, ◌∷◌, [], OnOk, IfOk, filter};
+ghost use Rattle.std.specs.List.{flat_map};
 ghost use Rattle.hierarchy.specs.ClassLists.{add_all, distinct};
 ghost use Rattle.hierarchy.specs.Hierarchy.{interfaces_of};
 ghost use Rattle.hierarchy.specs.Superinterfaces.{enumeration};
-ghost use Rattle.init_order.specs.Needs.{needs as needs_of, declares_default, superclass_first as superclass_of, needs_of_class as class_needs};
+ghost use Rattle.init_order.specs.Needs.{needs as needs_of, is_in_file, declares_default, needs_of_class as class_needs};
 ghost use Rattle.jasmin_text.specs.declared.class_text.ClassKind.TheVariants as kind;
 
 use hierarchy::{ClassId, Program};
@@ -54,7 +54,7 @@ fn superclass_first(
     program: &Program,
     superclass: ClassId,
 ) -> Result<IndexSet<ClassId>, AllocError>
-    ensures { IfOk result (λ found. found.keys ≡ superclass_of program.now superclass) }
+    ensures { IfOk result (λ found. found.keys ≡ filter (is_in_file program.now) (superclass ∷ [])) }
 {
     let mut found = IndexSet::new(alloc);
     if superclass.number < program.len() {
