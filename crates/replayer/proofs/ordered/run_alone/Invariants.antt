@@ -1,5 +1,5 @@
-use Rattle.init_world.proofs.Lone.{IsLone, work_of}
-use Rattle.cli.proofs.ordered.run_alone.Given as goal
+use Rattle.replayer.proofs.Lone.{IsLone, work_of}
+use Rattle.replayer.proofs.ordered.run_alone.Given as goal
 
 abbrev pub invariant-turns : goal.invariant-turns
 invariant-turns l = IsLone l.program l.fn.main l.world

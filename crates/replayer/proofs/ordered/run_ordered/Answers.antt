@@ -4,8 +4,8 @@ use Rattle.statics.specs.Statics.{statics_of}
 use Rattle.init_core.specs.Interleaving.{of_class}
 use Rattle.init_core.specs.Lawful.{IsLawful}
 use Rattle.init_core.proofs.Mains.{thread_word}
-use Rattle.cli.proofs.OneThread.{one_is_legal}
-use Rattle.cli.proofs.ordered.run_ordered.Goals as goal
+use Rattle.replayer.proofs.OneThread.{one_is_legal}
+use Rattle.replayer.proofs.ordered.run_ordered.Goals as goal
 
 pub returns : goal.returns
 returns c =

@@ -1,14 +1,14 @@
 //! A run on one host thread.
 
-ghost use Rattle.std.specs.Prelude.{◌≡◌, ℕ, ◌<◌, ◌≤◌, length, IfOk};
+ghost use Rattle.std.specs.Prelude.{◌≡◌, ◌<◌, length, IfOk};
 ghost use Rattle.hierarchy.specs.declared.class.ClassId.{ClassId};
 ghost use Rattle.hierarchy.specs.Hierarchy.{IsAcyclic};
 ghost use Rattle.init_core.specs.Interleaving.{of_thread, labels_of as all_labels};
 ghost use Rattle.init_core.specs.ProcedureWord.{ProcedureWord};
 ghost use Rattle.init_core.specs.declared.frames.Outcome.TheVariants.{Normal};
-ghost use Rattle.init_world.specs.EmptyBodies.{HaveEmptyBodies};
-ghost use Rattle.init_world.specs.PlainSteps.{ArePlainSteps};
-ghost use Rattle.cli.specs.Running.{IsRunOf};
+ghost use Rattle.replayer.specs.EmptyBodies.{HaveEmptyBodies};
+ghost use Rattle.replayer.specs.PlainSteps.{ArePlainSteps};
+ghost use Rattle.replayer.specs.OrderedRun.{IsRunOf};
 
 use hierarchy::{ClassId, Program};
 use init_core::Label;
@@ -57,13 +57,12 @@ fn labels_of(alloc: Global, program: &Program, world: &World) -> Result<Sequence
 ///
 /// Each class is run as if it had no initializer, and the main class as if it had no `main`, so that all bodies are
 /// empty: the procedure for the main class, completed normally, is all that the thread does, and step 10 of each class
-/// comes directly behind its step 9 (JLS SE 8 12.4.2). An `Err` is want of memory.
+/// comes directly after its step 9 (JLS SE 8 12.4.2). An `Err` is out of memory.
 pub fn run_ordered(alloc: Global, program: &Program, main: ClassId) -> Result<Report, AllocError>
     requires main { main.number < length program.now.classes }
     ensures { IfOk result (IsRunOf program.now main) }
 {
-    // Each way up the hierarchy ends, as the number of classes tells.
-    let _classes = program.len();
+    program.is_linked();
     let world = run_alone(alloc, program, main)?;
     let labels = labels_of(alloc, program, &world)?;
     let mut outcomes = Sequence::new(alloc);

@@ -1,7 +1,7 @@
 use Rattle.std.proofs.Common.{◌<◌, inl, inr, subst}
-use Rattle.init_world.proofs.Alone.{IsCalmTurn}
-use Rattle.init_world.proofs.Lone.{work_of, lone_starts, lone_turn, lone_body}
-use Rattle.cli.proofs.ordered.run_alone.Goals as goal
+use Rattle.replayer.proofs.Alone.{IsCalmTurn}
+use Rattle.replayer.proofs.Lone.{work_of, lone_starts, lone_turn, lone_body}
+use Rattle.replayer.proofs.ordered.run_alone.Goals as goal
 
 pub turns-init : goal.turns-init
 turns-init c =

@@ -3,7 +3,7 @@ use Rattle.hierarchy.specs.LinkedProgram.{id}
 use Rattle.init_core.specs.declared.event.Event.{Event}
 use Rattle.init_core.specs.Interleaving.{labels_from, of_class}
 use Rattle.init_core.specs.Label.{label_of}
-use Rattle.cli.proofs.ordered.labels_of.Goals as goal
+use Rattle.replayer.proofs.ordered.labels_of.Goals as goal
 
 next : (events : List Event) (n count : ℕ) → n < count → labels_from n (count - n) events ≡ label_of (of_class (id n) events) ∷ labels_from (n + 1) (count - (n + 1)) events
 next events n count within = let e : count - n ≡ suc (count - (n + 1)) = omega arith in rw e refl
