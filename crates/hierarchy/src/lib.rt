@@ -46,8 +46,9 @@ mod supertypes;
 mod tables;
 mod texts;
 pub mod value;
+mod walk;
 
-pub use built_in::BuiltIn;
+pub use built_in::{BUILT_IN_COUNT, BuiltIn};
 pub use built_in_method::{BuiltInMethod, Printed};
 pub use class::{Class, ClassId};
 pub use declared_method::MethodId;

@@ -15,19 +15,19 @@ use Rattle.hierarchy.proofs.Enumerations.{flat_map-from, among_supers}
 use Rattle.init_order.specs.Needs.{needs, needs_in, needs_by, add_all, add_new, declares_default, superclass_first, is_in_file}
 
 -- an interface of an enumeration is the enumerated one, or above it
-enumerated : (p : LinkedProgram) (depth : ℕ) (i : ClassId) {d : ClassId} → Among d (enumeration_within depth p i) → (d ≡ i) ⊎ Reaches p i d
-enumerated p zero i h = elim h [ ]
-enumerated p (suc depth) i h = elim (among_cases (flat_map (enumeration_within depth p) (interfaces_of p i)) h) [
-  | inl k ↦ let f = flat_map-from (enumeration_within depth p) (interfaces_of p i) k in inr (above p i f.0 (among_supers p i f.0 f.1) (enumerated p depth f.0 f.2))
+enumerated : (classes : List Class) (depth : ℕ) (i : ClassId) {d : ClassId} → Among d (enumeration_within depth classes i) → (d ≡ i) ⊎ Reaches classes i d
+enumerated classes zero i h = elim h [ ]
+enumerated classes (suc depth) i h = elim (among_cases (flat_map (enumeration_within depth classes) (interfaces_of classes i)) h) [
+  | inl k ↦ let f = flat_map-from (enumeration_within depth classes) (interfaces_of classes i) k in inr (above classes i f.0 (among_supers classes i f.0 f.1) (enumerated classes depth f.0 f.2))
   | inr k ↦ inl (only k)
 ] where
   only : {x y : ClassId} → Among x (y ∷ []) → x ≡ y
   only first = refl
   only (later k) = elim k [ ]
 
-  above : (p : LinkedProgram) (i j : ClassId) {d : ClassId} → Among j (supers p i) → (d ≡ j) ⊎ Reaches p j d → Reaches p i d
-  above p i j m (inl e) = subst (λ x. Reaches p i x) (sym e) (direct m)
-  above p i j m (inr r) = further m r
+  above : (classes : List Class) (i j : ClassId) {d : ClassId} → Among j (supers classes i) → (d ≡ j) ⊎ Reaches classes j d → Reaches classes i d
+  above classes i j m (inl e) = subst (λ x. Reaches classes i x) (sym e) (direct m)
+  above classes i j m (inr r) = further m r
 
 -- what is added in the end was there, or was to be added
 added_from : (passes : ClassId → Bool) (cs found : List ClassId) {d : ClassId} → Among d (add_all passes found cs) → Among d found ⊎ Among d cs
@@ -43,22 +43,22 @@ superclass_only s true (later k) = elim k [ ]
 superclass_only s false h = elim h [ ]
 
 module _ (p : LinkedProgram) (c : ClassId) where
-  interface_above : {d : ClassId} (i : ClassId) → Among i (supers p c) → Among d (enumeration p i) → Reaches p c d
+  interface_above : {d : ClassId} (i : ClassId) → Among i (supers p.classes c) → Among d (enumeration p.classes i) → Reaches p.classes c d
   unfolding enumeration
-  interface_above {d} i m h = elim (enumerated p (height p) i h) [ inl e ↦ subst (λ x. Reaches p c x) (sym e) (direct m) | inr r ↦ further m r ]
+  interface_above {d} i m h = elim (enumerated p.classes (height p.classes) i h) [ inl e ↦ subst (λ x. Reaches p.classes c x) (sym e) (direct m) | inr r ↦ further m r ]
 
-  by_kind : (class : Class) (k : ClassKind) → ((d : ClassId) → Among d (class.superclass ∷ class.interfaces) → Among d (supers p c)) → {d : ClassId} → Among d (needs_by p class k) → Reaches p c d
+  by_kind : (class : Class) (k : ClassKind) → ((d : ClassId) → Among d (class.superclass ∷ class.interfaces) → Among d (supers p.classes c)) → {d : ClassId} → Among d (needs_by p class k) → Reaches p.classes c d
   by_kind class kind.Interface up h = elim h [ ]
-  by_kind class kind.Class up {d} h = elim (added_from (declares_default p) (flat_map (enumeration p) class.interfaces) (superclass_first p class.superclass) h) [
+  by_kind class kind.Class up {d} h = elim (added_from (declares_default p) (flat_map (enumeration p.classes) class.interfaces) (superclass_first p class.superclass) h) [
     | inl k ↦ direct (up d (subst (λ x. Among x (class.superclass ∷ class.interfaces)) (sym (superclass_only class.superclass (is_in_file p class.superclass) k)) first))
-    | inr k ↦ let f = flat_map-from (enumeration p) class.interfaces k in interface_above f.0 (up f.0 (later f.1)) f.2
+    | inr k ↦ let f = flat_map-from (enumeration p.classes) class.interfaces k in interface_above f.0 (up f.0 (later f.1)) f.2
   ]
 
-  by_class : (o : Option Class) → class_at p c ≡ o → {d : ClassId} → Among d (needs_in p o) → Reaches p c d
+  by_class : (o : Option Class) → class_at p c ≡ o → {d : ClassId} → Among d (needs_in p o) → Reaches p.classes c d
   by_class None e h = elim h [ ]
   by_class (Some class) e h = by_kind class class.kind (λ d k. rw e k) h
 
   -- each class that c needs is a supertype of c
-  pub needs_above : {d : ClassId} → Among d (needs p c) → Reaches p c d
+  pub needs_above : {d : ClassId} → Among d (needs p c) → Reaches p.classes c d
   unfolding needs
   needs_above h = by_class (class_at p c) refl h

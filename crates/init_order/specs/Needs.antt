@@ -33,7 +33,7 @@ add_all passes found (c ∷ cs) = add_all passes (if passes c then add_new found
 -- the superclass, then the enumeration of the superinterfaces, of those that declare a non-abstract, non-static
 -- method
 abbrev pub needs_of_class : LinkedProgram → ClassId → List ClassId → List ClassId
-needs_of_class p superclass interfaces = add_all (declares_default p) (superclass_first p superclass) (flat_map (enumeration p) interfaces)
+needs_of_class p superclass interfaces = add_all (declares_default p) (superclass_first p superclass) (flat_map (enumeration p.classes) interfaces)
 
 abbrev pub needs_by : LinkedProgram → Class → ClassKind → List ClassId
 needs_by p class kind.Interface = []
