@@ -27,6 +27,7 @@ pub mod declared_method;
 pub mod fault;
 mod field_order;
 pub mod fields;
+mod keys;
 pub mod laws;
 pub mod linking;
 mod lookup;
