@@ -21,15 +21,15 @@ only first = refl
 only (later k) = elim k [ ]
 
 -- an interface of an enumeration is the enumerated one, or above it
-enumerated : (p : LinkedProgram) (depth : ℕ) (i : ClassId) {d : ClassId} → Among d (enumeration_within depth p i) → (d ≡ i) ⊎ Reaches p i d
-enumerated p zero i h = elim h [ ]
-enumerated p (suc depth) i h = elim (among_cases (flat_map (enumeration_within depth p) (interfaces_of p i)) h) [
-  | inl k ↦ let f = flat_map-from (enumeration_within depth p) (interfaces_of p i) k in inr (above p i f.0 (among_supers p i f.0 f.1) (enumerated p depth f.0 f.2))
+enumerated : (classes : List Class) (depth : ℕ) (i : ClassId) {d : ClassId} → Among d (enumeration_within depth classes i) → (d ≡ i) ⊎ Reaches classes i d
+enumerated classes zero i h = elim h [ ]
+enumerated classes (suc depth) i h = elim (among_cases (flat_map (enumeration_within depth classes) (interfaces_of classes i)) h) [
+  | inl k ↦ let f = flat_map-from (enumeration_within depth classes) (interfaces_of classes i) k in inr (above classes i f.0 (among_supers classes i f.0 f.1) (enumerated classes depth f.0 f.2))
   | inr k ↦ inl (only k)
 ] where
-  above : (p : LinkedProgram) (i j : ClassId) {d : ClassId} → Among j (supers p i) → (d ≡ j) ⊎ Reaches p j d → Reaches p i d
-  above p i j m (inl e) = subst (λ x. Reaches p i x) (sym e) (direct m)
-  above p i j m (inr r) = further m r
+  above : (classes : List Class) (i j : ClassId) {d : ClassId} → Among j (supers classes i) → (d ≡ j) ⊎ Reaches classes j d → Reaches classes i d
+  above classes i j m (inl e) = subst (λ x. Reaches classes i x) (sym e) (direct m)
+  above classes i j m (inr r) = further m r
 
 -- what passes is of the list, and passes
 filtered : (q : ClassId → Bool) (cs : List ClassId) {d : ClassId} → Among d (filter q cs) → Among d cs × (q d ≡ true)
@@ -46,33 +46,33 @@ filtered q (c ∷ cs) {d} h = elim (cases_Bool (q c)) [
 
 -- the superclass in a file, or a superinterface that declares a non-abstract, non-static method
 needed : (p : LinkedProgram) (superclass : ClassId) (interfaces : List ClassId) {d : ClassId} → Among d (needs_of_class p superclass interfaces) →
-    ((d ≡ superclass) × (is_in_file p d ≡ true)) ⊎ (Among d (flat_map (enumeration p) interfaces) × (declares_default p d ≡ true))
-needed p superclass interfaces {d} h = elim (add_all-cases [] (filter (is_in_file p) (superclass ∷ []) ++ filter (declares_default p) (flat_map (enumeration p) interfaces)) h) [
+    ((d ≡ superclass) × (is_in_file p d ≡ true)) ⊎ (Among d (flat_map (enumeration p.classes) interfaces) × (declares_default p d ≡ true))
+needed p superclass interfaces {d} h = elim (add_all-cases [] (filter (is_in_file p) (superclass ∷ []) ++ filter (declares_default p) (flat_map (enumeration p.classes) interfaces)) h) [
   | inl k ↦ elim k [ ]
   | inr k ↦ elim (among_cases (filter (is_in_file p) (superclass ∷ [])) k) [
     | inl m ↦ let f = filtered (is_in_file p) (superclass ∷ []) m in inl (only f.0, f.1)
-    | inr m ↦ inr (filtered (declares_default p) (flat_map (enumeration p) interfaces) m)
+    | inr m ↦ inr (filtered (declares_default p) (flat_map (enumeration p.classes) interfaces) m)
   ]
 ]
 
 module _ (p : LinkedProgram) (c : ClassId) where
-  interface_above : {d : ClassId} (i : ClassId) → Among i (supers p c) → Among d (enumeration p i) → Reaches p c d
+  interface_above : {d : ClassId} (i : ClassId) → Among i (supers p.classes c) → Among d (enumeration p.classes i) → Reaches p.classes c d
   unfolding enumeration
-  interface_above {d} i m h = elim (enumerated p (height p) i h) [ inl e ↦ subst (λ x. Reaches p c x) (sym e) (direct m) | inr r ↦ further m r ]
+  interface_above {d} i m h = elim (enumerated p.classes (height p.classes) i h) [ inl e ↦ subst (λ x. Reaches p.classes c x) (sym e) (direct m) | inr r ↦ further m r ]
 
-  by_kind : (class : Class) (k : ClassKind) → ((d : ClassId) → Among d (class.superclass ∷ class.interfaces) → Among d (supers p c)) → {d : ClassId} → Among d (needs_by p class k) → Reaches p c d
+  by_kind : (class : Class) (k : ClassKind) → ((d : ClassId) → Among d (class.superclass ∷ class.interfaces) → Among d (supers p.classes c)) → {d : ClassId} → Among d (needs_by p class k) → Reaches p.classes c d
   by_kind class kind.Interface up h = elim h [ ]
   by_kind class kind.Class up {d} h = elim (needed p class.superclass class.interfaces h) [
     | inl k ↦ direct (up d (subst (λ x. Among x (class.superclass ∷ class.interfaces)) (sym k.0) first))
-    | inr k ↦ let f = flat_map-from (enumeration p) class.interfaces k.0 in interface_above f.0 (up f.0 (later f.1)) f.2
+    | inr k ↦ let f = flat_map-from (enumeration p.classes) class.interfaces k.0 in interface_above f.0 (up f.0 (later f.1)) f.2
   ]
 
-  by_class : (o : Option Class) → class_at p c ≡ o → {d : ClassId} → Among d (needs_in p o) → Reaches p c d
+  by_class : (o : Option Class) → class_at p c ≡ o → {d : ClassId} → Among d (needs_in p o) → Reaches p.classes c d
   by_class None e h = elim h [ ]
   by_class (Some class) e h = by_kind class class.kind (λ d k. rw e k) h
 
   -- each class that c needs is a supertype of c
-  pub needs_above : {d : ClassId} → Among d (needs p c) → Reaches p c d
+  pub needs_above : {d : ClassId} → Among d (needs p c) → Reaches p.classes c d
   unfolding needs
   needs_above h = by_class (class_at p c) refl h
 

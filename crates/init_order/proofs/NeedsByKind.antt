@@ -21,7 +21,7 @@ pub needs-interface : (p : LinkedProgram) (c : ClassId) (class : Class) → Some
 unfolding needs
 needs-interface p c class e k = rw (← e, k) refl
 
-pub needs-class : (p : LinkedProgram) (c : ClassId) (class : Class) → Some class ≡ class_at p c → class.kind ≡ kind.Class → needs p c ≡ needs_of_class p class.superclass (interfaces_of p c)
+pub needs-class : (p : LinkedProgram) (c : ClassId) (class : Class) → Some class ≡ class_at p c → class.kind ≡ kind.Class → needs p c ≡ needs_of_class p class.superclass (interfaces_of p.classes c)
 unfolding needs
 needs-class p c class e k = ap (needs_in p) (sym e) ∙ ap (needs_by p class) k ∙ rw (← e) refl
 
@@ -32,11 +32,11 @@ distinct-one : (q : ClassId → Bool) (c : ClassId) → distinct (filter q (c �
 distinct-one q c = elim (cases_Bool (q c)) [ inl e ↦ rw e refl | inr e ↦ rw e refl ]
 
 -- the repeats may be dropped before the filter
-pub needed : (p : LinkedProgram) (superclass c : ClassId) (found next : List ClassId) → found ≡ filter (is_in_file p) (superclass ∷ []) → next ≡ add_all found (filter (declares_default p) (superinterfaces p c)) →
-    next ≡ needs_of_class p superclass (interfaces_of p c)
+pub needed : (p : LinkedProgram) (superclass c : ClassId) (found next : List ClassId) → found ≡ filter (is_in_file p) (superclass ∷ []) → next ≡ add_all found (filter (declares_default p) (superinterfaces p.classes c)) →
+    next ≡ needs_of_class p superclass (interfaces_of p.classes c)
 needed p superclass c found next e n =
     let q = declares_default p in
     let s = filter (is_in_file p) (superclass ∷ []) in
-    let xs = flat_map (enumeration p) (interfaces_of p c) in
-    n ∙ ap (λ z. add_all z (filter q (superinterfaces p c))) e ∙ filter-add_all q s [] xs ∙
+    let xs = flat_map (enumeration p.classes) (interfaces_of p.classes c) in
+    n ∙ ap (λ z. add_all z (filter q (superinterfaces p.classes c))) e ∙ filter-add_all q s [] xs ∙
     ap (λ z. add_all z (filter q xs)) (sym (distinct-one (is_in_file p) superclass)) ∙ sym (add_all-append [] s (filter q xs))

@@ -23,7 +23,7 @@ is_in_file p c = nat_lt c.number (length p.classes)
 -- the superclass, if it is in a file, then the enumeration of the superinterfaces, of those that declare a
 -- non-abstract, non-static method; of repeats the first
 abbrev pub needs_of_class : LinkedProgram → ClassId → List ClassId → List ClassId
-needs_of_class p superclass interfaces = distinct (filter (is_in_file p) (superclass ∷ []) ++ filter (declares_default p) (flat_map (enumeration p) interfaces))
+needs_of_class p superclass interfaces = distinct (filter (is_in_file p) (superclass ∷ []) ++ filter (declares_default p) (flat_map (enumeration p.classes) interfaces))
 
 abbrev pub needs_by : LinkedProgram → Class → ClassKind → List ClassId
 needs_by p class kind.Interface = []

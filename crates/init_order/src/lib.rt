@@ -70,7 +70,7 @@ fn needs_of_class(
     id: ClassId,
     superclass: ClassId,
 ) -> Result<Vec<ClassId>, AllocError>
-    ensures { IfOk result (λ found. found.items ≡ class_needs program.now superclass (interfaces_of program.now id)) }
+    ensures { IfOk result (λ found. found.items ≡ class_needs program.now superclass (interfaces_of program.now.classes id)) }
 {
     let mut found = superclass_first(alloc, program, superclass)?;
     add_defaults(program, program.superinterfaces(id), &mut found)?;
@@ -98,7 +98,7 @@ pub fn needs(alloc: Global, program: &Program, id: ClassId) -> Result<Vec<ClassI
 /// in order, and then the interface itself (JVMS SE 8 5.5 step 7: "recurses on I's superinterfaces before
 /// returning I").
 pub fn superinterfaces_come_first(program: &Program, id: ClassId)
-    ensures { enumeration program.now id ≡ flat_map (enumeration program.now) (interfaces_of program.now id) ++ id ∷ [] }
+    ensures { enumeration program.now.classes id ≡ flat_map (enumeration program.now.classes) (interfaces_of program.now.classes id) ++ id ∷ [] }
 {
-    let _classes = program.len();
+    program.is_linked();
 }

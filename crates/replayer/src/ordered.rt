@@ -21,7 +21,7 @@ use trace::{Report, ThreadOutcome};
 ///
 /// Each turn makes one event, or comes to a body, which is empty and ends at once.
 fn run_alone(alloc: Global, program: &Program, main: ClassId) -> Result<World, AllocError>
-    requires acyclic { IsAcyclic program.now }
+    requires acyclic { IsAcyclic program.now.classes }
     requires main { main.number < length program.now.classes }
     ensures program { IfOk result (λ world. world.program ≡ program.now) }
     ensures one { IfOk result (λ world. length world.threads ≡ 1) }
