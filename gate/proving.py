@@ -22,6 +22,8 @@ class Lines:
     """Takes what the kit's script prints, and shows what tells of a failure, with the crate's own lines before it."""
 
     FAILING = re.compile(r"NOT PROVED|NOT REFUSED|BAD EDIT|FAILED|had not ended|was not run|was stopped|ended with|is not |rt fmt")
+    # What tells of what went as it must: an edit that was refused, a test that passed.
+    WELL = re.compile(r": refused|^test .* ok$")
 
     def __init__(self):
         self.section, self.buffer, self.all = "", self, []
@@ -29,12 +31,15 @@ class Lines:
     def write(self, text):
         text = text.decode(errors="replace") if isinstance(text, bytes) else text
         self.all.append(text)
-        if text.startswith("== "):
-            self.section = text
-        elif text.startswith("rt: "):
-            if self.FAILING.search(text):
+        if text.startswith("rt: "):
+            if self.FAILING.search(text) and not self.WELL.search(text):
                 print(f"{self.section}{text}", file=sys.__stdout__)
             self.section = ""
+        elif text.startswith("== "):
+            self.section = text
+        elif text.strip():
+            shown = [it for it in text.split("\n") if not self.WELL.search(it)]
+            self.section += "\n".join(shown)
         return len(text)
 
     def flush(self):

@@ -26,7 +26,10 @@ fn event_of(
 ) -> Result<Option<Made>, AllocError> {
     let mut run = replayed(alloc, program, mains, path)?;
     if choice.thread < 2 && makes(alloc, program, &mut run, mains, choice)? {
-        return Ok(run.world.events().last().map(made_of));
+        if let Some(last) = run.world.len().checked_sub(1) {
+            let event = run.world.event(last)?;
+            return Ok(Some(made_of(&event)));
+        }
     }
     Ok(None)
 }
@@ -107,7 +110,7 @@ fn events_of(
     path: &[Choice],
 ) -> Result<Vec<Made>, AllocError> {
     let run = replayed(alloc, program, mains, path)?;
-    list_of(alloc, run.world.events())
+    list_of(alloc, &run.world.into_events())
 }
 
 /// Adds this path with each of these choices behind it.

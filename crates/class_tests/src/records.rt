@@ -2,9 +2,9 @@
 
 use crate::programs::program;
 use hierarchy::{ClassId, Program};
-use init_core::{ClassRecord, Decision, Event, Kind, Label};
+use init_core::{ClassRecord, Decision, Event, Kind, Label, THREADS};
 use sequence::Text;
-use std::alloc::Global;
+use std::alloc::{AllocError, Global};
 use std::process::Abort;
 use std::test::Fail;
 
@@ -29,6 +29,7 @@ fn finds(
     looks: &[(usize, Decision)],
 ) -> Result<(), Fail> {
     for (thread, decision) in looks {
+        assert!(rt; *thread < THREADS);
         assert_eq!(rt; record.enter(*thread)?, *decision);
     }
     Ok(())
@@ -62,7 +63,16 @@ fn ends(rt: &impl Abort, record: &mut ClassRecord) -> Result<(), Fail> {
     Ok(())
 }
 
-fn kept(rt: &impl Abort, record: &ClassRecord) {
+/// The events of a record.
+pub(crate) fn history(alloc: Global, record: &ClassRecord) -> Result<Vec<Event>, AllocError> {
+    let mut events = Vec::new(alloc);
+    for place in 0..record.len() {
+        events.push(record.event(place)?)?;
+    }
+    Ok(events)
+}
+
+fn kept(rt: &impl Abort, alloc: Global, record: &ClassRecord) -> Result<(), Fail> {
     let events = [
         event(0, Kind::Begins),
         event(0, Kind::Recurs),
@@ -70,7 +80,8 @@ fn kept(rt: &impl Abort, record: &ClassRecord) {
         event(0, Kind::Completes),
         event(1, Kind::FindsInitialized),
     ];
-    assert!(rt; record.history() == events.as_slice());
+    assert!(rt; history(alloc, record)?.as_slice() == events.as_slice());
+    Ok(())
 }
 
 fn completes_for_all_threads(
@@ -80,8 +91,7 @@ fn completes_for_all_threads(
 ) -> Result<(), Fail> {
     let mut record = ClassRecord::new(alloc, program, CLASS)?;
     completes(rt, &mut record)?;
-    kept(rt, &record);
-    Ok(())
+    kept(rt, alloc, &record)
 }
 
 fn fails(rt: &impl Abort, record: &mut ClassRecord, by_super: bool) -> Result<(), Fail> {
@@ -101,7 +111,7 @@ fn fails(rt: &impl Abort, record: &mut ClassRecord, by_super: bool) -> Result<()
         record,
         &[(3, Decision::FindsErroneous), (0, Decision::FindsErroneous)],
     )?;
-    assert_eq!(rt; record.history().len(), 4);
+    assert_eq!(rt; record.len(), 4);
     Ok(())
 }
 

@@ -1,6 +1,7 @@
 //! What static fields hold, by their class's record.
 
 use crate::programs::program;
+use crate::records::history;
 use hierarchy::{ClassId, Program, Value};
 use init_core::{ClassRecord, Decision, Event, Kind, Label};
 use std::alloc::Global;
@@ -90,7 +91,7 @@ fn begins_with_constants(rt: &impl Abort, record: &mut ClassRecord) -> Result<()
 fn narrowed_constants(rt: &impl Abort, alloc: Global, program: &Program) -> Result<(), Fail> {
     let mut record = ClassRecord::new(alloc, program, C)?;
     begins_with_constants(rt, &mut record)?;
-    assert!(rt; write_trace(alloc, program, record.history())?.as_slice() == READS);
+    assert!(rt; write_trace(alloc, program, &history(alloc, &record)?)?.as_slice() == READS);
     Ok(())
 }
 
@@ -101,8 +102,9 @@ fn reads_within_step_7(rt: &impl Abort, record: &mut ClassRecord) -> Result<(), 
         assert_eq!(rt; record.enter(0)?, Decision::Recurs);
         assert_eq!(rt; read(record, place)?, *value);
     }
-    assert!(rt; record.history().get(2) == Some(&get(0, Value::Int(5))));
-    assert!(rt; record.history().get(4) == Some(&get(1, Value::Int(0))));
+    assert!(rt; record.len() == 5);
+    assert!(rt; record.event(2)? == get(0, Value::Int(5)));
+    assert!(rt; record.event(4)? == get(1, Value::Int(0)));
     Ok(())
 }
 
@@ -114,7 +116,7 @@ fn writes(rt: &impl Abort, record: &mut ClassRecord) -> Result<(), Fail> {
     reads(rt, record, &[Value::Int(-9), Value::Int(-32768)])?;
     write(record, 0, Value::Int(8))?;
     reads(rt, record, &[Value::Int(8), Value::Int(-32768)])?;
-    assert_eq!(rt; record.history().len(), 8);
+    assert_eq!(rt; record.len(), 8);
     Ok(())
 }
 

@@ -1,4 +1,3 @@
-pub mod OneThread
 pub mod CommandLine
 mod Refusals
 pub mod KnownFiles

@@ -6,13 +6,8 @@ use Rattle.hierarchy.specs.declared.class.ClassId.{ClassId}
 use Rattle.hierarchy.specs.declared.fault.LinkFault.{LinkFault}
 use Rattle.hierarchy.specs.FirstFault.{IsFirstFault, LinksTo}
 use Rattle.hierarchy.specs.LinkedProgram.{LinkedProgram, class_named}
-use Rattle.init_core.specs.Interleaving.{IsLegal, of_thread, labels_of}
-use Rattle.init_core.specs.ProcedureWord.{ProcedureWord}
-use Rattle.init_core.specs.declared.frames.Outcome.TheVariants.{Normal}
 use Rattle.trace.specs.declared.report.Report.{Report}
-use Rattle.trace.specs.declared.report.ThreadOutcome.TheVariants as outcomes
-use Rattle.init_world.specs.EmptyBodies.{HaveEmptyBodies}
-use Rattle.init_world.specs.PlainSteps.{ArePlainSteps}
+use Rattle.replayer.specs.OrderedRun.{IsRunOf}
 use Rattle.cli.specs.declared.fault.Fault.{Fault}
 use Rattle.cli.specs.declared.fault.Fault.TheVariants.{Body, Link, Mains, Memory}
 use Rattle.cli.specs.Bodiless.{holds_code}
@@ -37,17 +32,6 @@ main_named p name = if holds_comma name then None else option_and_then (class_of
 -- the class of the files that the text of `--mains` names, where the option is given
 abbrev pub main_in : LinkedProgram → Option (List ℕ) → Option ClassId
 main_in p mains = option_and_then (main_named p) mains
-
--- The report is of the run of the main class alone: of a legal interleaving, the procedure for that class completed normally,
--- in which each initializer is empty and prints nothing; its labels are those of the classes' histories.
-pub record IsRunOf (p : LinkedProgram) (main : ClassId) (r : Report) : Type 0 where
-  pub legal : IsLegal p (main ∷ []) r.events
-  pub labels : r.labels ≡ labels_of p r.events
-  pub outcomes : r.outcomes ≡ outcomes.Normal ∷ []
-  pub output : r.output ≡ []
-  pub word : ProcedureWord p 0 main (of_thread 0 r.events) Normal
-  pub bodies : HaveEmptyBodies r.events
-  pub steps : ArePlainSteps r.events
 
 -- the report is of the run of the class that the text of `--mains` names, where no class has code
 pub record IsRunOfNamed (mains : Option (List ℕ)) (p : LinkedProgram) (r : Report) : Type 0 where

@@ -8,7 +8,6 @@
 pub mod fault;
 pub mod files;
 pub mod needed;
-pub mod ordered;
 #[cfg(test)]
 mod ordered_tests;
 pub mod running;
@@ -18,7 +17,6 @@ pub mod words;
 pub use fault::Fault;
 pub use files::{Named, NamedFault};
 pub use needed::write_needs;
-pub use ordered::run_ordered;
 pub use running::{ProgramRun, run_texts};
 pub use serving::serve;
 pub use words::{Asked, Run, parse};

@@ -1,10 +1,11 @@
 //! Runs of classes without files, among them classes that `run` refuses so far, since some method has a body.
 
-use crate::{run_ordered, run_texts};
+use crate::run_texts;
 use hierarchy::{ClassId, Program, link};
 use init_core::Label;
 use jasmin_reader::read_class;
 use jasmin_text::ClassText;
+use replayer::run_ordered;
 use sequence::Sequence;
 use std::alloc::Global;
 use std::test::Fail;

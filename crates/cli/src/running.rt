@@ -7,9 +7,9 @@ ghost use Rattle.cli.specs.Bodiless.{has_code, declares_code, holds_code};
 ghost use Rattle.cli.specs.Running.{IsLinkRefusal, IsRefusal, IsRunOfNamed, IsRunRefusal, main_named};
 
 use crate::fault::Fault;
-use crate::ordered::run_ordered;
 use hierarchy::{Class, ClassId, LinkFaultKind, Program, link};
 use jasmin_text::{ClassText, Method};
+use replayer::run_ordered;
 use std::alloc::Global;
 use trace::Report;
 

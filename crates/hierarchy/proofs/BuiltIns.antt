@@ -1,42 +1,43 @@
 -- The built-in classes' numbers fall along superclasses.
-use Rattle.std.proofs.Common.{◌≡◌, ℕ, ◌<◌, ◌≤◌, lit<, lit≤, Option, Some, None, slice_get, refl}
+use Rattle.std.proofs.Common.{◌≡◌, ℕ, ◌<◌, lit<, Option, Some, None, slice_get, refl}
 use Rattle.hierarchy.specs.declared.built_in.BuiltIn.{BuiltIn}
 use Rattle.hierarchy.specs.declared.built_in.BuiltIn.TheVariants.{Object, System, String, PrintStream, Throwable, Exception, Error, RuntimeException, ArithmeticException, NullPointerException, IndexOutOfBoundsException, NegativeArraySizeException, ClassCastException, ArrayStoreException, IllegalMonitorStateException, IllegalArgumentException, IllegalStateException, UnsupportedOperationException, ArrayIndexOutOfBoundsException, LinkageError, VirtualMachineError, NoClassDefFoundError, ExceptionInInitializerError, IncompatibleClassChangeError, VerifyError, NoSuchFieldError, NoSuchMethodError, AbstractMethodError, InstantiationError, OutOfMemoryError, StackOverflowError, InternalError}
+use Rattle.hierarchy.specs.declared.built_in.TheConstants.{BUILT_IN_COUNT}
 use Rattle.hierarchy.specs.BuiltIn.{number_of, superclass_of_built_in, built_ins}
 
-pub number-small : (b : BuiltIn) → number_of b ≤ 31
-number-small Object = lit≤ tt
-number-small System = lit≤ tt
-number-small String = lit≤ tt
-number-small PrintStream = lit≤ tt
-number-small Throwable = lit≤ tt
-number-small Exception = lit≤ tt
-number-small Error = lit≤ tt
-number-small RuntimeException = lit≤ tt
-number-small ArithmeticException = lit≤ tt
-number-small NullPointerException = lit≤ tt
-number-small IndexOutOfBoundsException = lit≤ tt
-number-small NegativeArraySizeException = lit≤ tt
-number-small ClassCastException = lit≤ tt
-number-small ArrayStoreException = lit≤ tt
-number-small IllegalMonitorStateException = lit≤ tt
-number-small IllegalArgumentException = lit≤ tt
-number-small IllegalStateException = lit≤ tt
-number-small UnsupportedOperationException = lit≤ tt
-number-small ArrayIndexOutOfBoundsException = lit≤ tt
-number-small LinkageError = lit≤ tt
-number-small VirtualMachineError = lit≤ tt
-number-small NoClassDefFoundError = lit≤ tt
-number-small ExceptionInInitializerError = lit≤ tt
-number-small IncompatibleClassChangeError = lit≤ tt
-number-small VerifyError = lit≤ tt
-number-small NoSuchFieldError = lit≤ tt
-number-small NoSuchMethodError = lit≤ tt
-number-small AbstractMethodError = lit≤ tt
-number-small InstantiationError = lit≤ tt
-number-small OutOfMemoryError = lit≤ tt
-number-small StackOverflowError = lit≤ tt
-number-small InternalError = lit≤ tt
+pub number-small : (b : BuiltIn) → number_of b < BUILT_IN_COUNT
+number-small Object = lit< tt
+number-small System = lit< tt
+number-small String = lit< tt
+number-small PrintStream = lit< tt
+number-small Throwable = lit< tt
+number-small Exception = lit< tt
+number-small Error = lit< tt
+number-small RuntimeException = lit< tt
+number-small ArithmeticException = lit< tt
+number-small NullPointerException = lit< tt
+number-small IndexOutOfBoundsException = lit< tt
+number-small NegativeArraySizeException = lit< tt
+number-small ClassCastException = lit< tt
+number-small ArrayStoreException = lit< tt
+number-small IllegalMonitorStateException = lit< tt
+number-small IllegalArgumentException = lit< tt
+number-small IllegalStateException = lit< tt
+number-small UnsupportedOperationException = lit< tt
+number-small ArrayIndexOutOfBoundsException = lit< tt
+number-small LinkageError = lit< tt
+number-small VirtualMachineError = lit< tt
+number-small NoClassDefFoundError = lit< tt
+number-small ExceptionInInitializerError = lit< tt
+number-small IncompatibleClassChangeError = lit< tt
+number-small VerifyError = lit< tt
+number-small NoSuchFieldError = lit< tt
+number-small NoSuchMethodError = lit< tt
+number-small AbstractMethodError = lit< tt
+number-small InstantiationError = lit< tt
+number-small OutOfMemoryError = lit< tt
+number-small StackOverflowError = lit< tt
+number-small InternalError = lit< tt
 
 pub at-number : (b : BuiltIn) → slice_get built_ins (number_of b) ≡ Some b
 unfolding built_ins

@@ -1,19 +1,18 @@
 -- Classes are found by their names.
-use Rattle.std.proofs.Common.{◌≡◌, ℕ, zero, suc, ◌+◌, ◌-◌, ◌≤◌, ◌<◌, Bool, true, false, ◌&&◌, ◌||◌, not, inl, inr, Option, Some, None, List, [], ◌∷◌, length, take, slice_get, get_or, refl, sym, ap, ◌∙◌, arith}
+use Rattle.std.proofs.Common.{◌≡◌, ℕ, zero, suc, ◌+◌, ◌-◌, ◌≤◌, ◌<◌, true, false, not, inl, inr, Option, Some, None, List, [], ◌∷◌, length, take, slice_get, get_or, refl, sym, ap, ◌∙◌, arith}
 use Rattle.std.proofs.lemmas.Bool.{cases_Bool, or_from, and_parts, not-true, true≢false}
 use Rattle.std.proofs.lemmas.Option.{slice_get-map, slice_get_within, get_or_from_slice_get}
 use Rattle.std.proofs.lemmas.List.{length-map}
 use Rattle.std.proofs.lemmas.Slice.Eq.{bytes_eq-Decides}
-use Rattle.std.specs.List.{list_any, position, position_from}
+use Rattle.std.specs.List.{list_any, position_from}
 use Rattle.std.specs.Option.{option_map, option_or}
-use Rattle.std.specs.Prelude.{◌↔◌, map}
 use Rattle.std.specs.Str.{bytes_eq}
 use Rattle.jasmin_text.specs.declared.class_text.ClassParts.{ClassParts}
 use Rattle.hierarchy.specs.declared.class.Class.{Class}
 use Rattle.hierarchy.specs.declared.class.ClassId.{ClassId}
 use Rattle.hierarchy.specs.declared.built_in.BuiltIn.{BuiltIn}
-use Rattle.hierarchy.specs.BuiltIn.{number_of, name_of, built_ins, built_in_names, place_from, place_of}
-use Rattle.hierarchy.specs.Texts.{place_of_text, has_text}
+use Rattle.hierarchy.specs.BuiltIn.{number_of, name_of, built_ins, built_in_names, place_of}
+use Rattle.hierarchy.specs.Texts.{has_text}
 use Rattle.hierarchy.specs.LinkedProgram.{LinkedProgram, class_at, built_in, id, class_name, class_names, name_at, place_in, class_named}
 use Rattle.hierarchy.specs.Linking.{is_reserved, names_of, kinds_of}
 use Rattle.hierarchy.specs.LinkedTexts.{IsLinked}
@@ -23,7 +22,7 @@ use Rattle.hierarchy.proofs.Searches.{length-get_none}
 use Rattle.hierarchy.proofs.Acyclic.{get-past}
 use Rattle.hierarchy.proofs.InRange.{named_alike}
 use Rattle.hierarchy.proofs.TextLists.{place-named, position-map}
-use Rattle.hierarchy.proofs.Positions.{Some_same, any-at, first_place, Passes, found_passes, none_found, position_by_steps, place_by_steps, are_different}
+use Rattle.hierarchy.proofs.Positions.{Some_same, any-at, first_place, found_passes, none_found, position_by_steps, place_by_steps, are_different}
 
 bytes_same : (xs ys : List ℕ) → bytes_eq xs ys ≡ true → xs ≡ ys
 bytes_same xs ys e = (bytes_eq-Decides xs ys).0 e

@@ -11,14 +11,14 @@ use Rattle.hierarchy.specs.LinkedTexts.{IsLinked}
 use Rattle.hierarchy.proofs.Acyclic.{acyclic_all, not_cyclic}
 use Rattle.hierarchy.proofs.InRange.{in_range_all}
 
-nothing_acyclic : IsAcyclic (linked [])
-nothing_acyclic = acyclic_all (linked []) (in_range_all [] [] refl) (λ n h. absurd (omega (arith, h)))
+nothing_acyclic : IsAcyclic []
+nothing_acyclic = acyclic_all [] (in_range_all [] [] refl) (λ n h. absurd (omega (arith, h)))
 
 nothing_links : LinksTo [] (linked [])
 nothing_links = record {
   names = record { room = omega arith; user_names = refl; distinct = λ i r. let h : i < 0 = r.0 in absurd (omega (arith, h)) };
   supertypes = refl;
-  cycles = λ n. not_cyclic (linked []) nothing_acyclic (id n);
+  cycles = λ n. not_cyclic [] nothing_acyclic (id n);
   members = refl;
   heap = λ i f. let h : i < 0 = f.0 in absurd (omega (arith, h));
 }

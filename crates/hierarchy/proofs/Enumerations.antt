@@ -1,13 +1,13 @@
 -- Enumerations of superinterfaces, where each way up ends.
-use Rattle.std.proofs.Common.{◌≡◌, ℕ, zero, suc, ◌+◌, ◌-◌, inl, inr, Option, Some, None, List, [], ◌∷◌, ◌++◌, length, slice_get, refl, sym, ap, subst}
+use Rattle.std.proofs.Common.{◌≡◌, ℕ, zero, suc, ◌-◌, ◌<◌, ◌≤◌, arith, length-append, inl, inr, Option, Some, None, List, [], ◌∷◌, ◌++◌, length, slice_get, refl, sym, ap, subst}
 use Rattle.std.specs.List.{flat_map}
 use Rattle.hierarchy.specs.declared.class.Class.{Class}
 use Rattle.hierarchy.specs.declared.class.ClassId.{ClassId}
 use Rattle.hierarchy.specs.declared.built_in.BuiltIn.{BuiltIn}
 use Rattle.hierarchy.specs.BuiltIn.{built_ins}
-use Rattle.hierarchy.specs.LinkedProgram.{LinkedProgram, class_at}
+use Rattle.hierarchy.specs.LinkedProgram.{class_among}
 use Rattle.hierarchy.specs.ClassLists.{Among, first, later, add_all}
-use Rattle.hierarchy.specs.Hierarchy.{interfaces_in, interfaces_of, supers, supers_in, IsWithin, height, IsAcyclic}
+use Rattle.hierarchy.specs.Hierarchy.{interfaces_in, interfaces_of, supers, supers_in, IsWithin, most_steps, height, IsAcyclic}
 use Rattle.hierarchy.specs.Superinterfaces.{enumeration_within, enumeration, IsClosed}
 use Rattle.hierarchy.proofs.ClassMembership.{every_at, among_left, among_right, among_cases, add_all-keeps, add_all-has, add_all-cases}
 
@@ -25,55 +25,66 @@ flat_map-from f [] h = elim h [ ]
 flat_map-from f (x ∷ xs) h =
     elim (among_cases (f x) h) [ inl k ↦ (x, first, k) | inr k ↦ let r = flat_map-from f xs k in (r.0, later r.1, r.2) ]
 
+pub flat_map-longer : (f : ClassId → List ClassId) {x : ClassId} {xs : List ClassId} → Among x xs → length (f x) ≤ length (flat_map f xs)
+flat_map-longer f (first {c = x} {cs = xs}) = omega (arith, length-append (f x) (flat_map f xs))
+flat_map-longer f (later {d = y} {cs = xs} h) = let b = flat_map-longer f h in omega (arith, length-append (f y) (flat_map f xs), b)
+
 -- a direct superinterface is a direct supertype
-pub among_supers : (p : LinkedProgram) (i j : ClassId) → Among j (interfaces_of p i) → Among j (supers p i)
-among_supers p i j h = at (class_at p i) (slice_get built_ins (i.number - length p.classes)) h
+pub among_supers : (classes : List Class) (i j : ClassId) → Among j (interfaces_of classes i) → Among j (supers classes i)
+among_supers classes i j h = at (class_among classes i) (slice_get built_ins (i.number - length classes)) h
   where
-    at : (o : Option Class) (b : Option BuiltIn) → Among j (interfaces_in o) → Among j (supers_in p o b)
+    at : (o : Option Class) (b : Option BuiltIn) → Among j (interfaces_in o) → Among j (supers_in classes o b)
     at (Some c) b h = later h
     at None b h = elim h [ ]
 
-pub within_interface : (p : LinkedProgram) (d : ℕ) (i j : ClassId) → IsWithin (suc d) p i → Among j (interfaces_of p i) → IsWithin d p j
-within_interface p d i j h k = every_at (IsWithin d p) h (among_supers p i j k)
+pub within_interface : (classes : List Class) (d : ℕ) (i j : ClassId) → IsWithin (suc d) classes i → Among j (interfaces_of classes i) → IsWithin d classes j
+within_interface classes d i j h k = every_at (IsWithin d classes) h (among_supers classes i j k)
 
 -- enough steps give one list
-pub enumeration_within-same : (p : LinkedProgram) (d e : ℕ) (i : ClassId) → IsWithin d p i → IsWithin e p i → enumeration_within d p i ≡ enumeration_within e p i
-enumeration_within-same p zero e i h k = absurd h
-enumeration_within-same p (suc d) zero i h k = absurd k
-enumeration_within-same p (suc d) (suc e) i h k =
+pub enumeration_within-same : (classes : List Class) (d e : ℕ) (i : ClassId) → IsWithin d classes i → IsWithin e classes i → enumeration_within d classes i ≡ enumeration_within e classes i
+enumeration_within-same classes zero e i h k = absurd h
+enumeration_within-same classes (suc d) zero i h k = absurd k
+enumeration_within-same classes (suc d) (suc e) i h k =
     ap (λ r. r ++ i ∷ [])
-    (flat_map-same (enumeration_within d p) (enumeration_within e p) (interfaces_of p i)
-    (λ j m. enumeration_within-same p d e j (within_interface p d i j h m) (within_interface p e i j k m)))
+    (flat_map-same (enumeration_within d classes) (enumeration_within e classes) (interfaces_of classes i)
+    (λ j m. enumeration_within-same classes d e j (within_interface classes d i j h m) (within_interface classes e i j k m)))
 
 -- the law of the enumeration
-pub enumeration-law : (p : LinkedProgram) (i : ClassId) → IsAcyclic p → enumeration p i ≡ flat_map (enumeration p) (interfaces_of p i) ++ i ∷ []
+pub enumeration-law : (classes : List Class) (i : ClassId) → IsAcyclic classes → enumeration classes i ≡ flat_map (enumeration classes) (interfaces_of classes i) ++ i ∷ []
 unfolding enumeration
-enumeration-law p i h =
+enumeration-law classes i h =
     ap (λ r. r ++ i ∷ [])
-    (flat_map-same (enumeration_within (length p.classes + 65) p) (enumeration_within (height p) p) (interfaces_of p i)
-    (λ j m. enumeration_within-same p (length p.classes + 65) (height p) j (within_interface p (length p.classes + 65) i j (h i) m) (h j)))
+    (flat_map-same (enumeration_within (most_steps classes) classes) (enumeration_within (height classes) classes) (interfaces_of classes i)
+    (λ j m. enumeration_within-same classes (most_steps classes) (height classes) j (within_interface classes (most_steps classes) i j (h i) m) (h j)))
+
+-- a superinterface enumerates fewer
+pub enumeration-falls : (classes : List Class) (i j : ClassId) → IsAcyclic classes → Among j (interfaces_of classes i) → length (enumeration classes j) < length (enumeration classes i)
+enumeration-falls classes i j a m =
+    let l = ap length (enumeration-law classes i a) in
+    let b = flat_map-longer (enumeration classes) m in
+    omega (arith, l, length-append (flat_map (enumeration classes) (interfaces_of classes i)) (i ∷ []), b)
 
 -- what an interface of an enumeration enumerates stands in it
-pub enumeration_within-whole : (p : LinkedProgram) → IsAcyclic p → (d : ℕ) (i : ClassId) → IsWithin d p i → (j : ClassId) → Among j (enumeration p i) → (k : ClassId) → Among k (enumeration p j) → Among k (enumeration p i)
-enumeration_within-whole p a zero i w j h k m = absurd w
-enumeration_within-whole p a (suc d) i w j h k m =
-    let h2 : Among j (flat_map (enumeration p) (interfaces_of p i) ++ i ∷ []) = subst (λ r. Among j r) (enumeration-law p i a) h in
-    elim (among_cases (flat_map (enumeration p) (interfaces_of p i)) h2) [
+pub enumeration_within-whole : (classes : List Class) → IsAcyclic classes → (d : ℕ) (i : ClassId) → IsWithin d classes i → (j : ClassId) → Among j (enumeration classes i) → (k : ClassId) → Among k (enumeration classes j) → Among k (enumeration classes i)
+enumeration_within-whole classes a zero i w j h k m = absurd w
+enumeration_within-whole classes a (suc d) i w j h k m =
+    let h2 : Among j (flat_map (enumeration classes) (interfaces_of classes i) ++ i ∷ []) = subst (λ r. Among j r) (enumeration-law classes i a) h in
+    elim (among_cases (flat_map (enumeration classes) (interfaces_of classes i)) h2) [
       | inl s ↦
-          let f = flat_map-from (enumeration p) (interfaces_of p i) s in
-          subst (λ r. Among k r) (sym (enumeration-law p i a))
-          (among_left (i ∷ []) (flat_map-has (enumeration p) f.1 (enumeration_within-whole p a d f.0 (within_interface p d i f.0 w f.1) j f.2 k m)))
+          let f = flat_map-from (enumeration classes) (interfaces_of classes i) s in
+          subst (λ r. Among k r) (sym (enumeration-law classes i a))
+          (among_left (i ∷ []) (flat_map-has (enumeration classes) f.1 (enumeration_within-whole classes a d f.0 (within_interface classes d i f.0 w f.1) j f.2 k m)))
       | inr s ↦ only s m
     ]
   where
-    only : {z : ClassId} → Among z (i ∷ []) → Among k (enumeration p z) → Among k (enumeration p i)
+    only : {z : ClassId} → Among z (i ∷ []) → Among k (enumeration classes z) → Among k (enumeration classes i)
     only first q = q
     only (later q) r = elim q [ ]
 
 -- a closed list stays closed with a whole enumeration added
-pub closed-add_all : (p : LinkedProgram) → IsAcyclic p → (xs : List ClassId) (i : ClassId) → IsClosed p xs → IsClosed p (add_all xs (enumeration p i))
-closed-add_all p a xs i c j h k m =
-    elim (add_all-cases xs (enumeration p i) h) [
-      | inl s ↦ add_all-keeps xs (enumeration p i) (c j s k m)
-      | inr s ↦ add_all-has xs (enumeration_within-whole p a (height p) i (a i) j s k m)
+pub closed-add_all : (classes : List Class) → IsAcyclic classes → (xs : List ClassId) (i : ClassId) → IsClosed classes xs → IsClosed classes (add_all xs (enumeration classes i))
+closed-add_all classes a xs i c j h k m =
+    elim (add_all-cases xs (enumeration classes i) h) [
+      | inl s ↦ add_all-keeps xs (enumeration classes i) (c j s k m)
+      | inr s ↦ add_all-has xs (enumeration_within-whole classes a (height classes) i (a i) j s k m)
     ]

@@ -10,6 +10,7 @@ pub mod Enumerations
 pub mod FieldOrders
 pub mod FirstGiven
 pub mod InRange
+pub mod KeySets
 pub mod Linked
 pub mod MemberPlaces
 pub mod Named

@@ -1,5 +1,5 @@
 -- The cells of an object, superclass by superclass.
-use Rattle.std.proofs.Common.{◌≡◌, ℕ, zero, suc, ◌+◌, ◌-◌, ◌<◌, ◌≤◌, ◌&&◌, Bool, true, false, cond, not, inl, inr, Option, Some, None, List, [], ◌∷◌, ◌++◌, length, take, slice_get, refl, sym, ap, ◌∙◌, subst, arith, append-nil, length-append}
+use Rattle.std.proofs.Common.{◌≡◌, ℕ, zero, suc, ◌+◌, ◌-◌, ◌<◌, ◌≤◌, ◌&&◌, true, not, inl, inr, Option, Some, None, List, [], ◌∷◌, ◌++◌, length, take, slice_get, refl, sym, ap, ◌∙◌, subst, arith, append-nil, length-append}
 use Rattle.std.proofs.lemmas.Bool.{cases_Bool, and_parts, leb-true}
 use Rattle.std.proofs.lemmas.List.Elements.{All-get_or}
 use Rattle.std.proofs.lemmas.Option.{slice_get_within, get_or_from_slice_get}
@@ -13,7 +13,6 @@ use Rattle.jasmin_text.specs.declared.class_text.Field.{Field}
 use Rattle.jasmin_text.specs.Spellable.{is_class_word, is_taken, is_field, is_method, is_spellable, IsSpellable}
 use Rattle.hierarchy.specs.declared.class.Class.{Class}
 use Rattle.hierarchy.specs.declared.class.ClassId.{ClassId}
-use Rattle.hierarchy.specs.declared.fields.FieldId.{FieldId}
 use Rattle.hierarchy.specs.declared.fields.FieldId.TheVariants.{Declared}
 use Rattle.hierarchy.specs.Ancestry.{superclass_of, superclass_alone, superclasses}
 use Rattle.hierarchy.specs.Hierarchy.{IsAcyclic}
@@ -23,22 +22,22 @@ use Rattle.hierarchy.specs.LinkedTexts.{IsLinked}
 use Rattle.hierarchy.specs.SpellableClass.{IsSpellableClass}
 use Rattle.hierarchy.specs.OwnNames.{fields_of, fields_in}
 use Rattle.hierarchy.proofs.ProvedByLinking.{linked_spellable}
-use Rattle.hierarchy.proofs.Superclasses.{superclasses-some, superclasses-none}
+use Rattle.hierarchy.proofs.Superclasses.{superclasses-at}
 use Rattle.hierarchy.proofs.Positions.{Some_same}
 
--- behind the cells of the superclass there are the class's own
-pub cells_some : (p : LinkedProgram) → IsAcyclic p → (c s : ClassId) → superclass_of p c ≡ Some s → object_fields p c ≡ object_fields p s ++ own_instance_fields p c
+-- after the cells of the superclass there are the class's own
+pub cells_some : (p : LinkedProgram) → IsAcyclic p.classes → (c s : ClassId) → superclass_of p.classes c ≡ Some s → object_fields p c ≡ object_fields p s ++ own_instance_fields p c
 cells_some p a c s e =
-    ap (λ cs. flat_map (own_instance_fields p) (reverse cs)) (superclasses-some p a c s e) ∙ ap (flat_map (own_instance_fields p)) (reverse-append (c ∷ []) (superclasses p s)) ∙
-    flat_map-append (own_instance_fields p) (reverse (superclasses p s)) (c ∷ []) ∙ ap (λ fs. object_fields p s ++ fs) (append-nil (own_instance_fields p c))
+    ap (λ cs. flat_map (own_instance_fields p) (reverse cs)) (superclasses-at p.classes a c (Some s) e) ∙ ap (flat_map (own_instance_fields p)) (reverse-append (c ∷ []) (superclasses p.classes s)) ∙
+    flat_map-append (own_instance_fields p) (reverse (superclasses p.classes s)) (c ∷ []) ∙ ap (λ fs. object_fields p s ++ fs) (append-nil (own_instance_fields p c))
 
-pub cells_none : (p : LinkedProgram) → IsAcyclic p → (c : ClassId) → superclass_of p c ≡ None → object_fields p c ≡ own_instance_fields p c
-cells_none p a c e = ap (λ cs. flat_map (own_instance_fields p) (reverse cs)) (superclasses-none p a c e) ∙ append-nil (own_instance_fields p c)
+pub cells_none : (p : LinkedProgram) → IsAcyclic p.classes → (c : ClassId) → superclass_of p.classes c ≡ None → object_fields p c ≡ own_instance_fields p c
+cells_none p a c e = ap (λ cs. flat_map (own_instance_fields p) (reverse cs)) (superclasses-at p.classes a c None e) ∙ append-nil (own_instance_fields p c)
 
-pub cells_above_first : (p : LinkedProgram) → IsAcyclic p → (c : ClassId) → object_fields p c ≡ flat_map (object_fields p) (superclass_alone p c) ++ own_instance_fields p c
-cells_above_first p a c = at (superclass_of p c) refl
+pub cells_above_first : (p : LinkedProgram) → IsAcyclic p.classes → (c : ClassId) → object_fields p c ≡ flat_map (object_fields p) (superclass_alone p.classes c) ++ own_instance_fields p c
+cells_above_first p a c = at (superclass_of p.classes c) refl
   where
-    at : (o : Option ClassId) → superclass_of p c ≡ o → object_fields p c ≡ flat_map (object_fields p) (option_to_list (superclass_of p c)) ++ own_instance_fields p c
+    at : (o : Option ClassId) → superclass_of p.classes c ≡ o → object_fields p c ≡ flat_map (object_fields p) (option_to_list (superclass_of p.classes c)) ++ own_instance_fields p c
     at None e = cells_none p a c e ∙ sym (ap (λ o. flat_map (object_fields p) (option_to_list o) ++ own_instance_fields p c) e)
     at (Some s) e =
         cells_some p a c s e ∙ ap (λ fs. fs ++ own_instance_fields p c) (sym (append-nil (object_fields p s))) ∙
@@ -71,16 +70,12 @@ few_own p h c class e =
     let s : IsSpellableClass class = subst IsSpellableClass (get_or_from_slice_get p.classes c.number class class e) (All-get_or IsSpellableClass p.classes c.number class k (linked_spellable p h)) in
     subst (λ (z : Class). length z.fields ≤ 1024) s.same (few_fields s.text s.spellable)
 
-pub cells_more : (p : LinkedProgram) → IsAcyclic p → (c s : ClassId) (cells more all : ℕ) → superclass_of p c ≡ Some s → more ≡ length (own_instance_fields p c) → cells + length (object_fields p c) ≡ all →
-    cells + more + length (object_fields p s) ≡ all
-cells_more p a c s cells more all e m h =
-    let l : length (object_fields p c) ≡ length (object_fields p s) + length (own_instance_fields p c) = ap length (cells_some p a c s e) ∙ length-append (object_fields p s) (own_instance_fields p c) in
-    omega (arith, l, m, h)
-
-pub cells_last : (p : LinkedProgram) → IsAcyclic p → (c : ClassId) (cells more all : ℕ) → superclass_of p c ≡ None → more ≡ length (own_instance_fields p c) → cells + length (object_fields p c) ≡ all → cells + more ≡ all
-cells_last p a c cells more all e m h =
-    let l : length (object_fields p c) ≡ length (own_instance_fields p c) = ap length (cells_none p a c e) in
-    omega (arith, l, m, h)
+-- the cells of one class more
+pub cells_more : (p : LinkedProgram) (c : ClassId) (cs : List ClassId) → length (flat_map (own_instance_fields p) (reverse (c ∷ cs))) ≡ length (own_instance_fields p c) + length (flat_map (own_instance_fields p) (reverse cs))
+cells_more p c cs =
+    let l = length-append (flat_map (own_instance_fields p) (reverse cs)) (own_instance_fields p c) in
+    ap (λ z. length (flat_map (own_instance_fields p) z)) (reverse-append (c ∷ []) cs) ∙ ap length (flat_map-append (own_instance_fields p) (reverse cs) (c ∷ [])) ∙
+    ap (λ z. length (flat_map (own_instance_fields p) (reverse cs) ++ z)) (append-nil (own_instance_fields p c)) ∙ omega (arith, l)
 
 behind : {X : Type 0} (xs ys : List X) (i k : ℕ) → i ≡ length xs + k → slice_get (xs ++ ys) i ≡ slice_get ys k
 behind [] ys i k e = let same : i ≡ k = omega (arith, e) in ap (slice_get ys) same
@@ -101,14 +96,14 @@ instance_there c k (g ∷ fs) (suc place) f e t =
     elim (cases_Bool (is_instance_field g)) [ inl own ↦ rw own r | inr own ↦ rw own r ]
 
 -- a field's cell holds it
-cell_holds : (p : LinkedProgram) → IsAcyclic p → (c : ClassId) (place : ℕ) (f : Field) (cell : ℕ) → slice_get (fields_of p c) place ≡ Some f → is_instance_field f ≡ true →
-    cell ≡ cells_in p (superclass_of p c) + length (filter is_instance_field (take place (fields_of p c))) → slice_get (object_fields p c) cell ≡ Some (Declared c place)
-cell_holds p a c place f cell e t q = ap (slice_get (object_fields p c)) q ∙ at (superclass_of p c) refl
+cell_holds : (p : LinkedProgram) → IsAcyclic p.classes → (c : ClassId) (place : ℕ) (f : Field) (cell : ℕ) → slice_get (fields_of p c) place ≡ Some f → is_instance_field f ≡ true →
+    cell ≡ cells_in p (superclass_of p.classes c) + length (filter is_instance_field (take place (fields_of p c))) → slice_get (object_fields p c) cell ≡ Some (Declared c place)
+cell_holds p a c place f cell e t q = ap (slice_get (object_fields p c)) q ∙ at (superclass_of p.classes c) refl
   where
     own : slice_get (own_instance_fields p c) (length (filter is_instance_field (take place (fields_of p c)))) ≡ Some (Declared c place)
     own = let z : 0 + place ≡ place = omega arith in instance_there c 0 (fields_of p c) place f e t ∙ ap (λ n. Some (Declared c n)) z
 
-    at : (o : Option ClassId) → superclass_of p c ≡ o → slice_get (object_fields p c) (cells_in p o + length (filter is_instance_field (take place (fields_of p c)))) ≡ Some (Declared c place)
+    at : (o : Option ClassId) → superclass_of p.classes c ≡ o → slice_get (object_fields p c) (cells_in p o + length (filter is_instance_field (take place (fields_of p c)))) ≡ Some (Declared c place)
     at None s =
         let z : 0 + length (filter is_instance_field (take place (fields_of p c))) ≡ length (filter is_instance_field (take place (fields_of p c))) = omega arith in
         ap (slice_get (object_fields p c)) z ∙ ap (λ fs. slice_get fs (length (filter is_instance_field (take place (fields_of p c))))) (cells_none p a c s) ∙ own
@@ -116,9 +111,9 @@ cell_holds p a c place f cell e t q = ap (slice_get (object_fields p c)) q ∙ a
         ap (λ fs. slice_get fs (length (object_fields p d) + length (filter is_instance_field (take place (fields_of p c))))) (cells_some p a c d s) ∙
         behind (object_fields p d) (own_instance_fields p c) (length (object_fields p d) + length (filter is_instance_field (take place (fields_of p c)))) (length (filter is_instance_field (take place (fields_of p c)))) refl ∙ own
 
-pub cell_found : (p : LinkedProgram) → IsAcyclic p → (c : ClassId) (place : ℕ) (r : Option ℕ) → r ≡ field_cell p c place → IfSome r (λ cell. slice_get (object_fields p c) cell ≡ Some (Declared c place))
+pub cell_found : (p : LinkedProgram) → IsAcyclic p.classes → (c : ClassId) (place : ℕ) (r : Option ℕ) → r ≡ field_cell p c place → IfSome r (λ cell. slice_get (object_fields p c) cell ≡ Some (Declared c place))
 cell_found p a c place r e = subst (λ o. IfSome o (λ cell. slice_get (object_fields p c) cell ≡ Some (Declared c place))) (sym e) (at (slice_get (fields_of p c) place) refl)
   where
     at : (o : Option Field) → slice_get (fields_of p c) place ≡ o → IfSome (field_cell_in p c place o) (λ cell. slice_get (object_fields p c) cell ≡ Some (Declared c place))
     at None g = tt
-    at (Some f) g = elim (cases_Bool (is_instance_field f)) [ inl t ↦ rw t (cell_holds p a c place f (cells_in p (superclass_of p c) + length (filter is_instance_field (take place (fields_of p c)))) g t refl) | inr t ↦ rw t tt ]
+    at (Some f) g = elim (cases_Bool (is_instance_field f)) [ inl t ↦ rw t (cell_holds p a c place f (cells_in p (superclass_of p.classes c) + length (filter is_instance_field (take place (fields_of p c)))) g t refl) | inr t ↦ rw t tt ]

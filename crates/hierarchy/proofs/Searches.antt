@@ -4,13 +4,14 @@ use Rattle.std.proofs.lemmas.Bool.{cases_Bool}
 use Rattle.std.proofs.lemmas.List.{take_more, take_all, take-append-le}
 use Rattle.std.specs.List.{list_any, IsDistinct}
 use Rattle.hierarchy.specs.declared.class.ClassId.{ClassId}
-use Rattle.hierarchy.specs.LinkedProgram.{LinkedProgram}
+use Rattle.hierarchy.specs.declared.class.Class.{Class}
+use Rattle.hierarchy.specs.declared.built_in.TheConstants.{BUILT_IN_COUNT}
 use Rattle.hierarchy.specs.ClassLists.{Among, first, later, add_all, same_class}
 use Rattle.hierarchy.specs.Hierarchy.{supers, Reaches, direct, further, IsInRange, AreSupertypes}
 use Rattle.hierarchy.proofs.ClassMembership.{among_cases, add_all-keeps, add_all-has, add_all-cases}
 use Rattle.hierarchy.proofs.Counts.{length-in_range}
 
-pub reaches_on : {p : LinkedProgram} {i j k : ClassId} → Reaches p i j → Reaches p j k → Reaches p i k
+pub reaches_on : {classes : List Class} {i j k : ClassId} → Reaches classes i j → Reaches classes j k → Reaches classes i k
 reaches_on (direct h) r = further h r
 reaches_on (further h q) r = further h (reaches_on q r)
 
@@ -24,21 +25,21 @@ add_all-extends xs (y ∷ ys) =
     ]
 
 -- the supertypes of the first of them are there too
-abbrev pub HasSupersOf : LinkedProgram → List ClassId → List ClassId → Type 0
-HasSupersOf p found done = (i : ClassId) → Among i done → (j : ClassId) → Among j (supers p i) → Among j found
+abbrev pub HasSupersOf : List Class → List ClassId → List ClassId → Type 0
+HasSupersOf classes found done = (i : ClassId) → Among i done → (j : ClassId) → Among j (supers classes i) → Among j found
 
-pub record Searches (p : LinkedProgram) (c : ClassId) (found : List ClassId) (k : ℕ) : Type 0 where
-  pub starts : (j : ClassId) → Among j (supers p c) → Among j found
-  pub sound : (j : ClassId) → Among j found → Reaches p c j
-  pub done : HasSupersOf p found (take k found)
+pub record Searches (classes : List Class) (c : ClassId) (found : List ClassId) (k : ℕ) : Type 0 where
+  pub starts : (j : ClassId) → Among j (supers classes c) → Among j found
+  pub sound : (j : ClassId) → Among j found → Reaches classes c j
+  pub done : HasSupersOf classes found (take k found)
   pub reached : k ≤ length found
 
-pub searches_none : (p : LinkedProgram) (c : ClassId) (start found : List ClassId) → start ≡ [] → found ≡ add_all start (supers p c) → Searches p c found 0
-searches_none p c start found s e =
-    let e2 : found ≡ add_all [] (supers p c) = rw s at e in
+pub searches_none : (classes : List Class) (c : ClassId) (start found : List ClassId) → start ≡ [] → found ≡ add_all start (supers classes c) → Searches classes c found 0
+searches_none classes c start found s e =
+    let e2 : found ≡ add_all [] (supers classes c) = rw s at e in
     record {
       starts = λ j h. rw e2 (add_all-has [] h);
-      sound = λ j h. elim (add_all-cases [] (supers p c) (rw e2 at h)) [ inl k ↦ elim k [ ] | inr k ↦ direct k ];
+      sound = λ j h. elim (add_all-cases [] (supers classes c) (rw e2 at h)) [ inl k ↦ elim k [ ] | inr k ↦ direct k ];
       done = λ i h. elim h [ ];
       reached = omega arith;
     }
@@ -60,47 +61,47 @@ among_one : {x y : ClassId} → Among y (x ∷ []) → y ≡ x
 among_one first = refl
 among_one (later k) = elim k [ ]
 
-pub searches_more : (p : LinkedProgram) (c : ClassId) (found next : List ClassId) (k : ℕ) (x : ClassId) → Searches p c found k → Some x ≡ slice_get found k → next ≡ add_all found (supers p x) → Searches p c next (k + 1)
-searches_more p c found next k x s e n =
-    let r = add_all-extends found (supers p x) in
+pub searches_more : (classes : List Class) (c : ClassId) (found next : List ClassId) (k : ℕ) (x : ClassId) → Searches classes c found k → Some x ≡ slice_get found k → next ≡ add_all found (supers classes x) → Searches classes c next (k + 1)
+searches_more classes c found next k x s e n =
+    let r = add_all-extends found (supers classes x) in
     let g = get_from found k x e in
     let longer : next ≡ found ++ r.0 = n ∙ r.1 in
     let front : take (k + 1) next ≡ take k found ++ x ∷ [] =
     ap (take (k + 1)) longer ∙ take-append-le (k + 1) found r.0 (omega (arith, g.0)) ∙ take_get found k x e in
     record {
-      starts = λ j h. rw n (add_all-keeps found (supers p x) (s.starts j h));
-      sound = λ j h. elim (add_all-cases found (supers p x) (rw n at h)) [ inl q ↦ s.sound j q | inr q ↦ reaches_on (s.sound x (among_get found k x e)) (direct q) ];
+      starts = λ j h. rw n (add_all-keeps found (supers classes x) (s.starts j h));
+      sound = λ j h. elim (add_all-cases found (supers classes x) (rw n at h)) [ inl q ↦ s.sound j q | inr q ↦ reaches_on (s.sound x (among_get found k x e)) (direct q) ];
       done = λ i h j m.
           rw n
           (elim (among_cases (take k found) (rw front at h)) [
-            | inl q ↦ add_all-keeps found (supers p x) (s.done i q j m)
-            | inr q ↦ add_all-has found (subst (λ z. Among j (supers p z)) (among_one q) m)
+            | inl q ↦ add_all-keeps found (supers classes x) (s.done i q j m)
+            | inr q ↦ add_all-has found (subst (λ z. Among j (supers classes z)) (among_one q) m)
           ]);
       reached = omega (arith, g.0, ap length longer, length-append found r.0);
     }
 
 -- a search that has come to its end
-pub searches_all : (p : LinkedProgram) (c : ClassId) (found : List ClassId) (k : ℕ) → Searches p c found k → length found ≤ k → IsDistinct same_class found → AreSupertypes p c found
-searches_all p c found k s h u =
-    let d : HasSupersOf p found found = rw (take_all k found h) at s.done in
+pub searches_all : (classes : List Class) (c : ClassId) (found : List ClassId) (k : ℕ) → Searches classes c found k → length found ≤ k → IsDistinct same_class found → AreSupertypes classes c found
+searches_all classes c found k s h u =
+    let d : HasSupersOf classes found found = rw (take_all k found h) at s.done in
     record {
       sound = s.sound;
       complete = λ j r. all d s.starts r;
       once = u;
     }
   where
-    all : HasSupersOf p found found → {i j : ClassId} → ((k : ClassId) → Among k (supers p i) → Among k found) → Reaches p i j → Among j found
+    all : HasSupersOf classes found found → {i j : ClassId} → ((k : ClassId) → Among k (supers classes i) → Among k found) → Reaches classes i j → Among j found
     all d b (direct a) = b _ a
     all d b (further a r) = all d (d _ (b _ a)) r
 
-pub in_range : (p : LinkedProgram) → IsInRange p → {i j : ClassId} → Reaches p i j → j.number < length p.classes + 32
-in_range p r (direct {c = i} {d = j} h) = r i j h
-in_range p r (further h q) = in_range p r q
+pub in_range : (classes : List Class) → IsInRange classes → {i j : ClassId} → Reaches classes i j → j.number < length classes + BUILT_IN_COUNT
+in_range classes r (direct {c = i} {d = j} h) = r i j h
+in_range classes r (further h q) = in_range classes r q
 
 -- there are no more supertypes than classes
-pub searched_through : (p : LinkedProgram) (c : ClassId) (found : List ClassId) (k : ℕ) → IsInRange p → Searches p c found k → length p.classes + 32 ≤ k → IsDistinct same_class found → length found ≤ k
-searched_through p c found k r s h u =
-    let b : length found ≤ length p.classes + 32 = length-in_range found (length p.classes + 32) u (λ q e. in_range p r (s.sound q e)) in
+pub searched_through : (classes : List Class) (c : ClassId) (found : List ClassId) (k : ℕ) → IsInRange classes → Searches classes c found k → length classes + BUILT_IN_COUNT ≤ k → IsDistinct same_class found → length found ≤ k
+searched_through classes c found k r s h u =
+    let b : length found ≤ length classes + BUILT_IN_COUNT = length-in_range found (length classes + BUILT_IN_COUNT) u (λ q e. in_range classes r (s.sound q e)) in
     omega (arith, b, h)
 
 pub length-get_none : {X : Type 0} (xs : List X) (k : ℕ) → None ≡ slice_get xs k → length xs ≤ k

@@ -1,5 +1,5 @@
 -- Each quoted text has one reference.
-use Rattle.std.proofs.Common.{◌≡◌, ℕ, zero, suc, ◌+◌, ◌-◌, ◌<◌, ◌≤◌, Bool, true, false, cond, inl, inr, Option, Some, None, List, [], ◌∷◌, ◌++◌, length, take, fold, slice_get, refl, sym, ap, ◌∙◌, subst, arith}
+use Rattle.std.proofs.Common.{◌≡◌, ℕ, zero, suc, ◌+◌, ◌-◌, ◌<◌, ◌≤◌, false, cond, inl, inr, Option, Some, None, List, [], ◌∷◌, ◌++◌, length, take, fold, slice_get, refl, sym, ap, ◌∙◌, arith}
 use Rattle.std.proofs.lemmas.Bool.{cases_Bool, le-ltb, ltb-false}
 use Rattle.std.proofs.lemmas.List.{take_all, take-append-le}
 use Rattle.std.proofs.lemmas.Option.{slice_get_within, slice_get-map}
@@ -13,7 +13,7 @@ use Rattle.hierarchy.specs.declared.ready.ReadyObject.{ReadyObject}
 use Rattle.hierarchy.specs.declared.ready.ReadyObject.TheVariants as ready
 use Rattle.hierarchy.specs.Objects.{ready_objects, objects_at_start, text_at}
 use Rattle.hierarchy.specs.Quoted.{quoted_in, quoted_texts, text_reference}
-use Rattle.hierarchy.specs.Texts.{has_text, note_text, place_of_text, distinct_texts}
+use Rattle.hierarchy.specs.Texts.{has_text, note_text, place_of_text}
 use Rattle.hierarchy.proofs.Acyclic.{get-pushed}
 use Rattle.hierarchy.proofs.Positions.{Some_same, first_place, found_passes, position_by_steps}
 

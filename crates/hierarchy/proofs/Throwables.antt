@@ -1,5 +1,5 @@
 -- The subtypes of a throwable are its subclasses: superinterfaces lead up to no class but java/lang/Object.
-use Rattle.std.proofs.Common.{◌≡◌, ℕ, zero, suc, ◌+◌, ◌-◌, ◌<◌, ◌≤◌, Bool, true, false, cond, eqb, ◌&&◌, ◌⊎◌, inl, inr, Option, Some, None, Result, Ok, Err, List, [], ◌∷◌, length, slice_get, refl, sym, ap, ◌∙◌, subst, arith}
+use Rattle.std.proofs.Common.{◌≡◌, ℕ, zero, suc, ◌+◌, ◌-◌, ◌<◌, ◌≤◌, Bool, true, ◌&&◌, ◌⊎◌, inl, inr, Option, Some, None, Ok, List, [], ◌∷◌, length, slice_get, refl, sym, ap, ◌∙◌, subst, arith}
 use Rattle.std.proofs.lemmas.Bool.{cases_Bool, and_parts, eqb-true}
 use Rattle.std.proofs.lemmas.List.{length-map}
 use Rattle.std.proofs.lemmas.Option.{slice_get-map}
@@ -12,19 +12,17 @@ use Rattle.hierarchy.specs.declared.class.Class.{Class}
 use Rattle.hierarchy.specs.declared.class.ClassId.{ClassId}
 use Rattle.hierarchy.specs.declared.built_in.BuiltIn.{BuiltIn}
 use Rattle.hierarchy.specs.declared.built_in.BuiltIn.TheVariants.{Object}
-use Rattle.hierarchy.specs.declared.fault.LinkFaultKind.{LinkFaultKind}
-use Rattle.hierarchy.specs.declared.fault.LinkFaultKind.TheVariants.{UnknownSupertype, SuperclassKind}
 use Rattle.hierarchy.specs.declared.supertype_names.Known.{Known}
 use Rattle.hierarchy.specs.declared.supertype_names.Known.TheVariants as known_as
 use Rattle.hierarchy.specs.BuiltIn.{number_of, superclass_of_built_in, built_ins, built_in_named, may_be_superclass}
 use Rattle.hierarchy.specs.Texts.{place_of_text}
-use Rattle.hierarchy.specs.LinkedProgram.{LinkedProgram, class_at, built_in, id}
+use Rattle.hierarchy.specs.LinkedProgram.{class_among, built_in_after, id}
 use Rattle.hierarchy.specs.ClassLists.{Among, first, later}
-use Rattle.hierarchy.specs.Hierarchy.{supers, supers_in, supers_of_built_in, built_in_list, Reaches, direct, further, IsSubtype}
+use Rattle.hierarchy.specs.Hierarchy.{supers, supers_in, built_in_list, Reaches, direct, further, IsSubtype}
 use Rattle.hierarchy.specs.Subclasses.{Extends, in_file, is_built_in, IsSubclass, itself, below}
-use Rattle.hierarchy.specs.Supertypes.{known, known_at, known_file, known_built_in, superclass_id, built_in_superclass, interface_id, interface_ids, joined}
-use Rattle.hierarchy.specs.Linking.{names_of, kinds_of, class_from, class_of, classes_from}
-use Rattle.hierarchy.specs.LinkedTexts.{IsLinked}
+use Rattle.hierarchy.specs.Supertypes.{known, known_at, known_file, known_built_in, superclass_id, interface_id, interface_ids}
+use Rattle.hierarchy.specs.Linking.{names_of, kinds_of, class_from, classes_from}
+use Rattle.hierarchy.specs.LinkedTexts.{IsResolved}
 use Rattle.hierarchy.proofs.InRange.{as_many, joined_ok, class_ok}
 use Rattle.hierarchy.proofs.Searches.{length-get_none}
 use Rattle.hierarchy.proofs.Acyclic.{get-past, supers-built_in}
@@ -105,9 +103,9 @@ interface_superclass n (known_as.BuiltIn b) s e =
     ]
 
 -- a class of the files that is an interface
-record IsInterface (p : LinkedProgram) (c : ClassId) : Type 0 where
+record IsInterface (classes : List Class) (c : ClassId) : Type 0 where
   class : Class
-  there : class_at p c ≡ Some class
+  there : class_among classes c ≡ Some class
   is : class.kind ≡ kind.Interface
 
 abbrev are_numbered : ℕ → List BuiltIn → Bool
@@ -132,45 +130,45 @@ only_one : {d c : ClassId} → Among d (c ∷ []) → d ≡ c
 only_one first = refl
 only_one (later k) = elim k [ ]
 
-module _ (p : LinkedProgram) (h : IsLinked p) where
-  made : (c : ClassId) (class : Class) → class_at p c ≡ Some class → Made (names_of h.texts) (kinds_of h.texts) class
-  made c class e = made_at (names_of h.texts) (kinds_of h.texts) h.texts p.classes h.links.supertypes c.number class e
+module _ (classes : List Class) (h : IsResolved classes) where
+  made : (c : ClassId) (class : Class) → class_among classes c ≡ Some class → Made (names_of h.texts) (kinds_of h.texts) class
+  made c class e = made_at (names_of h.texts) (kinds_of h.texts) h.texts classes h.supertypes c.number class e
 
-  is_interface : (d : ClassId) → slice_get (kinds_of h.texts) d.number ≡ Some kind.Interface → IsInterface p d
+  is_interface : (d : ClassId) → slice_get (kinds_of h.texts) d.number ≡ Some kind.Interface → IsInterface classes d
   is_interface d e =
-      at (class_at p d) refl (sym (slice_get-map (λ (c : Class). c.kind) p.classes d.number) ∙ ap (λ ks. slice_get ks d.number) (kinds_alike (names_of h.texts) (kinds_of h.texts) h.texts p.classes h.links.supertypes) ∙ e)
+      at (class_among classes d) refl (sym (slice_get-map (λ (c : Class). c.kind) classes d.number) ∙ ap (λ ks. slice_get ks d.number) (kinds_alike (names_of h.texts) (kinds_of h.texts) h.texts classes h.supertypes) ∙ e)
     where
-      at : (o : Option Class) → class_at p d ≡ o → option_map (λ (c : Class). c.kind) o ≡ Some kind.Interface → IsInterface p d
+      at : (o : Option Class) → class_among classes d ≡ o → option_map (λ (c : Class). c.kind) o ≡ Some kind.Interface → IsInterface classes d
       at None g q = absurd cc
       at (Some class) g q = record { class = class; there = g; is = Some_same q }
 
   -- a direct supertype is the superclass or an interface
-  step : (c d : ClassId) → Among d (supers p c) → Extends p c d ⊎ IsInterface p d
-  step c d m = at (class_at p c) (slice_get built_ins (c.number - length p.classes)) refl refl m
+  step : (c d : ClassId) → Among d (supers classes c) → Extends classes c d ⊎ IsInterface classes d
+  step c d m = at (class_among classes c) (slice_get built_ins (c.number - length classes)) refl refl m
     where
-      listed_in : (s : ClassId) (is : List ClassId) → Among d (s ∷ is) → Extends p c s → (Among d is → IsInterface p d) → Extends p c d ⊎ IsInterface p d
+      listed_in : (s : ClassId) (is : List ClassId) → Among d (s ∷ is) → Extends classes c s → (Among d is → IsInterface classes d) → Extends classes c d ⊎ IsInterface classes d
       listed_in s is first x f = inl x
       listed_in s is (later k) x f = inr (f k)
 
-      file : (class : Class) → class_at p c ≡ Some class → Among d (class.superclass ∷ class.interfaces) → Extends p c d ⊎ IsInterface p d
+      file : (class : Class) → class_among classes c ≡ Some class → Among d (class.superclass ∷ class.interfaces) → Extends classes c d ⊎ IsInterface classes d
       file class g k = let t = made c class g in
           listed_in class.superclass class.interfaces k (in_file g) (λ j. is_interface d (interfaces_known (names_of h.texts) (kinds_of h.texts) t.text.interfaces class.interfaces d t.interfaces j))
 
-      listed : (b : BuiltIn) (o : Option BuiltIn) → superclass_of_built_in b ≡ o → c ≡ built_in p b → Among d (built_in_list p o) → Extends p c d ⊎ IsInterface p d
+      listed : (b : BuiltIn) (o : Option BuiltIn) → superclass_of_built_in b ≡ o → c ≡ built_in_after classes b → Among d (built_in_list classes o) → Extends classes c d ⊎ IsInterface classes d
       listed b None g q k = elim k [ ]
-      listed b (Some s) g q k = inl (subst (λ z. Extends p z d) (sym q) (subst (Extends p (built_in p b)) (sym (only_one k)) (is_built_in b s g)))
+      listed b (Some s) g q k = inl (subst (λ z. Extends classes z d) (sym q) (subst (Extends classes (built_in_after classes b)) (sym (only_one k)) (is_built_in b s g)))
 
-      at : (o : Option Class) (b : Option BuiltIn) → class_at p c ≡ o → slice_get built_ins (c.number - length p.classes) ≡ b → Among d (supers_in p o b) → Extends p c d ⊎ IsInterface p d
+      at : (o : Option Class) (b : Option BuiltIn) → class_among classes c ≡ o → slice_get built_ins (c.number - length classes) ≡ b → Among d (supers_in classes o b) → Extends classes c d ⊎ IsInterface classes d
       at (Some class) b g q k = file class g k
       at None None g q k = elim k [ ]
       at None (Some b) g q k =
-          let past : length p.classes ≤ c.number = length-get_none p.classes c.number (sym g) in
-          let number : number_of b ≡ 0 + (c.number - length p.classes) = numbered_at 0 built_ins (c.number - length p.classes) b built_ins_numbered q in
-          let same : c.number ≡ length p.classes + number_of b = omega (arith, past, number) in
+          let past : length classes ≤ c.number = length-get_none classes c.number (sym g) in
+          let number : number_of b ≡ 0 + (c.number - length classes) = numbered_at 0 built_ins (c.number - length classes) b built_ins_numbered q in
+          let same : c.number ≡ length classes + number_of b = omega (arith, past, number) in
           listed b (superclass_of_built_in b) refl (λ i. record { number = same i }) k
 
-  interface_step : (c d : ClassId) → IsInterface p c → Among d (supers p c) → IsInterface p d ⊎ (d ≡ built_in p Object)
-  interface_step c d i m = at i.class.superclass i.class.interfaces (subst (λ o. Among d (supers_in p o (slice_get built_ins (c.number - length p.classes)))) i.there m) above below_it
+  interface_step : (c d : ClassId) → IsInterface classes c → Among d (supers classes c) → IsInterface classes d ⊎ (d ≡ built_in_after classes Object)
+  interface_step c d i m = at i.class.superclass i.class.interfaces (subst (λ o. Among d (supers_in classes o (slice_get built_ins (c.number - length classes)))) i.there m) above below_it
     where
       t : Made (names_of h.texts) (kinds_of h.texts) i.class
       t = made c i.class i.there
@@ -178,48 +176,48 @@ module _ (p : LinkedProgram) (h : IsLinked p) where
       own : superclass_id (length (kinds_of h.texts)) kind.Interface (known (names_of h.texts) (kinds_of h.texts) t.text.superclass) ≡ Ok i.class.superclass
       own = ap (λ k. superclass_id (length (kinds_of h.texts)) k (known (names_of h.texts) (kinds_of h.texts) t.text.superclass)) (sym i.is ∙ t.kind_is) ∙ t.superclass
 
-      many : length (kinds_of h.texts) ≡ length p.classes
-      many = simp length-map (sym (as_many h.texts p.classes h.links.supertypes))
+      many : length (kinds_of h.texts) ≡ length classes
+      many = simp length-map (sym (as_many h.texts classes h.supertypes))
 
-      above : i.class.superclass ≡ built_in p Object
+      above : i.class.superclass ≡ built_in_after classes Object
       above = interface_superclass (length (kinds_of h.texts)) (known (names_of h.texts) (kinds_of h.texts) t.text.superclass) i.class.superclass own ∙ ap (λ n. id (n + 0)) many
 
-      below_it : Among d i.class.interfaces → IsInterface p d
+      below_it : Among d i.class.interfaces → IsInterface classes d
       below_it k = is_interface d (interfaces_known (names_of h.texts) (kinds_of h.texts) t.text.interfaces i.class.interfaces d t.interfaces k)
 
-      at : (s : ClassId) (is : List ClassId) → Among d (s ∷ is) → s ≡ built_in p Object → (Among d is → IsInterface p d) → IsInterface p d ⊎ (d ≡ built_in p Object)
+      at : (s : ClassId) (is : List ClassId) → Among d (s ∷ is) → s ≡ built_in_after classes Object → (Among d is → IsInterface classes d) → IsInterface classes d ⊎ (d ≡ built_in_after classes Object)
       at s is first q f = inr q
       at s is (later k) q f = inl (f k)
 
-  nothing_above_object : (c e : ClassId) → c ≡ built_in p Object → Reaches p c e → ⊥
-  nothing_above_object c e q (direct {d = d} m) = elim (subst (Among d) (ap (supers p) q ∙ supers-built_in p Object) m) [ ]
-  nothing_above_object c e q (further {d = d} m r) = elim (subst (Among d) (ap (supers p) q ∙ supers-built_in p Object) m) [ ]
+  nothing_above_object : (c e : ClassId) → c ≡ built_in_after classes Object → Reaches classes c e → ⊥
+  nothing_above_object c e q (direct {d = d} m) = elim (subst (Among d) (ap (supers classes) q ∙ supers-built_in classes Object) m) [ ]
+  nothing_above_object c e q (further {d = d} m r) = elim (subst (Among d) (ap (supers classes) q ∙ supers-built_in classes Object) m) [ ]
 
-  above_interface : (c e : ClassId) → IsInterface p c → Reaches p c e → IsInterface p e ⊎ (e ≡ built_in p Object)
+  above_interface : (c e : ClassId) → IsInterface classes c → Reaches classes c e → IsInterface classes e ⊎ (e ≡ built_in_after classes Object)
   above_interface c e i (direct m) = interface_step c e i m
   above_interface c e i (further {d = d} m r) = elim (interface_step c d i m) [ inl k ↦ above_interface d e k r | inr q ↦ absurd (nothing_above_object d e q r) ]
 
-  no_interface : (b : BuiltIn) → IsInterface p (built_in p b) → ⊥
-  no_interface b i = let past = get-past p.classes (length p.classes + number_of b) (omega arith) in let g = i.there in absurd cc
+  no_interface : (b : BuiltIn) → IsInterface classes (built_in_after classes b) → ⊥
+  no_interface b i = let past = get-past classes (length classes + number_of b) (omega arith) in let g = i.there in absurd cc
 
-  not_object : (b : BuiltIn) → 0 < number_of b → built_in p b ≡ built_in p Object → ⊥
-  not_object b l q = let n : length p.classes + number_of b ≡ length p.classes + 0 = ap (λ (z : ClassId). z.number) q in absurd (omega (arith, l, n))
+  not_object : (b : BuiltIn) → 0 < number_of b → built_in_after classes b ≡ built_in_after classes Object → ⊥
+  not_object b l q = let n : length classes + number_of b ≡ length classes + 0 = ap (λ (z : ClassId). z.number) q in absurd (omega (arith, l, n))
 
-  subclass : (b : BuiltIn) → 0 < number_of b → (c e : ClassId) → e ≡ built_in p b → Reaches p c e → IsSubclass p c e
-  subclass b l c e q (direct m) = elim (step c e m) [ inl x ↦ below x itself | inr i ↦ absurd (no_interface b (subst (IsInterface p) q i)) ]
+  subclass : (b : BuiltIn) → 0 < number_of b → (c e : ClassId) → e ≡ built_in_after classes b → Reaches classes c e → IsSubclass classes c e
+  subclass b l c e q (direct m) = elim (step c e m) [ inl x ↦ below x itself | inr i ↦ absurd (no_interface b (subst (IsInterface classes) q i)) ]
   subclass b l c e q (further {d = d} m r) =
       elim (step c d m) [
         | inl x ↦ below x (subclass b l d e q r)
-        | inr i ↦ absurd (elim (above_interface d e i r) [ inl k ↦ no_interface b (subst (IsInterface p) q k) | inr o ↦ not_object b l (sym q ∙ o) ])
+        | inr i ↦ absurd (elim (above_interface d e i r) [ inl k ↦ no_interface b (subst (IsInterface classes) q k) | inr o ↦ not_object b l (sym q ∙ o) ])
       ]
 
-extends_up : (p : LinkedProgram) {c s : ClassId} → Extends p c s → Among s (supers p c)
-extends_up p (in_file {c = c} {class = class} g) = subst (λ o. Among class.superclass (supers_in p o (slice_get built_ins (c.number - length p.classes)))) (sym g) first
-extends_up p (is_built_in b s g) = subst (Among (built_in p s)) (sym (supers-built_in p b ∙ ap (built_in_list p) g)) first
+extends_up : (classes : List Class) {c s : ClassId} → Extends classes c s → Among s (supers classes c)
+extends_up classes (in_file {c = c} {class = class} g) = subst (λ o. Among class.superclass (supers_in classes o (slice_get built_ins (c.number - length classes)))) (sym g) first
+extends_up classes (is_built_in b s g) = subst (Among (built_in_after classes s)) (sym (supers-built_in classes b ∙ ap (built_in_list classes) g)) first
 
-subtype : (p : LinkedProgram) {c d : ClassId} → IsSubclass p c d → IsSubtype p c d
-subtype p itself = inl refl
-subtype p (below {c = c} {s = s} {d = d} x q) = elim (subtype p q) [ inl e ↦ inr (direct (subst (λ z. Among z (supers p c)) e (extends_up p x))) | inr r ↦ inr (further (extends_up p x) r) ]
+subtype : (classes : List Class) {c d : ClassId} → IsSubclass classes c d → IsSubtype classes c d
+subtype classes itself = inl refl
+subtype classes (below {c = c} {s = s} {d = d} x q) = elim (subtype classes q) [ inl e ↦ inr (direct (subst (λ z. Among z (supers classes c)) e (extends_up classes x))) | inr r ↦ inr (further (extends_up classes x) r) ]
 
-pub subtypes_are_subclasses : (p : LinkedProgram) → IsLinked p → (b : BuiltIn) → 0 < number_of b → (c : ClassId) → IsSubtype p c (built_in p b) ↔ IsSubclass p c (built_in p b)
-subtypes_are_subclasses p h b l c = (λ s. elim s [ inl e ↦ subst (IsSubclass p c) e itself | inr r ↦ subclass p h b l c (built_in p b) refl r ], subtype p)
+pub subtypes_are_subclasses : (classes : List Class) → IsResolved classes → (b : BuiltIn) → 0 < number_of b → (c : ClassId) → IsSubtype classes c (built_in_after classes b) ↔ IsSubclass classes c (built_in_after classes b)
+subtypes_are_subclasses classes h b l c = (λ s. elim s [ inl e ↦ subst (IsSubclass classes c) e itself | inr r ↦ subclass classes h b l c (built_in_after classes b) refl r ], subtype classes)

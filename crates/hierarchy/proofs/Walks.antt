@@ -1,13 +1,14 @@
 -- The walk over superinterfaces: it adds the enumeration, and leaves out what was found before.
-use Rattle.std.proofs.Common.{◌≡◌, ℕ, zero, suc, ◌+◌, ◌-◌, ◌<◌, true, List, [], ◌∷◌, ◌++◌, length, get_or, sym, ap, ◌∙◌, arith, sub-one, length-append, inl, inr}
+use Rattle.std.proofs.Common.{◌≡◌, ℕ, zero, suc, ◌+◌, ◌<◌, true, List, [], ◌∷◌, ◌++◌, length, get_or, sym, ap, ◌∙◌, arith, length-append, inl, inr}
 use Rattle.std.specs.List.{flat_map}
 use Rattle.hierarchy.specs.declared.class.ClassId.{ClassId}
-use Rattle.hierarchy.specs.LinkedProgram.{LinkedProgram, id}
+use Rattle.hierarchy.specs.declared.class.Class.{Class}
+use Rattle.hierarchy.specs.LinkedProgram.{id}
 use Rattle.hierarchy.specs.ClassLists.{Among, first, later, add_new, add_all, is_among}
-use Rattle.hierarchy.specs.Hierarchy.{interfaces_of, IsWithin, IsAcyclic}
+use Rattle.hierarchy.specs.Hierarchy.{interfaces_of, IsAcyclic}
 use Rattle.hierarchy.specs.Superinterfaces.{enumeration, IsClosed, IsTable}
-use Rattle.hierarchy.proofs.ClassMembership.{among_from_true, among_right, add_all-there, add_all-append}
-use Rattle.hierarchy.proofs.Enumerations.{enumeration-law, within_interface}
+use Rattle.hierarchy.proofs.ClassMembership.{among_from_true, add_all-there, add_all-append}
+use Rattle.hierarchy.proofs.Enumerations.{enumeration-law}
 use Rattle.hierarchy.proofs.Acyclic.{get-pushed}
 
 abbrev pub none_id : ClassId
@@ -18,27 +19,17 @@ among_get_or [] k h = absurd (omega (arith, h))
 among_get_or (x ∷ xs) zero h = first
 among_get_or (x ∷ xs) (suc k) h = later (among_get_or xs k (omega (arith, h)))
 
--- i itself stands in its enumeration
-pub enumeration-self : (p : LinkedProgram) (i : ClassId) → IsAcyclic p → Among i (enumeration p i)
-enumeration-self p i a = rw (enumeration-law p i a) (among_right _ first)
+pub interface_there : (classes : List Class) (c : ClassId) (items : List ClassId) (k : ℕ) → interfaces_of classes c ≡ items → k < length items → Among (get_or items k none_id) (interfaces_of classes c)
+interface_there classes c items k e h = rw e (among_get_or items k h)
 
 -- a class that was found needs no second walk
-pub skipped : (p : LinkedProgram) (xs : List ClassId) (i : ClassId) → IsAcyclic p → IsClosed p xs → is_among i xs ≡ true → xs ≡ add_all xs (enumeration p i)
-skipped p xs i a c e = sym (add_all-there xs (enumeration p i) (c i (among_from_true i xs e)))
-
-pub within_step : (p : LinkedProgram) (d : ℕ) (i : ClassId) (items : List ClassId) (k : ℕ) → IsWithin d p i → interfaces_of p i ≡ items → k < length items → IsWithin (d - 1) p (get_or items k none_id)
-within_step p zero i items k w e h = absurd w
-within_step p (suc d) i items k w e h =
-    rw sub-one (within_interface p d i (get_or items k none_id) w (rw e (among_get_or items k h)))
+pub skipped : (classes : List Class) (xs : List ClassId) (i : ClassId) → IsAcyclic classes → IsClosed classes xs → is_among i xs ≡ true → xs ≡ add_all xs (enumeration classes i)
+skipped classes xs i a c e = sym (add_all-there xs (enumeration classes i) (c i (among_from_true i xs e)))
 
 -- the class itself comes last
-pub walked_all : (p : LinkedProgram) (start now next : List ClassId) (i : ClassId) → IsAcyclic p → now ≡ add_all start (flat_map (enumeration p) (interfaces_of p i)) → next ≡ add_new now i → next ≡ add_all start (enumeration p i)
-walked_all p start now next i a e n =
-    rw (enumeration-law p i a, add_all-append start (flat_map (enumeration p) (interfaces_of p i)) (i ∷ [])) (rw e at n)
-
-pub within_positive : (p : LinkedProgram) (d : ℕ) (i : ClassId) → IsWithin d p i → d - 1 < d
-within_positive p zero i w = absurd w
-within_positive p (suc d) i w = omega arith
+pub walked_all : (classes : List Class) (start now next : List ClassId) (i : ClassId) → IsAcyclic classes → now ≡ add_all start (flat_map (enumeration classes) (interfaces_of classes i)) → next ≡ add_new now i → next ≡ add_all start (enumeration classes i)
+walked_all classes start now next i a e n =
+    rw (enumeration-law classes i a, add_all-append start (flat_map (enumeration classes) (interfaces_of classes i)) (i ∷ [])) (rw e at n)
 
 -- one class more
 pub table_more : (f : ClassId → List ClassId) (n : ℕ) (all next : List (List ClassId)) (found : List ClassId) → IsTable f n all → found ≡ f (id n) → next ≡ all ++ found ∷ [] → IsTable f (n + 1) next

@@ -6,7 +6,7 @@ use Rattle.hierarchy.specs.declared.class.Class.{Class}
 use Rattle.hierarchy.specs.declared.class.ClassId.{ClassId}
 use Rattle.hierarchy.specs.declared.built_in.BuiltIn.{BuiltIn}
 use Rattle.hierarchy.specs.BuiltIn.{built_ins, superclass_of_built_in}
-use Rattle.hierarchy.specs.LinkedProgram.{LinkedProgram, class_at, built_in}
+use Rattle.hierarchy.specs.LinkedProgram.{class_among, built_in_after}
 use Rattle.hierarchy.specs.ClassLists.{Among}
 use Rattle.hierarchy.specs.Hierarchy.{height}
 
@@ -16,24 +16,29 @@ ancestry_within (suc depth) above c = c ∷ flat_map (ancestry_within depth abov
 
 -- c, then the ancestry of each class that stands directly above it, in order.
 -- In a program each way up ends before the height.
-unfoldable pub ancestry : LinkedProgram → (ClassId → List ClassId) → ClassId → List ClassId
-ancestry p above c = ancestry_within (height p) above c
+unfoldable pub ancestry : List Class → (ClassId → List ClassId) → ClassId → List ClassId
+ancestry classes above c = ancestry_within (height classes) above c
 
-abbrev pub superclass_in : LinkedProgram → Option Class → Option BuiltIn → Option ClassId
-superclass_in p (Some class) b = Some class.superclass
-superclass_in p None None = None
-superclass_in p None (Some b) = option_map (built_in p) (superclass_of_built_in b)
+abbrev pub superclass_in : List Class → Option Class → Option BuiltIn → Option ClassId
+superclass_in classes (Some class) b = Some class.superclass
+superclass_in classes None None = None
+superclass_in classes None (Some b) = option_map (built_in_after classes) (superclass_of_built_in b)
 
 -- the direct superclass, an interface's being java/lang/Object, which has none
-abbrev pub superclass_of : LinkedProgram → ClassId → Option ClassId
-superclass_of p c = superclass_in p (class_at p c) (slice_get built_ins (c.number - length p.classes))
+abbrev pub superclass_of : List Class → ClassId → Option ClassId
+superclass_of classes c = superclass_in classes (class_among classes c) (slice_get built_ins (c.number - length classes))
 
-abbrev pub superclass_alone : LinkedProgram → ClassId → List ClassId
-superclass_alone p c = option_to_list (superclass_of p c)
+abbrev pub superclass_alone : List Class → ClassId → List ClassId
+superclass_alone classes c = option_to_list (superclass_of classes c)
 
 -- c, its direct superclass, and so on up to java/lang/Object
-abbrev pub superclasses : LinkedProgram → ClassId → List ClassId
-superclasses p c = ancestry p (superclass_alone p) c
+abbrev pub superclasses : List Class → ClassId → List ClassId
+superclasses classes c = ancestry classes (superclass_alone classes) c
+
+-- from a class on, if there is one
+abbrev pub superclasses_from : List Class → Option ClassId → List ClassId
+superclasses_from classes None = []
+superclasses_from classes (Some c) = superclasses classes c
 
 -- what the first of these classes gives that gives something
 abbrev pub first_given : {X : Type 0} → (ClassId → Option X) → List ClassId → Option X
@@ -41,5 +46,5 @@ first_given f [] = None
 first_given f (c ∷ cs) = option_or (f c) (first_given f cs)
 
 -- with each class above c its whole ancestry is there
-abbrev pub IsWholeAbove : LinkedProgram → (ClassId → List ClassId) → ClassId → List ClassId → Type 0
-IsWholeAbove p above c found = (d : ClassId) → Among d (ancestry p above c) → Among d found → (e : ClassId) → Among e (ancestry p above d) → Among e found
+abbrev pub IsWholeAbove : List Class → (ClassId → List ClassId) → ClassId → List ClassId → Type 0
+IsWholeAbove classes above c found = (d : ClassId) → Among d (ancestry classes above c) → Among d found → (e : ClassId) → Among e (ancestry classes above d) → Among e found

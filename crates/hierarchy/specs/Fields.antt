@@ -23,13 +23,13 @@ use Rattle.hierarchy.specs.Members.{first_from}
 use Rattle.hierarchy.specs.Ancestry.{ancestry, superclass_alone, first_given}
 
 -- the direct superinterfaces in order, then the superclass
-abbrev pub interfaces_first : LinkedProgram → ClassId → List ClassId
-interfaces_first p c = interfaces_of p c ++ superclass_alone p c
+abbrev pub interfaces_first : List Class → ClassId → List ClassId
+interfaces_first classes c = interfaces_of classes c ++ superclass_alone classes c
 
 -- The classes in which a field is looked up: C, then those of each direct superinterface in order, then those of
 -- the superclass.
-abbrev pub field_order : LinkedProgram → ClassId → List ClassId
-field_order p c = ancestry p (interfaces_first p) c
+abbrev pub field_order : List Class → ClassId → List ClassId
+field_order classes c = ancestry classes (interfaces_first classes) c
 
 -- whether a field has that name and descriptor
 abbrev pub is_field : List ℕ → FieldType → Field → Bool
@@ -77,4 +77,4 @@ field_result kind (Some f) = if is_of_kind kind f then Ok f.id else Err Incompat
 -- The field that a reference names: that of the first class in order which declares it. None: NoSuchFieldError.
 -- A static field where an instance field is wanted, or the reverse (chapter 6): IncompatibleClassChangeError.
 abbrev pub resolved_field : LinkedProgram → ClassId → List ℕ → FieldType → FieldKind → Result FieldId BuiltIn
-resolved_field p c name type kind = field_result kind (first_given (declared_field p name type) (field_order p c))
+resolved_field p c name type kind = field_result kind (first_given (declared_field p name type) (field_order p.classes c))

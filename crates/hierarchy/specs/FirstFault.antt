@@ -7,7 +7,7 @@ use Rattle.hierarchy.specs.declared.class.Class.{Class}
 use Rattle.hierarchy.specs.declared.fault.LinkFault.{LinkFault}
 use Rattle.hierarchy.specs.declared.fault.LinkFaultKind.{LinkFaultKind}
 use Rattle.hierarchy.specs.declared.fault.LinkFaultKind.TheVariants.{RepeatedName, Cycle, ReservedName, RepeatedMember, TooMany, NoMemory}
-use Rattle.hierarchy.specs.LinkedProgram.{LinkedProgram, linked, id}
+use Rattle.hierarchy.specs.LinkedProgram.{LinkedProgram, id}
 use Rattle.hierarchy.specs.Hierarchy.{IsCyclic, IsFirstCyclic}
 use Rattle.hierarchy.specs.Linking.{is_reserved, IsFirst, IsRepeated, classes_of, fault}
 use Rattle.hierarchy.specs.Members.{repeats_member}
@@ -39,7 +39,7 @@ pub data IsNameFault (texts : List ClassParts) : LinkFaultKind → ℕ → Type 
 
 -- no class stands on a cycle
 abbrev pub HasNoCycle : List Class → Type 0
-HasNoCycle classes = (n : ℕ) → IsCyclic (linked classes) (id n) → ⊥
+HasNoCycle classes = (n : ℕ) → IsCyclic classes (id n) → ⊥
 
 -- no class declares a member twice
 abbrev pub HasDistinctMembers : List Class → Type 0
@@ -51,7 +51,7 @@ FitsHeap classes = (i : ℕ) → FillsHeap classes i → ⊥
 
 -- the first fault of classes whose supertypes' names are resolved, by its place
 pub data IsClassFault (classes : List Class) : LinkFaultKind → ℕ → Type 0 where
-  circles : {i : ℕ} → IsFirstCyclic (linked classes) i → IsClassFault classes Cycle i
+  circles : {i : ℕ} → IsFirstCyclic classes i → IsClassFault classes Cycle i
   repeats : {i : ℕ} → HasNoCycle classes → position repeats_member classes ≡ Some i → IsClassFault classes RepeatedMember i
   fills : {i : ℕ} → HasNoCycle classes → HasDistinctMembers classes → IsFirst (FillsHeap classes) i → IsClassFault classes TooMany i
 

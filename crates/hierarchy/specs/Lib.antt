@@ -24,3 +24,4 @@ pub mod Superinterfaces
 pub mod Supertypes
 pub mod Tables
 pub mod Texts
+pub mod Walking

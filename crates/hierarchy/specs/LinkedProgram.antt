@@ -16,13 +16,21 @@ linked classes = record { classes = classes }
 abbrev pub id : ℕ → ClassId
 id n = record { number = n }
 
+-- the class of that number, if it is one of these
+abbrev pub class_among : List Class → ClassId → Option Class
+class_among classes c = slice_get classes c.number
+
+-- a built-in class, whose number comes after these
+abbrev pub built_in_after : List Class → BuiltIn → ClassId
+built_in_after classes b = id (length classes + number_of b)
+
 -- the class of that number, if it is one of the files'
 abbrev pub class_at : LinkedProgram → ClassId → Option Class
-class_at p c = slice_get p.classes c.number
+class_at p c = class_among p.classes c
 
 -- a built-in class
 abbrev pub built_in : LinkedProgram → BuiltIn → ClassId
-built_in p b = id (length p.classes + number_of b)
+built_in p b = built_in_after p.classes b
 
 abbrev pub class_name : Option Class → Option (List ℕ) → Option (List ℕ)
 class_name (Some c) other = Some c.name

@@ -67,23 +67,23 @@ counted_method p counted name type c = if_counted counted (declared_method p nam
 
 -- that of c itself, else that of the nearest superclass which declares one
 abbrev pub method_of_superclasses : LinkedProgram → Counted → List ℕ → Signature → ClassId → Option DeclaredMethod
-method_of_superclasses p counted name type c = first_given (counted_method p counted name type) (superclasses p c)
+method_of_superclasses p counted name type c = first_given (counted_method p counted name type) (superclasses p.classes c)
 
 -- the enumeration of each direct superinterface, in order
-abbrev pub enumeration_of_all : LinkedProgram → ClassId → List ClassId
-enumeration_of_all p c = flat_map (enumeration p) (interfaces_of p c)
+abbrev pub enumeration_of_all : List Class → ClassId → List ClassId
+enumeration_of_all classes c = flat_map (enumeration classes) (interfaces_of classes c)
 
 -- the superinterfaces of c, direct and indirect: those of c itself, then those of each superclass, each once
-abbrev pub all_superinterfaces : LinkedProgram → ClassId → List ClassId
-all_superinterfaces p c = distinct (flat_map (enumeration_of_all p) (superclasses p c))
+abbrev pub all_superinterfaces : List Class → ClassId → List ClassId
+all_superinterfaces classes c = distinct (flat_map (enumeration_of_all classes) (superclasses classes c))
 
 -- the first superinterface method that is neither private nor static
 abbrev pub first_superinterface_method : LinkedProgram → List ℕ → Signature → ClassId → Option DeclaredMethod
-first_superinterface_method p name type c = first_given (counted_method p Shared name type) (all_superinterfaces p c)
+first_superinterface_method p name type c = first_given (counted_method p Shared name type) (all_superinterfaces p.classes c)
 
 -- whether j is a subinterface of i, directly or indirectly
 abbrev pub is_subinterface : LinkedProgram → ClassId → ClassId → Bool
-is_subinterface p j i = is_among i (superinterfaces p j)
+is_subinterface p j i = is_among i (superinterfaces p.classes j)
 
 -- whether a subinterface of i among these declares such a method, neither private nor static
 abbrev pub is_overridden : LinkedProgram → List ℕ → Signature → List ClassId → ClassId → Bool
@@ -95,7 +95,7 @@ specific_method p name type is i = if is_overridden p name type is i then None e
 
 -- the maximally specific superinterface methods of c of that name and descriptor
 abbrev pub maximally_specific : LinkedProgram → List ℕ → Signature → ClassId → List DeclaredMethod
-maximally_specific p name type c = filter_map (specific_method p name type (all_superinterfaces p c)) (all_superinterfaces p c)
+maximally_specific p name type c = filter_map (specific_method p name type (all_superinterfaces p.classes c)) (all_superinterfaces p.classes c)
 
 abbrev pub is_concrete : DeclaredMethod → Bool
 is_concrete m = not m.access.is_abstract

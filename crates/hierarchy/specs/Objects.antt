@@ -26,7 +26,7 @@ own_instance_fields p c = instance_fields_from c 0 (fields_of p c)
 
 -- the fields of an object of c, cell by cell: those of its superclasses from the top down, then those of c
 abbrev pub object_fields : LinkedProgram → ClassId → List FieldId
-object_fields p c = flat_map (own_instance_fields p) (reverse (superclasses p c))
+object_fields p c = flat_map (own_instance_fields p) (reverse (superclasses p.classes c))
 
 abbrev pub cells_in : LinkedProgram → Option ClassId → ℕ
 cells_in p None = 0
@@ -34,7 +34,7 @@ cells_in p (Some c) = length (object_fields p c)
 
 abbrev pub field_cell_in : LinkedProgram → ClassId → ℕ → Option Field → Option ℕ
 field_cell_in p c place None = None
-field_cell_in p c place (Some f) = if is_instance_field f then Some (cells_in p (superclass_of p c) + length (filter is_instance_field (take place (fields_of p c)))) else None
+field_cell_in p c place (Some f) = if is_instance_field f then Some (cells_in p (superclass_of p.classes c) + length (filter is_instance_field (take place (fields_of p c)))) else None
 
 -- the cell of the instance field at this place of c: behind those of the superclass and of the fields before
 abbrev pub field_cell : LinkedProgram → ClassId → ℕ → Option ℕ

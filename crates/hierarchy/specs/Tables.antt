@@ -2,7 +2,6 @@
 use Rattle.std.specs.Prelude.{◌≡◌, ◌≤◌, List, length, map}
 use Rattle.hierarchy.specs.declared.class.Class.{Class}
 use Rattle.hierarchy.specs.declared.tables.Tables.{Tables}
-use Rattle.hierarchy.specs.LinkedProgram.{linked}
 use Rattle.hierarchy.specs.ClassLists.{distinct}
 use Rattle.hierarchy.specs.Searched.{HasSupertypes}
 use Rattle.hierarchy.specs.Superinterfaces.{IsTable, superinterfaces}
@@ -13,10 +12,10 @@ use Rattle.hierarchy.specs.Quoted.{quoted_texts, cells_of}
 
 -- the tables are those of these classes
 pub record AreTables (classes : List Class) (t : Tables) : Type 0 where
-  pub supertypes : HasSupertypes (linked classes) (length classes) t.supertypes.items
-  pub superinterfaces : IsTable (superinterfaces (linked classes)) (length classes) t.superinterfaces.items
-  pub field_orders : IsTable (λ c. distinct (field_order (linked classes) c)) (length classes) t.field_orders.items
-  pub inherited : IsTable (all_superinterfaces (linked classes)) (length classes) t.inherited.items
+  pub supertypes : HasSupertypes classes (length classes) t.supertypes.items
+  pub superinterfaces : IsTable (superinterfaces classes) (length classes) t.superinterfaces.items
+  pub field_orders : IsTable (λ c. distinct (field_order classes c)) (length classes) t.field_orders.items
+  pub inherited : IsTable (all_superinterfaces classes) (length classes) t.inherited.items
   pub quoted : t.quoted ≡ quoted_texts classes
   pub cells : cells_of classes ≤ 1000000
   pub members : t.members.items ≡ map member_names classes

@@ -1,6 +1,7 @@
 //! The classes that are there from the start.
 
 ghost use Rattle.std.specs.Prelude.{◌≡◌, ◌<◌, length, slice_get, option_copied, IfSome};
+ghost use Rattle.hierarchy.specs.declared.built_in.TheConstants.{BUILT_IN_COUNT};
 ghost use Rattle.hierarchy.specs.BuiltIn.{number_of, superclass_of_built_in, built_ins, built_in_named, may_be_superclass, built_in_names, plain, place_of};
 
 /// A class that belongs to no file: it counts as initialized from the start (JVMS SE 8 5.5 has nothing left
@@ -42,8 +43,11 @@ pub enum BuiltIn {
     InternalError,
 }
 
+/// How many built-in classes there are.
+pub const BUILT_IN_COUNT: usize = 32;
+
 /// The internal names of the built-in classes, in the order of their numbers.
-pub const BUILT_IN_NAMES: [&[u8]; 32] = [
+pub const BUILT_IN_NAMES: [&[u8]; BUILT_IN_COUNT] = [
     b"java/lang/Object",
     b"java/lang/System",
     b"java/lang/String",
@@ -79,7 +83,7 @@ pub const BUILT_IN_NAMES: [&[u8]; 32] = [
 ];
 
 /// The built-in classes in the order of their numbers.
-const BUILT_INS: [BuiltIn; 32] = [
+const BUILT_INS: [BuiltIn; BUILT_IN_COUNT] = [
     BuiltIn::Object,
     BuiltIn::System,
     BuiltIn::String,
@@ -118,7 +122,7 @@ impl BuiltIn {
     /// The place of the class among the built-in ones, from 0.
     pub fn number(self) -> usize
         ensures number { result ≡ number_of self }
-        ensures within { result < 32 }
+        ensures within { result < BUILT_IN_COUNT }
     {
         self as usize
     }
@@ -218,7 +222,7 @@ fn name_in<'a>(names: &[&'a [u8]], place: usize) -> Option<&'a [u8]>
 #[tactic(auto, unfolding(crate::specs::BuiltIn::built_in_names, crate::specs::BuiltIn::built_ins))]
 pub(crate) fn place_built_in(name: &[u8]) -> Option<usize>
     ensures place { result ≡ place_of built_in_names name.now }
-    ensures within { IfSome result (λ place. place < 32) }
+    ensures within { IfSome result (λ place. place < BUILT_IN_COUNT) }
 {
     place_among(&BUILT_IN_NAMES, name)
 }

@@ -3,8 +3,7 @@
 ghost use Rattle.std.specs.Prelude.{◌≡◌, ◌≤◌, IfOk, OnOk, length};
 ghost use Rattle.std.specs.Option.{option_to_list};
 ghost use Rattle.hierarchy.specs.ClassLists.{add_all, distinct};
-ghost use Rattle.hierarchy.specs.LinkedProgram.{linked};
-ghost use Rattle.hierarchy.specs.Hierarchy.{IsAcyclic, IsWithin};
+ghost use Rattle.hierarchy.specs.Hierarchy.{IsAcyclic};
 ghost use Rattle.hierarchy.specs.Ancestry.{superclass_of, IsWholeAbove};
 ghost use Rattle.hierarchy.specs.Fields.{field_order, interfaces_first};
 ghost use Rattle.hierarchy.specs.Superinterfaces.{IsTable};
@@ -18,7 +17,7 @@ use std::alloc::{AllocError, Global};
 /// The direct superclass, if there is one.
 pub(crate) fn superclass(classes: &[Class], id: ClassId) -> Option<ClassId>
     requires { length classes.now ≤ 1024 }
-    ensures { result ≡ superclass_of (linked classes.now) id }
+    ensures { result ≡ superclass_of classes.now id }
 {
     match classes.get(id.number) {
         Some(class) => Some(class.superclass),
@@ -35,28 +34,22 @@ pub(crate) fn superclass(classes: &[Class], id: ClassId) -> Option<ClassId>
 }
 
 /// Adds the classes in which a field of this class is looked up, each once: what was found before is left out.
-fn add_order(
-    classes: &[Class],
-    depth: usize,
-    id: ClassId,
-    found: &mut ClassSet,
-) -> Result<(), AllocError>
+fn add_order(classes: &[Class], id: ClassId, found: &mut ClassSet) -> Result<(), AllocError>
     requires few { length classes.now ≤ 1024 }
-    requires acyclic { IsAcyclic (linked classes.now) }
-    requires within { IsWithin depth (linked classes.now) id }
-    requires whole { IsWholeAbove (linked classes.now) (interfaces_first (linked classes.now)) id found.old }
-    ensures { OnOk result (found.new ≡ add_all found.old (field_order (linked classes.now) id)) }
+    requires acyclic { IsAcyclic classes.now }
+    requires whole { IsWholeAbove classes.now (interfaces_first classes.now) id found.old }
+    ensures { OnOk result (found.new ≡ add_all found.old (field_order classes.now id)) }
 {
     if found.contains(id) {
         return Ok(());
     }
     found.add(id)?;
     for interface in interfaces(classes, id) {
-        add_order(classes, depth - 1, *interface, found)?;
+        add_order(classes, *interface, found)?;
     }
     match superclass(classes, id) {
         Some(superclass) => {
-            add_order(classes, depth - 1, superclass, found)?;
+            add_order(classes, superclass, found)?;
             Ok(())
         }
         None => Ok(()),
@@ -66,20 +59,19 @@ fn add_order(
 /// The classes in which a field of this class is looked up, each once.
 fn order_of(alloc: Global, classes: &[Class], id: ClassId) -> Result<ClassSet, AllocError>
     requires few { length classes.now ≤ 1024 }
-    requires acyclic { IsAcyclic (linked classes.now) }
-    ensures { IfOk result (λ found. found ≡ distinct (field_order (linked classes.now) id)) }
+    requires acyclic { IsAcyclic classes.now }
+    ensures { IfOk result (λ found. found ≡ distinct (field_order classes.now id)) }
 {
-    let depth = classes.len() + 66;
     let mut found = ClassSet::new(alloc);
-    add_order(classes, depth, id, &mut found)?;
+    add_order(classes, id, &mut found)?;
     Ok(found)
 }
 
 /// The classes in which a field is looked up, for each class in file order.
 pub(crate) fn field_orders(alloc: Global, classes: &[Class]) -> Result<Vec<ClassSet>, AllocError>
     requires few { length classes.now ≤ 1024 }
-    requires acyclic { IsAcyclic (linked classes.now) }
-    ensures { IfOk result (λ all. IsTable (λ c. distinct (field_order (linked classes.now) c)) (length classes.now) all.items) }
+    requires acyclic { IsAcyclic classes.now }
+    ensures { IfOk result (λ all. IsTable (λ c. distinct (field_order classes.now c)) (length classes.now) all.items) }
 {
     let mut all = Vec::new(alloc);
     for number in 0..classes.len() {

@@ -1,7 +1,7 @@
 //! Field resolution.
 
 ghost use Rattle.std.specs.Prelude.{◌≡◌, ◌≤◌, length};
-ghost use Rattle.hierarchy.specs.Ancestry.{first_given};
+ghost use Rattle.hierarchy.specs.Ancestry.{first_given, superclasses};
 ghost use Rattle.hierarchy.specs.MemberNames.{field_names};
 ghost use Rattle.hierarchy.specs.Fields.{field_order, is_field as has_field, field_from, is_class_type, is_out, built_in_field, declared_field, is_of_kind, resolved_field};
 
@@ -165,19 +165,18 @@ impl Program {
         None
     }
 
-    /// The field that is found from a built-in class on: these have no superinterfaces.
-    fn field_above(&self, name: &[u8], field_type: &FieldType, id: ClassId) -> Option<DeclaredField>
-        requires { length self.now.classes ≤ id.number }
-        ensures { result ≡ first_given (declared_field self.now name.now field_type.now) (field_order self.now id) }
+    /// What the class or the nearest superclass declares that declares it.
+    fn field_of_superclasses(
+        &self,
+        name: &[u8],
+        field_type: &FieldType,
+        id: ClassId,
+    ) -> Option<DeclaredField>
+        ensures { result ≡ first_given (declared_field self.now name.now field_type.now) (superclasses self.now.classes id) }
     {
-        let mut next = id;
-        for _taken in 0..self.len() + 66 {
+        for next in self.superclasses(id) {
             if let Some(found) = self.declared_field(name, field_type, next) {
                 return Some(found);
-            }
-            match self.superclass(next) {
-                Some(superclass) => next = superclass,
-                None => return None,
             }
         }
         None
@@ -185,12 +184,13 @@ impl Program {
 
     /// The field that is found from a class on.
     fn found_field(&self, name: &[u8], field_type: &FieldType, id: ClassId) -> Option<DeclaredField>
-        ensures { result ≡ first_given (declared_field self.now name.now field_type.now) (field_order self.now id) }
+        ensures { result ≡ first_given (declared_field self.now name.now field_type.now) (field_order self.now.classes id) }
     {
         if id.number < self.len() {
             return self.first_field(name, field_type, self.field_order(id));
         }
-        self.field_above(name, field_type, id)
+        // A built-in class has no superinterfaces.
+        self.field_of_superclasses(name, field_type, id)
     }
 
     /// The field that a reference to a class, a name and a descriptor names, for an instruction that wants that

@@ -27,6 +27,7 @@ pub mod declared_method;
 pub mod fault;
 mod field_order;
 pub mod fields;
+mod keys;
 pub mod laws;
 pub mod linking;
 mod lookup;
@@ -46,8 +47,9 @@ mod supertypes;
 mod tables;
 mod texts;
 pub mod value;
+mod walk;
 
-pub use built_in::BuiltIn;
+pub use built_in::{BUILT_IN_COUNT, BuiltIn};
 pub use built_in_method::{BuiltInMethod, Printed};
 pub use class::{Class, ClassId};
 pub use declared_method::MethodId;

@@ -88,8 +88,8 @@ fn directory_of(alloc: Global, texts: &[ClassParts]) -> Result<Directory, FaultA
 fn tables_of(alloc: Global, classes: &[Class]) -> Result<Tables, FaultAt>
     requires some { 0 < length classes.now }
     requires few { length classes.now ≤ 1024 }
-    requires in_range { IsInRange (linked classes.now) }
-    ensures acyclic { IfOk result (λ made. IsAcyclic (linked classes.now)) }
+    requires in_range { IsInRange classes.now }
+    ensures acyclic { IfOk result (λ made. IsAcyclic classes.now) }
     ensures tables { IfOk result (AreTables classes.now) }
     ensures members { IfOk result (λ made. HasDistinctMembers classes.now) }
     ensures heap { IfOk result (λ made. FitsHeap classes.now) }

@@ -33,14 +33,9 @@ impl Program {
     ) -> Option<DeclaredMethod>
         ensures { result ≡ method_of_superclasses self.now counted name.now method_type.now id }
     {
-        let mut next = id;
-        for _taken in 0..self.len() + 66 {
+        for next in self.superclasses(id) {
             if let Some(method) = self.counted_method(counted, name, method_type, next) {
                 return Some(method);
-            }
-            match self.superclass(next) {
-                Some(superclass) => next = superclass,
-                None => return None,
             }
         }
         None

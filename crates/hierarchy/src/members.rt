@@ -1,82 +1,44 @@
 //! Members that a class declares twice.
 
-ghost use Rattle.std.specs.Prelude.{◌≡◌, ◌++◌, ◌∷◌, [], position, IfOk, OnOk};
-ghost use Rattle.std.specs.List.{list_any};
-ghost use Rattle.hierarchy.specs.Members.{same_field_member, same_method_member, repeats, repeats_member, field_name, method_name, Noted};
+ghost use Rattle.std.specs.Prelude.{◌≡◌, position, IfOk, OnOk};
+ghost use Rattle.hierarchy.specs.Members.{same_field_member, same_method_member, repeats, repeats_member, field_key as key_of_field, method_key as key_of_method, IsSpelledField, IsSpelledMethod};
 
 use crate::class::Class;
-use crate::texts::Texts;
+use crate::keys::Keys;
+use descriptors::{write_field, write_method};
 use jasmin_text::{Field, Method};
 use std::alloc::{AllocError, Global};
 
-/// Whether two fields have one name and one descriptor (JVMS SE 8 4.5).
-fn is_same_field(field: &Field, other: &Field) -> bool
-    ensures { result ≡ same_field_member field.now other.now }
+/// The name of a field, a space, and its descriptor: two fields are one where these are (JVMS SE 8 4.5).
+fn field_key(alloc: Global, field: &Field) -> Result<Vec<u8>, AllocError>
+    ensures key { IfOk result (λ key. key.items ≡ key_of_field field.now) }
+    ensures spelled { OnOk result (IsSpelledField field.now) }
 {
-    field.name == other.name && field.field_type == other.field_type
+    let descriptor = write_field(alloc, &field.field_type)?;
+    let mut key = Vec::from_slice(alloc, field.name.as_slice())?;
+    key.push(b' ')?;
+    key.extend_from_slice(&descriptor)?;
+    Ok(key)
 }
 
-/// Whether two methods have one name and one descriptor (JVMS SE 8 4.6).
-fn is_same_method(method: &Method, other: &Method) -> bool
-    ensures { result ≡ same_method_member method.now other.now }
+/// The same of a method (JVMS SE 8 4.6).
+fn method_key(alloc: Global, method: &Method) -> Result<Vec<u8>, AllocError>
+    ensures key { IfOk result (λ key. key.items ≡ key_of_method method.now) }
+    ensures spelled { OnOk result (IsSpelledMethod method.now) }
 {
-    method.name == other.name && method.method_type == other.method_type
-}
-
-fn stands_field(field: &Field, before: &[Field]) -> bool
-    ensures { result ≡ list_any (λ f. same_field_member f field.now) before.now }
-{
-    before.iter().any(|other| is_same_field(other, field))
-}
-
-fn stands_method(method: &Method, before: &[Method]) -> bool
-    ensures { result ≡ list_any (λ m. same_method_member m method.now) before.now }
-{
-    before.iter().any(|other| is_same_method(other, method))
-}
-
-/// Whether a field stands before, where the names of those before are noted. Only fields of one name are compared.
-fn note_field(
-    alloc: Global,
-    names: &mut Texts,
-    before: &[Field],
-    field: &Field,
-) -> Result<bool, AllocError>
-    requires { Noted field_name names.old before.now }
-    ensures found { IfOk result (λ b. b ≡ list_any (λ f. same_field_member f field.now) before.now) }
-    ensures noted { OnOk result (Noted field_name names.new (before.now ++ field.now ∷ [])) }
-{
-    if names.place(field.name.as_slice()).is_some() {
-        return Ok(stands_field(field, before));
-    }
-    names.note(alloc, field.name.as_slice())?;
-    Ok(false)
-}
-
-/// The same of a method.
-fn note_method(
-    alloc: Global,
-    names: &mut Texts,
-    before: &[Method],
-    method: &Method,
-) -> Result<bool, AllocError>
-    requires { Noted method_name names.old before.now }
-    ensures found { IfOk result (λ b. b ≡ list_any (λ m. same_method_member m method.now) before.now) }
-    ensures noted { OnOk result (Noted method_name names.new (before.now ++ method.now ∷ [])) }
-{
-    if names.place(method.name.as_slice()).is_some() {
-        return Ok(stands_method(method, before));
-    }
-    names.note(alloc, method.name.as_slice())?;
-    Ok(false)
+    let descriptor = write_method(alloc, &method.method_type)?;
+    let mut key = Vec::from_slice(alloc, method.name.as_slice())?;
+    key.push(b' ')?;
+    key.extend_from_slice(&descriptor)?;
+    Ok(key)
 }
 
 fn repeats_field(alloc: Global, fields: &[Field]) -> Result<bool, AllocError>
     ensures { IfOk result (λ b. b ≡ repeats same_field_member fields.now) }
 {
-    let mut names = Texts::new(alloc);
-    for (place, field) in fields.iter().enumerate() {
-        if note_field(alloc, &mut names, &fields[..place], field)? {
+    let mut keys = Keys::new(alloc);
+    for field in fields {
+        if !keys.add(field_key(alloc, field)?)? {
             return Ok(true);
         }
     }
@@ -86,9 +48,9 @@ fn repeats_field(alloc: Global, fields: &[Field]) -> Result<bool, AllocError>
 fn repeats_method(alloc: Global, methods: &[Method]) -> Result<bool, AllocError>
     ensures { IfOk result (λ b. b ≡ repeats same_method_member methods.now) }
 {
-    let mut names = Texts::new(alloc);
-    for (place, method) in methods.iter().enumerate() {
-        if note_method(alloc, &mut names, &methods[..place], method)? {
+    let mut keys = Keys::new(alloc);
+    for method in methods {
+        if !keys.add(method_key(alloc, method)?)? {
             return Ok(true);
         }
     }

@@ -46,20 +46,15 @@ impl Program {
         ensures within { result ≤ 2000000 }
     {
         let mut cells = 0;
-        let mut next = id;
-        for _taken in 0..self.len() + 66 {
+        for next in self.superclasses(id) {
             cells += self.own_cells(next);
-            match self.superclass(next) {
-                Some(superclass) => next = superclass,
-                None => return cells,
-            }
         }
         cells
     }
 
     /// How many cells an object of the superclass has.
     fn cells_above(&self, id: ClassId) -> usize
-        ensures cells { result ≡ cells_in self.now (superclass_of self.now id) }
+        ensures cells { result ≡ cells_in self.now (superclass_of self.now.classes id) }
         ensures within { result ≤ 2000000 }
     {
         match self.superclass(id) {

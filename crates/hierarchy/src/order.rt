@@ -3,8 +3,7 @@
 ghost use Rattle.std.specs.Prelude.{◌≡◌, ◌≤◌, ◌++◌, [], IfOk, OnOk, length, take};
 ghost use Rattle.std.specs.List.{flat_map};
 ghost use Rattle.hierarchy.specs.ClassLists.{add_all};
-ghost use Rattle.hierarchy.specs.LinkedProgram.{linked};
-ghost use Rattle.hierarchy.specs.Hierarchy.{IsAcyclic, IsWithin, interfaces_of, height};
+ghost use Rattle.hierarchy.specs.Hierarchy.{IsAcyclic, interfaces_of};
 ghost use Rattle.hierarchy.specs.Superinterfaces.{enumeration, superinterfaces as superinterfaces_of, IsClosed, IsTable};
 ghost use Rattle.hierarchy.specs.Ancestry.{superclasses};
 ghost use Rattle.hierarchy.specs.Methods.{enumeration_of_all, all_superinterfaces as inherited_by};
@@ -16,7 +15,7 @@ use std::alloc::{AllocError, Global};
 
 /// The direct superinterfaces, in order.
 pub(crate) fn interfaces(classes: &[Class], id: ClassId) -> &[ClassId]
-    ensures { result.now ≡ interfaces_of (linked classes.now) id }
+    ensures { result.now ≡ interfaces_of classes.now id }
 {
     match classes.get(id.number) {
         Some(class) => class.interfaces.as_slice(),
@@ -25,23 +24,17 @@ pub(crate) fn interfaces(classes: &[Class], id: ClassId) -> &[ClassId]
 }
 
 /// Adds the enumeration of an interface, each once: what was found before is left out.
-fn enumerate(
-    classes: &[Class],
-    depth: usize,
-    id: ClassId,
-    found: &mut ClassSet,
-) -> Result<(), AllocError>
-    requires acyclic { IsAcyclic (linked classes.now) }
-    requires within { IsWithin depth (linked classes.now) id }
-    requires closed { IsClosed (linked classes.now) found.old }
-    ensures found { OnOk result (found.new ≡ add_all found.old (enumeration (linked classes.now) id)) }
-    ensures closed { OnOk result (IsClosed (linked classes.now) found.new) }
+fn enumerate(classes: &[Class], id: ClassId, found: &mut ClassSet) -> Result<(), AllocError>
+    requires acyclic { IsAcyclic classes.now }
+    requires closed { IsClosed classes.now found.old }
+    ensures found { OnOk result (found.new ≡ add_all found.old (enumeration classes.now id)) }
+    ensures closed { OnOk result (IsClosed classes.now found.new) }
 {
     if found.contains(id) {
         return Ok(());
     }
     for interface in interfaces(classes, id) {
-        enumerate(classes, depth - 1, *interface, found)?;
+        enumerate(classes, *interface, found)?;
     }
     found.add(id)?;
     Ok(())
@@ -50,14 +43,13 @@ fn enumerate(
 /// Adds the enumeration of each direct superinterface of a class.
 fn enumerate_all(classes: &[Class], id: ClassId, found: &mut ClassSet) -> Result<(), AllocError>
     requires few { length classes.now ≤ 1024 }
-    requires acyclic { IsAcyclic (linked classes.now) }
-    requires closed { IsClosed (linked classes.now) found.old }
-    ensures found { OnOk result (found.new ≡ add_all found.old (enumeration_of_all (linked classes.now) id)) }
-    ensures closed { OnOk result (IsClosed (linked classes.now) found.new) }
+    requires acyclic { IsAcyclic classes.now }
+    requires closed { IsClosed classes.now found.old }
+    ensures found { OnOk result (found.new ≡ add_all found.old (enumeration_of_all classes.now id)) }
+    ensures closed { OnOk result (IsClosed classes.now found.new) }
 {
-    let depth = classes.len() + 66;
     for interface in interfaces(classes, id) {
-        enumerate(classes, depth, *interface, found)?;
+        enumerate(classes, *interface, found)?;
     }
     Ok(())
 }
@@ -65,8 +57,8 @@ fn enumerate_all(classes: &[Class], id: ClassId, found: &mut ClassSet) -> Result
 /// The superinterfaces that a class implements by itself, each once.
 fn superinterfaces(alloc: Global, classes: &[Class], id: ClassId) -> Result<ClassSet, AllocError>
     requires few { length classes.now ≤ 1024 }
-    requires acyclic { IsAcyclic (linked classes.now) }
-    ensures { IfOk result (λ found. found ≡ superinterfaces_of (linked classes.now) id) }
+    requires acyclic { IsAcyclic classes.now }
+    ensures { IfOk result (λ found. found ≡ superinterfaces_of classes.now id) }
 {
     let mut found = ClassSet::new(alloc);
     enumerate_all(classes, id, &mut found)?;
@@ -79,8 +71,8 @@ pub(crate) fn all_superinterfaces(
     classes: &[Class],
 ) -> Result<Vec<ClassSet>, AllocError>
     requires few { length classes.now ≤ 1024 }
-    requires acyclic { IsAcyclic (linked classes.now) }
-    ensures { IfOk result (λ all. IsTable (superinterfaces_of (linked classes.now)) (length classes.now) all.items) }
+    requires acyclic { IsAcyclic classes.now }
+    ensures { IfOk result (λ all. IsTable (superinterfaces_of classes.now) (length classes.now) all.items) }
 {
     let mut all = Vec::new(alloc);
     for number in 0..classes.len() {
@@ -90,22 +82,16 @@ pub(crate) fn all_superinterfaces(
 }
 
 /// Adds the superinterfaces of a class and then of its superclasses.
-fn enumerate_upward(
-    classes: &[Class],
-    depth: usize,
-    id: ClassId,
-    found: &mut ClassSet,
-) -> Result<(), AllocError>
+fn enumerate_upward(classes: &[Class], id: ClassId, found: &mut ClassSet) -> Result<(), AllocError>
     requires few { length classes.now ≤ 1024 }
-    requires acyclic { IsAcyclic (linked classes.now) }
-    requires within { IsWithin depth (linked classes.now) id }
-    requires closed { IsClosed (linked classes.now) found.old }
-    ensures { OnOk result (found.new ≡ add_all found.old (flat_map (enumeration_of_all (linked classes.now)) (superclasses (linked classes.now) id))) }
+    requires acyclic { IsAcyclic classes.now }
+    requires closed { IsClosed classes.now found.old }
+    ensures { OnOk result (found.new ≡ add_all found.old (flat_map (enumeration_of_all classes.now) (superclasses classes.now id))) }
 {
     enumerate_all(classes, id, found)?;
     match superclass(classes, id) {
         Some(superclass) => {
-            enumerate_upward(classes, depth - 1, superclass, found)?;
+            enumerate_upward(classes, superclass, found)?;
             Ok(())
         }
         None => Ok(()),
@@ -115,20 +101,19 @@ fn enumerate_upward(
 /// The superinterfaces of a class, direct and indirect, each once.
 fn inherited(alloc: Global, classes: &[Class], id: ClassId) -> Result<ClassSet, AllocError>
     requires few { length classes.now ≤ 1024 }
-    requires acyclic { IsAcyclic (linked classes.now) }
-    ensures { IfOk result (λ found. found ≡ inherited_by (linked classes.now) id) }
+    requires acyclic { IsAcyclic classes.now }
+    ensures { IfOk result (λ found. found ≡ inherited_by classes.now id) }
 {
-    let depth = classes.len() + 66;
     let mut found = ClassSet::new(alloc);
-    enumerate_upward(classes, depth, id, &mut found)?;
+    enumerate_upward(classes, id, &mut found)?;
     Ok(found)
 }
 
 /// The superinterfaces of each class, direct and indirect, in file order.
 pub(crate) fn all_inherited(alloc: Global, classes: &[Class]) -> Result<Vec<ClassSet>, AllocError>
     requires few { length classes.now ≤ 1024 }
-    requires acyclic { IsAcyclic (linked classes.now) }
-    ensures { IfOk result (λ all. IsTable (inherited_by (linked classes.now)) (length classes.now) all.items) }
+    requires acyclic { IsAcyclic classes.now }
+    ensures { IfOk result (λ all. IsTable (inherited_by classes.now) (length classes.now) all.items) }
 {
     let mut all = Vec::new(alloc);
     for number in 0..classes.len() {

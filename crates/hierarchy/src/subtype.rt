@@ -1,7 +1,7 @@
 //! Subtypes, which a program looks up among the supertypes that it keeps of each class.
 
 ghost use Rattle.std.specs.Prelude.{◌≡◌, ◌↔◌, ◌≤◌, IsTrue, length, slice_get, option_copied};
-ghost use Rattle.hierarchy.specs.LinkedProgram.{linked, built_in};
+ghost use Rattle.hierarchy.specs.LinkedProgram.{built_in_after};
 ghost use Rattle.hierarchy.specs.Hierarchy.{Reaches};
 ghost use Rattle.hierarchy.specs.Searched.{HasSupertypes};
 
@@ -12,7 +12,7 @@ use crate::class_set::ClassSet;
 /// Whether a built-in class is a proper subclass of another class. There are at most six steps up.
 fn is_built_in_below(classes: &[Class], class: BuiltIn, other: ClassId) -> bool
     requires { length classes.now ≤ 1024 }
-    ensures { IsTrue result ↔ Reaches (linked classes.now) (built_in (linked classes.now) class) other }
+    ensures { IsTrue result ↔ Reaches classes.now (built_in_after classes.now class) other }
 {
     match class.superclass() {
         None => false,
@@ -41,8 +41,8 @@ pub(crate) fn is_below(
     other: ClassId,
 ) -> bool
     requires few { length classes.now ≤ 1024 }
-    requires supertypes { HasSupertypes (linked classes.now) (length classes.now) supertypes.now }
-    ensures { IsTrue result ↔ Reaches (linked classes.now) id other }
+    requires supertypes { HasSupertypes classes.now (length classes.now) supertypes.now }
+    ensures { IsTrue result ↔ Reaches classes.now id other }
 {
     match list_at(supertypes, id.number) {
         Some(found) => found.contains(other),

@@ -2,11 +2,11 @@
 
 ghost use Rattle.std.specs.Prelude.{◌≡◌, ℕ, ◌≤◌, ◌<◌, [], OnOk, IfOk, length, slice_get, vec_len, Some};
 ghost use Rattle.hierarchy.specs.ClassLists.{add_all};
-ghost use Rattle.hierarchy.specs.LinkedProgram.{linked, id as id_of};
+ghost use Rattle.hierarchy.specs.LinkedProgram.{id as id_of};
 ghost use Rattle.hierarchy.specs.Hierarchy.{IsAcyclic, IsInRange, AreSupertypes, IsFirstCyclic, supers};
 ghost use Rattle.hierarchy.specs.Searched.{HasSupertypes, SearchOf};
 
-use crate::built_in::BuiltIn;
+use crate::built_in::{BUILT_IN_COUNT, BuiltIn};
 use crate::class::{Class, ClassId};
 use crate::class_set::ClassSet;
 use std::alloc::{AllocError, Global};
@@ -25,7 +25,7 @@ fn add_each(ids: &[ClassId], found: &mut ClassSet) -> Result<(), AllocError>
 /// Adds the direct supertypes of a class.
 fn add_supers(classes: &[Class], id: ClassId, found: &mut ClassSet) -> Result<(), AllocError>
     requires { length classes.now ≤ 1024 }
-    ensures { OnOk result (found.new ≡ add_all found.old (supers (linked classes.now) id)) }
+    ensures { OnOk result (found.new ≡ add_all found.old (supers classes.now id)) }
 {
     match classes.get(id.number) {
         Some(class) => {
@@ -51,12 +51,12 @@ fn add_supers(classes: &[Class], id: ClassId, found: &mut ClassSet) -> Result<()
 /// All supertypes of a class.
 fn supertypes(alloc: Global, classes: &[Class], id: ClassId) -> Result<ClassSet, AllocError>
     requires few { length classes.now ≤ 1024 }
-    requires in_range { IsInRange (linked classes.now) }
-    ensures { IfOk result (λ found. AreSupertypes (linked classes.now) id found) }
+    requires in_range { IsInRange classes.now }
+    ensures { IfOk result (λ found. AreSupertypes classes.now id found) }
 {
     let mut found = ClassSet::new(alloc);
     add_supers(classes, id, &mut found)?;
-    for place in 0..classes.len() + 32 {
+    for place in 0..classes.len() + BUILT_IN_COUNT {
         let Some(next) = found.at(place) else {
             break;
         };
@@ -79,8 +79,8 @@ pub(crate) enum SearchResult {
 /// The first class in file order that stands on a cycle; else the supertypes of all.
 pub(crate) fn search(alloc: Global, classes: &[Class]) -> Result<SearchResult, AllocError>
     requires few { length classes.now ≤ 1024 }
-    requires in_range { IsInRange (linked classes.now) }
-    ensures { IfOk result (SearchOf (linked classes.now)) }
+    requires in_range { IsInRange classes.now }
+    ensures { IfOk result (SearchOf classes.now) }
 {
     let mut all = Vec::new(alloc);
     for number in 0..classes.len() {

@@ -1,7 +1,6 @@
 //! What a program keeps beside its classes, so that no call goes up the hierarchy by more than one way.
 
 ghost use Rattle.std.specs.Prelude.{◌≡◌, ◌≤◌, [], IfOk, length};
-ghost use Rattle.hierarchy.specs.LinkedProgram.{linked};
 ghost use Rattle.hierarchy.specs.ClassLists.{distinct};
 ghost use Rattle.hierarchy.specs.Fields.{field_order};
 ghost use Rattle.hierarchy.specs.Hierarchy.{IsAcyclic};
@@ -61,10 +60,10 @@ struct Orders {
 
 fn orders_of(alloc: Global, classes: &[Class]) -> Result<Orders, AllocError>
     requires few { length classes.now ≤ 1024 }
-    requires acyclic { IsAcyclic (linked classes.now) }
-    ensures superinterfaces { IfOk result (λ made. IsTable (superinterfaces_of (linked classes.now)) (length classes.now) made.superinterfaces.items) }
-    ensures field_orders { IfOk result (λ made. IsTable (λ c. distinct (field_order (linked classes.now) c)) (length classes.now) made.field_orders.items) }
-    ensures inherited { IfOk result (λ made. IsTable (inherited_of (linked classes.now)) (length classes.now) made.inherited.items) }
+    requires acyclic { IsAcyclic classes.now }
+    ensures superinterfaces { IfOk result (λ made. IsTable (superinterfaces_of classes.now) (length classes.now) made.superinterfaces.items) }
+    ensures field_orders { IfOk result (λ made. IsTable (λ c. distinct (field_order classes.now c)) (length classes.now) made.field_orders.items) }
+    ensures inherited { IfOk result (λ made. IsTable (inherited_of classes.now) (length classes.now) made.inherited.items) }
 {
     let superinterfaces = all_superinterfaces(alloc, classes)?;
     let field_orders = field_orders(alloc, classes)?;
@@ -84,8 +83,8 @@ pub(crate) fn tables_with(
     quoted: Texts,
 ) -> Result<Tables, AllocError>
     requires few { length classes.now ≤ 1024 }
-    requires acyclic { IsAcyclic (linked classes.now) }
-    requires supertypes { HasSupertypes (linked classes.now) (length classes.now) supertypes.items }
+    requires acyclic { IsAcyclic classes.now }
+    requires supertypes { HasSupertypes classes.now (length classes.now) supertypes.items }
     requires quoted { quoted ≡ quoted_texts classes.now }
     requires cells { cells_of classes.now ≤ 1000000 }
     ensures { IfOk result (λ made. AreTables classes.now made) }

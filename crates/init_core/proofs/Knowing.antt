@@ -30,8 +30,9 @@ use Rattle.init_core.specs.ProcedureWord.{free, ProcedureWord, completed, ended_
 use Rattle.init_core.specs.Standing.{Standing}
 use Rattle.init_core.specs.Stands.{begun_in, begun_classes, AreDifferent, NamesFiles, ending_error, ending_error_in, Stands, SeesMore, AreOfOthers}
 use Rattle.init_core.proofs.Bodies.{freely}
-use Rattle.init_core.proofs.InFiles.{needs_in_files}
-use Rattle.init_core.proofs.Labels.{label_after, next_label}
+use Rattle.init_order.proofs.NeedsAbove.{needs_in_files}
+use Rattle.init_core.proofs.Labels.{label_after}
+use Rattle.init_core.specs.ClassState.{next_label}
 use Rattle.init_core.proofs.Leading.{is_answered, is_requested, has_run}
 
 -- ---- what is seen

@@ -1,5 +1,6 @@
 pub mod Lists
 pub mod Logs
+pub mod Merges
 pub mod Spread
 pub mod Entries
 pub mod Steps

@@ -3,3 +3,4 @@ pub mod Rule
 pub mod Steps
 pub mod Known
 pub mod Closing
+pub mod Merging

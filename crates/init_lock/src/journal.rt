@@ -1,5 +1,7 @@
 //! The events that one pass drew, with their stamps.
-ghost use Rattle.std.specs.Prelude.{◌≡◌, ◌+◌, ◌++◌, ◌∷◌, [], ◌<◌, ◌≤◌, ◌^◌, length, IfSome, IfNone, MatchResult, IsTrue, ◌↔◌};
+ghost use Rattle.std.specs.Prelude.{◌≡◌, ℕ, ◌+◌, ◌++◌, ◌∷◌, [], ◌<◌, ◌≤◌, ◌^◌, length, IfOk, IfSome, IfNone, MatchResult, true, false, IsTrue, ◌↔◌};
+ghost use Rattle.init_lock.specs.Log.{AreBelow};
+ghost use Rattle.init_lock.specs.Merging.{EndsAt};
 
 use std::alloc::{AllocError, Global};
 use std::marker::Model;
@@ -93,5 +95,27 @@ impl<E: Drop> Journal<E> {
         ensures room { self.new.room ≡ self.old.room }
     {
         self.events.pop()
+    }
+
+    /// Whether the last event has this stamp.
+    pub(crate) fn ends_at(&self, stamp: Stamp) -> bool
+        ensures yes { result ≡ true → EndsAt stamp self.now }
+        ensures no { result ≡ false → EndsAt stamp self.now → ⊥ }
+    {
+        match self.events.last() {
+            None => false,
+            Some(last) => last.stamp == stamp,
+        }
+    }
+
+    /// The number after the stamp of the last event, 0 where there is none. An `Err` is one above the largest number.
+    pub(crate) fn next_stamp(&self) -> Result<Stamp, AllocError>
+        ensures above { IfOk result (λ next. (stamp : ℕ) → next ≤ stamp → EndsAt stamp self.now → ⊥) }
+        ensures least { IfOk result (λ next. (bound : ℕ) → AreBelow bound self.now.events → next ≤ bound) }
+    {
+        match self.events.last() {
+            None => Ok(0),
+            Some(last) => last.stamp.checked_add(1).ok_or(AllocError),
+        }
     }
 }

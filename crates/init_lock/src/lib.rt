@@ -64,7 +64,8 @@
 //!
 //! Make the table and one pass a thread with [`InitTable::new`]; give each thread its pass and `&InitTable`; `reserve`,
 //! then take, change the record by [`Held::kept`], [`InitTable::draw_held`], [`InitTable::give_back`]; draw events of no
-//! place by [`InitTable::draw`]; at the end hand all passes to `finish`. `src/tests.rt` has small examples.
+//! place by [`InitTable::draw`]; at the end hand all passes to `finish`, and their journals to [`merge`], which makes one
+//! list of them, in the order of the stamps. `src/tests.rt` has small examples.
 //!
 //! A word beside each lock word is kept free in the layout, for places that are settled for good: [`Keeps`] already says
 //! which events settle a place.
@@ -74,6 +75,7 @@ mod draw;
 mod finish;
 mod journal;
 mod keeps;
+mod merging;
 mod open;
 mod pass;
 mod rule;
@@ -87,6 +89,7 @@ mod views;
 pub use finish::Closed;
 pub use journal::{Journal, Stamp, Stamped};
 pub use keeps::Keeps;
+pub use merging::merge;
 pub use pass::{Held, Pass};
 pub use table::InitTable;
 pub use take::GaveUp;

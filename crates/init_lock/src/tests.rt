@@ -4,6 +4,7 @@ ghost use Rattle.init_lock.specs.Known.{seen_at, out_of, IsAway, IsAwayBut, IsSa
 
 use crate::finish::Closed;
 use crate::keeps::Keeps;
+use crate::merging::merge;
 use crate::pass::{Held, Pass};
 use crate::table::InitTable;
 use crate::take::GaveUp;
@@ -155,6 +156,19 @@ fn two_passes(rt: HostRuntime) -> Result<(), Fail> {
     let last = journal.pop().expect(&rt, "the only event");
     assert!(rt; last.stamp == 2 && last.place == Some(0) && last.event == 7);
     assert!(rt; journal.is_empty());
+    Ok(())
+}
+
+#[test]
+fn merges_two_journals(rt: HostRuntime) -> Result<(), Fail> {
+    let (table, mut first, mut second) = two_of_each(rt.alloc(), 4)?;
+    assert!(rt; draw_on(&table, &mut first, 0, 5) == Some(0));
+    assert!(rt; draw_on(&table, &mut second, 0, 7) == Some(1));
+    assert!(rt; table.draw(&mut second, 6) == 2);
+    assert!(rt; table.draw(&mut first, 8) == 3);
+    let closed = finish_both(rt.alloc(), table, first, second)?;
+    let merged = merge(rt.alloc(), closed.journals)?;
+    assert!(rt; merged.as_slice() == [5, 7, 6, 8].as_slice());
     Ok(())
 }
 

@@ -1,8 +1,7 @@
 -- What the initialization of a class needs first (JVMS SE 8 5.5 step 7, JLS SE 8 12.4.2 step 7).
-pub use Rattle.hierarchy.specs.ClassLists.{is_among, add_new}
-pub use Rattle.hierarchy.specs.Hierarchy.{interfaces_in, interfaces_of}
-pub use Rattle.hierarchy.specs.Superinterfaces.{enumeration_within, enumeration}
-use Rattle.std.specs.Prelude.{Bool, false, nat_lt, List, [], ◌∷◌, Option, Some, None, length, if◌then◌else◌}
+use Rattle.hierarchy.specs.ClassLists.{distinct}
+use Rattle.hierarchy.specs.Superinterfaces.{enumeration}
+use Rattle.std.specs.Prelude.{Bool, false, nat_lt, List, [], ◌∷◌, ◌++◌, Option, Some, None, length, filter}
 use Rattle.std.specs.List.{flat_map}
 use Rattle.jasmin_text.specs.declared.class_text.ClassKind.{ClassKind}
 use Rattle.jasmin_text.specs.declared.class_text.ClassKind.TheVariants as kind
@@ -21,19 +20,10 @@ declares_default p c = declares_default_in (class_at p c)
 abbrev pub is_in_file : LinkedProgram → ClassId → Bool
 is_in_file p c = nat_lt c.number (length p.classes)
 
--- the superclass, if it is in a file
-abbrev pub superclass_first : LinkedProgram → ClassId → List ClassId
-superclass_first p superclass = if is_in_file p superclass then superclass ∷ [] else []
-
--- each that passes, once: of repeats the first stands
-abbrev pub add_all : (ClassId → Bool) → List ClassId → List ClassId → List ClassId
-add_all passes found [] = found
-add_all passes found (c ∷ cs) = add_all passes (if passes c then add_new found c else found) cs
-
--- the superclass, then the enumeration of the superinterfaces, of those that declare a non-abstract, non-static
--- method
+-- the superclass, if it is in a file, then the enumeration of the superinterfaces, of those that declare a
+-- non-abstract, non-static method; of repeats the first
 abbrev pub needs_of_class : LinkedProgram → ClassId → List ClassId → List ClassId
-needs_of_class p superclass interfaces = add_all (declares_default p) (superclass_first p superclass) (flat_map (enumeration p) interfaces)
+needs_of_class p superclass interfaces = distinct (filter (is_in_file p) (superclass ∷ []) ++ filter (declares_default p) (flat_map (enumeration p.classes) interfaces))
 
 abbrev pub needs_by : LinkedProgram → Class → ClassKind → List ClassId
 needs_by p class kind.Interface = []

@@ -8,12 +8,12 @@
 //! [`needs`] goes over them once.
 #![tactic(auto)]
 
-ghost use Rattle.std.specs.Prelude.{◌≡◌, ◌++◌, ◌∷◌, [], OnOk, IfOk};
-ghost use Rattle.std.specs.List.{flat_map, filter};
+ghost use Rattle.std.specs.Prelude.{◌≡◌, ◌++◌, ◌∷◌, [], OnOk, IfOk, filter};
+ghost use Rattle.std.specs.List.{flat_map};
 ghost use Rattle.hierarchy.specs.ClassLists.{add_all, distinct};
 ghost use Rattle.hierarchy.specs.Hierarchy.{interfaces_of};
 ghost use Rattle.hierarchy.specs.Superinterfaces.{enumeration};
-ghost use Rattle.init_order.specs.Needs.{needs as needs_of, declares_default, superclass_first as superclass_of, needs_of_class as class_needs};
+ghost use Rattle.init_order.specs.Needs.{needs as needs_of, is_in_file, declares_default, needs_of_class as class_needs};
 ghost use Rattle.jasmin_text.specs.declared.class_text.ClassKind.TheVariants as kind;
 
 use hierarchy::{ClassId, Program};
@@ -54,7 +54,7 @@ fn superclass_first(
     program: &Program,
     superclass: ClassId,
 ) -> Result<IndexSet<ClassId>, AllocError>
-    ensures { IfOk result (λ found. found.keys ≡ superclass_of program.now superclass) }
+    ensures { IfOk result (λ found. found.keys ≡ filter (is_in_file program.now) (superclass ∷ [])) }
 {
     let mut found = IndexSet::new(alloc);
     if superclass.number < program.len() {
@@ -70,7 +70,7 @@ fn needs_of_class(
     id: ClassId,
     superclass: ClassId,
 ) -> Result<Vec<ClassId>, AllocError>
-    ensures { IfOk result (λ found. found.items ≡ class_needs program.now superclass (interfaces_of program.now id)) }
+    ensures { IfOk result (λ found. found.items ≡ class_needs program.now superclass (interfaces_of program.now.classes id)) }
 {
     let mut found = superclass_first(alloc, program, superclass)?;
     add_defaults(program, program.superinterfaces(id), &mut found)?;
@@ -98,7 +98,7 @@ pub fn needs(alloc: Global, program: &Program, id: ClassId) -> Result<Vec<ClassI
 /// in order, and then the interface itself (JVMS SE 8 5.5 step 7: "recurses on I's superinterfaces before
 /// returning I").
 pub fn superinterfaces_come_first(program: &Program, id: ClassId)
-    ensures { enumeration program.now id ≡ flat_map (enumeration program.now) (interfaces_of program.now id) ++ id ∷ [] }
+    ensures { enumeration program.now.classes id ≡ flat_map (enumeration program.now.classes) (interfaces_of program.now.classes id) ++ id ∷ [] }
 {
-    let _classes = program.len();
+    program.is_linked();
 }

@@ -19,7 +19,8 @@ use Rattle.init_core.specs.Label.{label_of}
 use Rattle.init_core.specs.Lawful.{Allows, IsLawful, Holds, HoldsAfter}
 use Rattle.init_core.specs.Interleaving.{of_thread, of_class, is_class, label_at, IsLegal, BeginsLegal}
 use Rattle.init_core.specs.ProcedureWord.{ThreadWord}
-use Rattle.init_core.proofs.Labels.{label_after, next_label, lawful_push}
+use Rattle.init_core.proofs.Labels.{label_after, lawful_push}
+use Rattle.init_core.specs.ClassState.{next_label}
 use Rattle.init_world.specs.LegalSoFar.{EndsItsClass, AreEndings, IsLegalSoFar}
 use Rattle.init_world.proofs.Balanced.{total, total-append, both, mark, ended_by, begun_by, begun, ended, thread_even}
 use Rattle.init_world.proofs.UnderWay.{mine, not_both, none_by, lawful_counted, counted_by_part}

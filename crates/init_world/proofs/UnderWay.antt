@@ -11,7 +11,8 @@ use Rattle.init_core.specs.declared.event.Label.TheVariants.{InProgress}
 use Rattle.init_core.specs.Label.{label_of}
 use Rattle.init_core.specs.Lawful.{Allows}
 use Rattle.init_core.specs.Interleaving.{of_thread, of_class, is_class, label_at}
-use Rattle.init_core.proofs.Labels.{label_after, next_label}
+use Rattle.init_core.proofs.Labels.{label_after}
+use Rattle.init_core.specs.ClassState.{next_label}
 use Rattle.init_world.proofs.Balanced.{total, total-append, both, mark, begun_by, ended_by, begun, ended}
 use Rattle.init_world.proofs.Sound.{Agrees, one_more, no_more, class_is}
 use Rattle.init_world.proofs.Walk.{Laws, agrees, laws_next, thread_cons, thread_skip}

@@ -1,8 +1,7 @@
 use Rattle.hierarchy.specs.ClassLists.{distinct}
-use Rattle.hierarchy.specs.LinkedProgram.{linked}
 use Rattle.hierarchy.specs.Fields.{field_order}
 use Rattle.hierarchy.specs.Superinterfaces.{IsTable}
 use Rattle.hierarchy.proofs.field_order.field_orders.Given as goal
 
 abbrev pub invariant-loop-number : goal.invariant-loop-number
-invariant-loop-number l = IsTable (λ c. distinct (field_order (linked l.fn.classes) c)) l.number l.all.items
+invariant-loop-number l = IsTable (λ c. distinct (field_order l.fn.classes c)) l.number l.all.items

@@ -5,8 +5,8 @@ use Rattle.hierarchy.proofs.laws.members_are_looked_up_upward.Goals as goal
 
 pub returns-clause-fields : goal.returns-clause-fields
 returns-clause-fields c =
-    ancestry-law c.args.program.now (interfaces_first c.args.program.now) (interfaces_first_upward c.args.program.now) c.is_linked.ensures.acyclic c.args.id
+    ancestry-law c.args.program.now.classes (interfaces_first c.args.program.now.classes) (interfaces_first_upward c.args.program.now.classes) c.is_linked.ensures.acyclic c.args.id
 
 pub returns-clause-methods : goal.returns-clause-methods
 returns-clause-methods c =
-    ancestry-law c.args.program.now (superclass_alone c.args.program.now) (superclass_upward c.args.program.now) c.is_linked.ensures.acyclic c.args.id
+    ancestry-law c.args.program.now.classes (superclass_alone c.args.program.now.classes) (superclass_upward c.args.program.now.classes) c.is_linked.ensures.acyclic c.args.id

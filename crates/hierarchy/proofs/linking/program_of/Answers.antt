@@ -1,4 +1,4 @@
-use Rattle.hierarchy.specs.LinkedProgram.{linked, id}
+use Rattle.hierarchy.specs.LinkedProgram.{id}
 use Rattle.hierarchy.proofs.Acyclic.{not_cyclic}
 use Rattle.hierarchy.proofs.ProvedByLinking.{resolved_few, resolved_in_range, resolved_linked}
 use Rattle.hierarchy.proofs.linking.program_of.Goals as goal
@@ -11,8 +11,8 @@ tables_of-requires-clause-in_range c = rw c.deref.ensures.value (resolved_in_ran
 
 pub new-requires-clause-linked : goal.new-requires-clause-linked
 new-requires-clause-linked c =
-    resolved_linked c.args.classes.items c.requires.resolved (λ n. not_cyclic (linked c.args.classes.items) (rw c.deref.ensures.value at c.in-Ok.ensures.acyclic) (id n))
+    resolved_linked c.args.classes.items c.requires.resolved (λ n. not_cyclic c.args.classes.items (rw c.deref.ensures.value at c.in-Ok.ensures.acyclic) (id n))
     (rw c.deref.ensures.value at c.in-Ok.ensures.members) (rw c.deref.ensures.value at c.in-Ok.ensures.heap)
 
 pub returns-in-Ok-clause-cycles : goal.returns-in-Ok-clause-cycles
-returns-in-Ok-clause-cycles c = λ n. not_cyclic (linked c.args.classes.items) (rw c.deref.ensures.value at c.in-Ok.ensures.acyclic) (id n)
+returns-in-Ok-clause-cycles c = λ n. not_cyclic c.args.classes.items (rw c.deref.ensures.value at c.in-Ok.ensures.acyclic) (id n)

@@ -1,9 +1,8 @@
 use Rattle.std.proofs.Common.{refl, sym, arith, ◌∙◌, subst}
 use Rattle.std.proofs.lemmas.List.{take_all}
-use Rattle.hierarchy.specs.LinkedProgram.{linked}
 use Rattle.hierarchy.specs.Superinterfaces.{IsClosed}
-use Rattle.hierarchy.proofs.Walks.{skipped, within_step, within_positive, walked_all}
-use Rattle.hierarchy.proofs.Enumerations.{closed-add_all}
+use Rattle.hierarchy.proofs.Walks.{skipped, interface_there, walked_all}
+use Rattle.hierarchy.proofs.Enumerations.{enumeration-falls, closed-add_all}
 use Rattle.hierarchy.proofs.order.+enumerate.Goals as goal
 
 pub returns-then-contains-clause-found : goal.returns-then-contains-clause-found
@@ -11,14 +10,8 @@ returns-then-contains-clause-found t c = skipped _ _ _ c.requires.acyclic c.requ
 
 pub enumerate-requires : goal.enumerate-requires
 enumerate-requires t c = (
-  omega (arith, within_positive (linked c.args.classes.now) c.args.depth c.args.id c.requires.within, c.decreases),
-  (
-    c.requires.acyclic,
-    (
-      within_step _ c.args.depth c.args.id _ c.loop-interface.interface-index c.requires.within (sym c.interfaces-interface-items.ensures) c.loop-interface-test.true,
-      c.loop-interface.invariant.closed,
-    ),
-  ),
+  omega (arith, enumeration-falls c.args.classes.now c.args.id _ c.requires.acyclic (interface_there c.args.classes.now c.args.id _ c.loop-interface.interface-index (sym c.interfaces-interface-items.ensures) c.loop-interface-test.true), c.decreases),
+  (c.requires.acyclic, c.loop-interface.invariant.closed),
 )
 
 pub returns-clause-found : goal.returns-clause-found
@@ -29,4 +22,4 @@ returns-clause-found t c =
 
 pub returns-clause-closed : goal.returns-clause-closed
 returns-clause-closed t c =
-    subst (IsClosed (linked c.args.classes.now)) (sym (returns-clause-found t c)) (closed-add_all _ c.requires.acyclic _ c.args.id c.requires.closed)
+    subst (IsClosed c.args.classes.now) (sym (returns-clause-found t c)) (closed-add_all _ c.requires.acyclic _ c.args.id c.requires.closed)

@@ -1,15 +1,14 @@
-use Rattle.std.proofs.Common.{◌≡◌, take}
+use Rattle.std.proofs.Common.{◌≡◌, length, take}
 use Rattle.std.specs.List.{flat_map}
-use Rattle.hierarchy.specs.LinkedProgram.{linked}
 use Rattle.hierarchy.specs.ClassLists.{add_all}
 use Rattle.hierarchy.specs.Superinterfaces.{IsClosed, enumeration}
 use Rattle.hierarchy.proofs.order.+enumerate.Given as goal
 
 abbrev pub decreases-enumerate : goal.decreases-enumerate
-decreases-enumerate l = l.depth
+decreases-enumerate l = length (enumeration l.classes.now l.id)
 
 abbrev pub invariant-loop-interface : goal.invariant-loop-interface
 invariant-loop-interface l = record {
-  found : l.found ≡ add_all l.fn.found (flat_map (enumeration (linked l.fn.classes)) (take l.interface-index l.interface-items));
-  closed : IsClosed (linked l.fn.classes) l.found;
+  found : l.found ≡ add_all l.fn.found (flat_map (enumeration l.fn.classes) (take l.interface-index l.interface-items));
+  closed : IsClosed l.fn.classes l.found;
 }

@@ -1,22 +1,21 @@
 use Rattle.std.proofs.Common.{◌∙◌, ◌≤◌, sym, ap, length, arith, option_copied}
-use Rattle.hierarchy.specs.LinkedProgram.{linked}
 use Rattle.hierarchy.proofs.Searches.{length-get_none}
 use Rattle.hierarchy.proofs.Subtypes.{below_stored, below_built_in, below_unknown}
 use Rattle.hierarchy.proofs.subtype.is_below.Goals as goal
 
 pub returns-in-Some : goal.returns-in-Some
 returns-in-Some c =
-    below_stored (linked c.args.classes.now) c.args.id c.args.other c.in-Some.found.now c.contains.result
+    below_stored c.args.classes.now c.args.id c.args.other c.in-Some.found.now c.contains.result
     (c.requires.supertypes.are c.args.id.number c.in-Some.found.now (sym c.list_at.ensures ∙ ap option_copied c.in-Some.is)) c.contains.ensures
 
 pub returns-in-Some-at : goal.returns-in-Some-at
 returns-in-Some-at c =
     let past : length c.args.classes.now ≤ c.args.id.number = omega (arith, length-get_none c.args.supertypes.now c.args.id.number (sym (sym c.list_at.ensures ∙ ap option_copied c.in-None.is)), c.requires.supertypes.count_is) in
-    below_built_in (linked c.args.classes.now) c.args.id c.args.other c.in-Some-at.class c.is_built_in_below.result past
+    below_built_in c.args.classes.now c.args.id c.args.other c.in-Some-at.class c.is_built_in_below.result past
     (sym c.at.ensures ∙ c.in-Some-at.is) c.is_built_in_below.ensures
 
 pub returns-in-None-at : goal.returns-in-None-at
 returns-in-None-at c =
     let past : length c.args.classes.now ≤ c.args.id.number = omega (arith, length-get_none c.args.supertypes.now c.args.id.number (sym (sym c.list_at.ensures ∙ ap option_copied c.in-None.is)), c.requires.supertypes.count_is) in
-    below_unknown (linked c.args.classes.now) c.args.id c.args.other past
+    below_unknown c.args.classes.now c.args.id c.args.other past
     (sym c.at.ensures ∙ c.in-None-at.is)

@@ -1,11 +1,8 @@
-use Rattle.std.proofs.Common.{◌≡◌, ◌-◌}
+use Rattle.std.proofs.Common.{◌≡◌}
 use Rattle.hierarchy.specs.Ancestry.{first_given, superclasses}
-use Rattle.hierarchy.specs.Hierarchy.{IsWithin, height}
 use Rattle.hierarchy.specs.Methods.{counted_method}
+use Rattle.hierarchy.specs.Walking.{left}
 use Rattle.hierarchy.proofs.program.Program.method_of_superclasses.Given as goal
 
-abbrev pub invariant-loop-taken : goal.invariant-loop-taken
-invariant-loop-taken l = record {
-  within : IsWithin (height l.self - l._taken) l.self l.next;
-  same : first_given (counted_method l.self l.counted l.name l.method_type) (superclasses l.self l.next) ≡ first_given (counted_method l.self l.counted l.name l.method_type) (superclasses l.self l.fn.id);
-}
+abbrev pub invariant-loop-next : goal.invariant-loop-next
+invariant-loop-next l = first_given (counted_method l.self l.counted l.name l.method_type) (left l.next-iterator) ≡ first_given (counted_method l.self l.counted l.name l.method_type) (superclasses l.self.classes l.fn.id)

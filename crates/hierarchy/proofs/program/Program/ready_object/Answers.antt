@@ -1,4 +1,4 @@
-use Rattle.std.proofs.Common.{◌≡◌, ◌∙◌, sym, ap, Some, None, slice_get}
+use Rattle.std.proofs.Common.{◌≡◌, ◌∙◌, sym, ap, None, slice_get}
 use Rattle.std.specs.Prelude.{option_copied}
 use Rattle.hierarchy.specs.Objects.{ready_objects}
 use Rattle.hierarchy.proofs.TextReferences.{ready_text, ready_nothing}

@@ -1,8 +1,0 @@
-use Rattle.init_world.proofs.Lone.{IsLone, work_of}
-use Rattle.cli.proofs.ordered.run_alone.Given as goal
-
-abbrev pub invariant-turns : goal.invariant-turns
-invariant-turns l = IsLone l.program l.fn.main l.world
-
-abbrev pub decreases-turns : goal.decreases-turns
-decreases-turns l = work_of l.world

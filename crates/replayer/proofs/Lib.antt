@@ -1,0 +1,5 @@
+pub mod Leading
+pub mod Work
+pub mod Alone
+pub mod Lone
+pub mod OneThread

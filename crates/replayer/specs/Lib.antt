@@ -1,0 +1,3 @@
+pub mod PlainSteps
+pub mod EmptyBodies
+pub mod OrderedRun
