@@ -28,7 +28,7 @@ fn event_of(
     if choice.thread < 2 && makes(alloc, program, &mut run, mains, choice)? {
         if let Some(last) = run.world.len().checked_sub(1) {
             let event = run.world.event(last)?;
-            return Ok(Some(made_of(&event)));
+            return Ok(Some(made_of(&event)?));
         }
     }
     Ok(None)

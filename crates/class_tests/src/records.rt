@@ -1,5 +1,8 @@
 //! One class's record, by one thread and by two.
 
+ghost use Rattle.std.specs.Prelude.{◌<◌};
+ghost use Rattle.init_core.specs.Numbers.{IsInRange};
+
 use crate::programs::program;
 use hierarchy::{ClassId, Program};
 use init_core::{ClassRecord, Decision, Event, Kind, Label, THREADS};
@@ -14,12 +17,20 @@ const CLASS: ClassId = ClassId { number: 0 };
 
 const ERROR: ClassId = ClassId { number: 7 };
 
-fn event(thread: usize, kind: Kind) -> Event {
-    Event {
-        thread,
-        class: Some(CLASS),
-        kind,
-    }
+fn event(thread: usize, kind: Kind) -> Event
+    requires thread { thread < THREADS }
+    requires kind { IsInRange kind }
+{
+    Event::new(thread, CLASS, kind)
+}
+
+/// Whether two events are alike.
+pub(crate) fn alike(one: &Event, other: &Event) -> Result<bool, AllocError> {
+    Ok(
+        one.thread() == other.thread()
+            && one.class() == other.class()
+            && one.kind()? == other.kind()?,
+    )
 }
 
 /// Each thread in turn looks at the class, and finds this.
@@ -72,7 +83,7 @@ pub(crate) fn history(alloc: Global, record: &ClassRecord) -> Result<Vec<Event>,
     Ok(events)
 }
 
-fn kept(rt: &impl Abort, alloc: Global, record: &ClassRecord) -> Result<(), Fail> {
+fn kept(rt: &impl Abort, record: &ClassRecord) -> Result<(), Fail> {
     let events = [
         event(0, Kind::Begins),
         event(0, Kind::Recurs),
@@ -80,7 +91,11 @@ fn kept(rt: &impl Abort, alloc: Global, record: &ClassRecord) -> Result<(), Fail
         event(0, Kind::Completes),
         event(1, Kind::FindsInitialized),
     ];
-    assert!(rt; history(alloc, record)?.as_slice() == events.as_slice());
+    assert_eq!(rt; record.len(), events.len());
+    for (place, event) in events.iter().enumerate() {
+        assert!(rt; place < record.len());
+        assert!(rt; alike(&record.event(place)?, event)?);
+    }
     Ok(())
 }
 
@@ -91,7 +106,7 @@ fn completes_for_all_threads(
 ) -> Result<(), Fail> {
     let mut record = ClassRecord::new(alloc, program, CLASS)?;
     completes(rt, &mut record)?;
-    kept(rt, alloc, &record)
+    kept(rt, &record)
 }
 
 fn fails(rt: &impl Abort, record: &mut ClassRecord, by_super: bool) -> Result<(), Fail> {
@@ -151,12 +166,9 @@ fn records_of_one_class(rt: HostRuntime) -> Result<(), Fail> {
 
 #[test]
 fn events_are_copied(rt: HostRuntime) -> Result<(), Fail> {
-    let printed = Event {
-        thread: 2,
-        class: None,
-        kind: Kind::Prints(Text::copied(rt.alloc(), b"2\n")?),
-    };
-    assert!(rt; printed.clone()? == printed);
-    assert!(rt; event(1, Kind::Fails(ERROR)).clone()? == event(1, Kind::Fails(ERROR)));
+    let printed = Event::print(rt.alloc(), 2, Text::copied(rt.alloc(), b"2\n")?)?;
+    assert!(rt; alike(&printed.clone()?, &printed)?);
+    let failed = event(1, Kind::Fails(ERROR));
+    assert!(rt; alike(&failed.clone()?, &failed)?);
     Ok(())
 }

@@ -229,21 +229,21 @@ pub(crate) fn act_of(kind: &Kind) -> Act {
     }
 }
 
-pub(crate) fn made_of(event: &Event) -> Made {
-    Made {
-        thread: event.thread,
-        class: match event.class {
+pub(crate) fn made_of(event: &Event) -> Result<Made, AllocError> {
+    Ok(Made {
+        thread: event.thread(),
+        class: match event.class() {
             Some(class) => class.number,
             None => 0,
         },
-        act: act_of(&event.kind),
-    }
+        act: act_of(&event.kind()?),
+    })
 }
 
 pub(crate) fn list_of(alloc: Global, events: &[Event]) -> Result<Vec<Made>, AllocError> {
     let mut list = Vec::new(alloc);
     for event in events {
-        list.push(made_of(event))?;
+        list.push(made_of(event)?)?;
     }
     Ok(list)
 }

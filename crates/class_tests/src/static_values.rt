@@ -1,9 +1,11 @@
 //! What static fields hold, by their class's record.
 
+ghost use Rattle.std.specs.Prelude.{◌<◌};
+
 use crate::programs::program;
-use crate::records::history;
+use crate::records::{alike, history};
 use hierarchy::{ClassId, Program, Value};
-use init_core::{ClassRecord, Decision, Event, Kind, Label};
+use init_core::{ClassRecord, Decision, Event, FIELD_PLACES, Kind, Label};
 use std::alloc::Global;
 use std::process::Abort;
 use std::test::Fail;
@@ -27,12 +29,10 @@ const NARROWED: [Value; 4] = [
     Value::Int(0),
 ];
 
-fn get(field: usize, value: Value) -> Event {
-    Event {
-        thread: 0,
-        class: Some(D),
-        kind: Kind::Gets { field, value },
-    }
+fn get(field: usize, value: Value) -> Event
+    requires { field < FIELD_PLACES }
+{
+    Event::new(0, D, Kind::Gets { field, value })
 }
 
 /// Reads a static field, where the thread may.
@@ -103,8 +103,8 @@ fn reads_within_step_7(rt: &impl Abort, record: &mut ClassRecord) -> Result<(), 
         assert_eq!(rt; read(record, place)?, *value);
     }
     assert!(rt; record.len() == 5);
-    assert!(rt; record.event(2)? == get(0, Value::Int(5)));
-    assert!(rt; record.event(4)? == get(1, Value::Int(0)));
+    assert!(rt; alike(&record.event(2)?, &get(0, Value::Int(5)))?);
+    assert!(rt; alike(&record.event(4)?, &get(1, Value::Int(0)))?);
     Ok(())
 }
 

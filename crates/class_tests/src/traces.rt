@@ -1,8 +1,11 @@
 //! Traces by their text.
 
+ghost use Rattle.std.specs.Prelude.{◌<◌};
+ghost use Rattle.init_core.specs.Numbers.{IsInRange};
+
 use crate::programs::program;
 use hierarchy::{BuiltIn, ClassId, Program, Value};
-use init_core::{Event, Kind};
+use init_core::{CLASS_NUMBERS, Event, FIELD_PLACES, Kind, THREADS};
 use sequence::Text;
 use std::alloc::{AllocError, Global};
 use std::process::Abort;
@@ -35,16 +38,17 @@ const USES: &[u8] = b"0 t0 get C b:B -44
 3 t1 print \"a \\\"b\\\"\\n\\u0001\"
 ";
 
-fn event(thread: usize, kind: Kind) -> Event {
-    Event {
-        thread,
-        class: Some(SOLO),
-        kind,
-    }
+fn event(thread: usize, kind: Kind) -> Event
+    requires thread { thread < THREADS }
+    requires kind { IsInRange kind }
+{
+    Event::new(thread, SOLO, kind)
 }
 
 /// A trace with every step, in which classes fail by this error.
-fn steps(alloc: Global, program: &Program, error: ClassId) -> Result<Vec<u8>, AllocError> {
+fn steps(alloc: Global, program: &Program, error: ClassId) -> Result<Vec<u8>, AllocError>
+    requires { error.number < CLASS_NUMBERS }
+{
     let events = [
         event(0, Kind::Begins),
         event(0, Kind::Runs),
@@ -61,25 +65,24 @@ fn steps(alloc: Global, program: &Program, error: ClassId) -> Result<Vec<u8>, Al
 
 fn writes_steps(rt: &impl Abort, alloc: Global, program: &Program) -> Result<(), Fail> {
     let error = program.built_in(BuiltIn::ExceptionInInitializerError);
+    assert!(rt; error.number < CLASS_NUMBERS);
     assert!(rt; steps(alloc, program, error)?.as_slice() == STEPS);
     assert!(rt; write_trace(alloc, program, &[])?.is_empty());
     Ok(())
 }
 
-fn gets(thread: usize, field: usize, value: Value) -> Event {
-    Event {
-        thread,
-        class: Some(C),
-        kind: Kind::Gets { field, value },
-    }
+fn gets(thread: usize, field: usize, value: Value) -> Event
+    requires thread { thread < THREADS }
+    requires field { field < FIELD_PLACES }
+{
+    Event::new(thread, C, Kind::Gets { field, value })
 }
 
-fn puts(thread: usize, field: usize, value: Value) -> Event {
-    Event {
-        thread,
-        class: Some(C),
-        kind: Kind::Puts { field, value },
-    }
+fn puts(thread: usize, field: usize, value: Value) -> Event
+    requires thread { thread < THREADS }
+    requires field { field < FIELD_PLACES }
+{
+    Event::new(thread, C, Kind::Puts { field, value })
 }
 
 /// A trace with reads, a write and a print of this text.
@@ -88,11 +91,7 @@ fn uses(alloc: Global, program: &Program, text: Text) -> Result<Vec<u8>, AllocEr
         gets(0, 0, Value::Int(-44)),
         puts(3, 1, Value::Reference(12)),
         gets(3, 1, Value::Null),
-        Event {
-            thread: 1,
-            class: None,
-            kind: Kind::Prints(text),
-        },
+        Event::print(alloc, 1, text)?,
     ];
     write_trace(alloc, program, &events)
 }

@@ -192,8 +192,8 @@ fn write_line(
 ) -> Result<(), AllocError>
     ensures { OnOk result (out.new.items ≡ out.old.items ++ line program.now number event.now) }
 {
-    write_head(out, number, event.thread)?;
-    write_kind(out, alloc, program, event.class, &event.kind)?;
+    write_head(out, number, event.thread())?;
+    write_kind(out, alloc, program, event.class(), &event.kind()?)?;
     out.extend_from_slice(b"\n")?;
     Ok(())
 }
