@@ -47,7 +47,7 @@ subclass_small p q (below x y) = extends_small p x
 throwable_small : (p : LinkedProgram) (e : ClassId) → IsThrowable p e → IsOfProgram p e
 throwable_small p e is = subclass_small p (built_in_small p Throwable) is
 
-further_below : (p : LinkedProgram) {c d e : ClassId} → IsSubclass p.classes c d → IsSubclass p d e → IsSubclass p c e
+further_below : (p : LinkedProgram) {c d e : ClassId} → IsSubclass p.classes c d → IsSubclass p.classes d e → IsSubclass p.classes c e
 further_below p itself y = y
 further_below p (below x z) y = below x (further_below p z y)
 
