@@ -7,7 +7,7 @@ use Rattle.clap.specs.declared.parser.matches.ArgMatches.TheViews.{out-ArgMatche
 use Rattle.clap.specs.declared.parser.matches.Found.{Found}
 use Rattle.clap.proofs.WalkLemmas.{first_value-rows, raw_values-rows}
 use Rattle.clap.proofs.OnLiterals.{clap_on_literals}
-use Rattle.cli.specs.CommandLine.{command_line, request_by, request_found}
+use Rattle.cli.specs.CommandLine.{bare_line, command_line, file_words, option_named, request_by, request_found, subcommand_named}
 
 pub found_by_rows : (name : Text) (f : Found) → request_found name f ≡ request_by (Some (name, rows_of f))
 found_by_rows name f = rw (first_value-rows f (codes "mains"), first_value-rows f (codes "trace"), raw_values-rows f (codes "files")) refl
@@ -28,11 +28,19 @@ pub entered_by : (m : ArgMatches) (name : Text) (rows : List Row) → Some name 
     → subcommand_rows_of m ≡ Some (name, rows)
 entered_by m name rows n r = entered_is (subcommand_rows_of m) name rows (n ∙ name_in_rows m) r
 
+none_of : (o : Option (Text × List Row)) → None ≡ option_map (λ p. p.0) o → o ≡ None
+none_of None n = refl
+none_of (Some p) n = cc
+
+-- a parse that entered no subcommand
+pub entered_none : (m : ArgMatches) → None ≡ subcommand_name_of m → subcommand_rows_of m ≡ None
+entered_none m n = none_of (subcommand_rows_of m) (n ∙ name_in_rows m)
+
 -- the command line is one of which `clap` tells all
 pub is_told : is_simple command_line ≡ true
-unfolding clap_on_literals
+unfolding clap_on_literals command_line bare_line subcommand_named option_named file_words
 is_told = refl
 
 pub is_told_of_faults : is_simple_and_free command_line ≡ true
-unfolding clap_on_literals
+unfolding clap_on_literals command_line bare_line subcommand_named option_named file_words
 is_told_of_faults = refl

@@ -15,11 +15,6 @@ pub keeps_all : (but : Option (List ℕ)) (known : Option Files) → KeepsAllBut
 keeps_all but None = tt
 keeps_all but (Some files) = λ name other. refl
 
-pub keeps_more : (but : Option (List ℕ)) (before after : Option Files) → KeepsAllBut None before after → KeepsAllBut but before after
-keeps_more but None after kept = tt
-keeps_more but (Some files) None kept = absurd kept
-keeps_more but (Some files) (Some now) kept = λ name other. kept name (no_name name)
-
 pub keeps_then : (but : Option (List ℕ)) (before middle after : Option Files) → KeepsAllBut None before middle → KeepsAllBut but middle after → KeepsAllBut but before after
 keeps_then but None middle after first second = tt
 keeps_then but (Some files) None after first second = absurd first
@@ -37,16 +32,28 @@ short_front most all short =
     let front = length-take (most + 1) all in
     take_all (most + 1) all (omega arith)
 
-pub whole_file : (most : ℕ) (known : Option Files) (name bytes : List ℕ) (c : ClassParts) → FileHolds known name (λ all. bytes ≡ take (most + 1) all)
-    → length bytes ≤ most → Spells (lines_of bytes) c → SpellsClass known name c
-whole_file most None name bytes c front short spells = tt
-whole_file most (Some files) name bytes c front short spells = go (files name) front
+-- what was read of a file that isn't too large is all of it
+pub whole_file : (most : ℕ) (known : Option Files) (name bytes : List ℕ) (P : List ℕ → Type 0) → FileHolds known name (λ all. bytes ≡ take (most + 1) all)
+    → length bytes ≤ most → P bytes → FileHolds known name P
+whole_file most None name bytes P front short holds = tt
+whole_file most (Some files) name bytes P front short holds = go (files name) front
   where
-    go : (o : Option (List ℕ)) → IsSomeAnd o (λ all. bytes ≡ take (most + 1) all) → IsSomeAnd o (λ all. Spells (lines_of all) c)
+    go : (o : Option (List ℕ)) → IsSomeAnd o (λ all. bytes ≡ take (most + 1) all) → IsSomeAnd o P
+    go None is = absurd is
+    go (Some all) is = subst P (is ∙ short_front most all (subst (λ bs. length bs ≤ most) is short)) holds
+
+-- a file of which more was read is too large
+pub large_file : (most : ℕ) (known : Option Files) (name bytes : List ℕ) → FileHolds known name (λ all. bytes ≡ take (most + 1) all)
+    → most < length bytes → FileHolds known name (λ all. most < length all)
+large_file most None name bytes front long = tt
+large_file most (Some files) name bytes front long = go (files name) front
+  where
+    go : (o : Option (List ℕ)) → IsSomeAnd o (λ all. bytes ≡ take (most + 1) all) → IsSomeAnd o (λ all. most < length all)
     go None is = absurd is
     go (Some all) is =
-        let same : bytes ≡ all = is ∙ short_front most all (subst (λ bs. length bs ≤ most) is short) in
-        subst (λ bs. Spells (lines_of bs) c) same spells
+        let cut = length-take (most + 1) all in
+        let more : most < length (take (most + 1) all) = subst (λ bs. most < length bs) is long in
+        omega arith
 
 -- one more place
 all_zip_push : {A B : Type 0} (R : A → B → Type 0) (xs : List A) (ys : List B) (x : A) (y : B) → AllZip R xs ys → R x y → AllZip R (xs ++ x ∷ []) (ys ++ y ∷ [])

@@ -3,7 +3,8 @@ use Rattle.std.specs.Prelude.{List, [], Option, Some, None, codes, if◌then◌e
 use Rattle.std.specs.Str.{bytes_eq}
 use Rattle.clap.specs.Lexer.{usize_max}
 use Rattle.clap.specs.Walk.{texts}
-use Rattle.clap.specs.Words.{App, Row, Rule, Text, all_of, first_of, first_value, matched_of, raw_values, new_app, new_rule, with_rule, with_subcommand}
+use Rattle.clap.specs.Words.{App, Row, Rule, Text, all_of, fault_of, first_of, first_value, matched_of, raw_values, new_app, new_rule, subcommand_of, with_rule, with_subcommand}
+use Rattle.clap.specs.Kinds.{Kinds}
 use Rattle.clap.specs.Simple.{on_top}
 use Rattle.clap.specs.declared.builder.action.ArgAction.TheVariants.{Append}
 use Rattle.clap.specs.declared.parser.matches.Found.{Found}
@@ -11,11 +12,11 @@ use Rattle.cli.specs.declared.words.Asked.{Asked}
 use Rattle.cli.specs.declared.words.Asked.TheVariants as asked
 
 -- an option `--<name>` with one value
-abbrev pub option_named : Text → Rule
+unfoldable pub option_named : Text → Rule
 option_named name = record (new_rule name) { long = Some name; value_names = 1 }
 
 -- the words that are no option: any number of files
-abbrev pub file_words : Rule
+unfoldable pub file_words : Rule
 file_words = record (new_rule (codes "files")) {
   action = Some Append;
   range = Some (record { start_inclusive = 0; end_inclusive = usize_max });
@@ -23,13 +24,16 @@ file_words = record (new_rule (codes "files")) {
 }
 
 -- a subcommand: each has all options
-abbrev pub subcommand_named : Text → App
+unfoldable pub subcommand_named : Text → App
 subcommand_named name = with_rule (with_rule (with_rule (new_app name) (option_named (codes "mains"))) (option_named (codes "trace"))) file_words
 
+-- the command line without its subcommands
+unfoldable pub bare_line : App
+bare_line = on_top (λ s. record s { has_version = true; subcommand_required = true }) (new_app (codes "jinit"))
+
 -- `jinit run` and `jinit needs`, one of which is asked for
-abbrev pub command_line : App
-command_line = with_subcommand (with_subcommand (on_top (λ s. record s { has_version = true; subcommand_required = true }) (new_app (codes "jinit")))
-    (subcommand_named (codes "run")).top) (subcommand_named (codes "needs")).top
+unfoldable pub command_line : App
+command_line = with_subcommand (with_subcommand bare_line (subcommand_named (codes "run")).top) (subcommand_named (codes "needs")).top
 
 -- what is asked for, as texts
 pub data Request : Type 0 where
@@ -55,6 +59,18 @@ request_to name mains trace files = if bytes_eq name (codes "run") then run main
 abbrev pub request_by : Option (Text × List Row) → Request
 request_by (Some (name, rows)) = request_to name (first_of (codes "mains") rows) (first_of (codes "trace") rows) (unwrap_or (all_of (codes "files") rows) [])
 request_by None = unfit
+
+-- the subcommand that `clap` finds in the words, with its rows
+unfoldable pub rows_in : List Text → Option (Text × List Row)
+rows_in words = subcommand_of command_line words
+
+-- what the words ask for
+abbrev pub request_in : List Text → Request
+request_in words = request_by (rows_in words)
+
+-- the kinds of the faults that `clap` finds in the words; none where they are words of the command line
+unfoldable pub faults_in : List Text → Kinds
+faults_in words = fault_of command_line words
 
 -- the same, by what the getters of `clap` read
 abbrev pub files_found : Found → List Text

@@ -5,3 +5,4 @@ pub mod Running
 pub mod Files
 pub mod NeedsText
 pub mod Bodiless
+pub mod ReadRefusals

@@ -1,5 +1,5 @@
 -- Class texts, linked and run.
-use Rattle.std.specs.Prelude.{◌≡◌, ℕ, Bool, List, [], ◌∷◌, Option, Some, None, true, false, if◌then◌else◌, length, nat_eq, nat_lt, option_and_then}
+use Rattle.std.specs.Prelude.{◌≡◌, ℕ, Bool, List, Option, Some, None, true, false, if◌then◌else◌, length, nat_eq, nat_lt, option_and_then}
 use Rattle.std.specs.List.{list_any}
 use Rattle.jasmin_text.specs.declared.class_text.ClassParts.{ClassParts}
 use Rattle.hierarchy.specs.declared.class.ClassId.{ClassId}

@@ -1,15 +1,15 @@
 -- What the program does, where it is known what files hold and what was written to its output.
 use Rattle.std.specs.Prelude.{◌≡◌, ◌⊎◌, ℕ, List, [], Option, None, IfSome}
-use Rattle.std.specs.Io.KnownBytes.{Appends}
-use Rattle.clap.specs.Words.{IsAmong, Text, fault_of, subcommand_of}
+use Rattle.std.specs.Io.KnownBytes.{Appends, Keeps}
+use Rattle.clap.specs.Words.{IsAmong, Text}
 use Rattle.clap.specs.declared.error.kind.ErrorKind.TheVariants.{DisplayHelp, DisplayVersion}
 use Rattle.jasmin_text.specs.declared.class_text.ClassParts.{ClassParts}
 use Rattle.hierarchy.specs.FirstFault.{LinksTo}
 use Rattle.hierarchy.specs.LinkedProgram.{LinkedProgram}
 use Rattle.trace.specs.TraceText.{trace_of}
 use Rattle.trace.specs.declared.report.Report.{Report}
-use Rattle.cli.specs.CommandLine.{Request, command_line, needs, request_by, run, unfit}
-use Rattle.cli.specs.Files.{AreSpelled, FileHolds, Files}
+use Rattle.cli.specs.CommandLine.{Request, faults_in, needs, request_in, run, unfit}
+use Rattle.cli.specs.Files.{AreSpelled, FileHolds, Files, KeepsAllBut}
 use Rattle.cli.specs.NeedsText.{needs_text}
 use Rattle.cli.specs.Running.{IsRunOfNamed}
 
@@ -58,13 +58,15 @@ IsServed before after (run mains trace files) = HasRun before after mains trace 
 IsServed before after (needs files) = HasToldNeeds before after files
 IsServed before after unfit = ⊥
 
-abbrev pub request_in : List Text → Request
-request_in words = request_by (subcommand_of command_line words)
-
 -- the words ask for help or for the version, or they are words of the command line and what they ask for is done
 abbrev pub IsDone : Surroundings → Surroundings → List Text → Type 0
-IsDone before after words = (IsAmong DisplayHelp (fault_of command_line words) ⊎ IsAmong DisplayVersion (fault_of command_line words))
-    ⊎ ((fault_of command_line words ≡ []) × IsServed before after (request_in words))
+IsDone before after words = (IsAmong DisplayHelp (faults_in words) ⊎ IsAmong DisplayVersion (faults_in words))
+    ⊎ ((faults_in words ≡ []) × IsServed before after (request_in words))
+
+-- no file was written, and nothing to the output
+pub record IsUntouched (before after : Surroundings) : Type 0 where
+  pub files : KeepsAllBut None before.files after.files
+  pub output : Keeps before.output after.output
 
 -- the file that a trace is asked into
 abbrev pub trace_in : Request → Option Text

@@ -1,8 +1,11 @@
 //! Files by name.
 
-ghost use Rattle.std.specs.Prelude.{◌≡◌, ◌≤◌, ℕ, List, Option, Some, None, vec_len, take, IfOk, OnOk};
+ghost use Rattle.std.specs.Prelude.{◌≡◌, ◌≤◌, ℕ, List, Option, Some, None, length, vec_len, take, IfErr, IfOk, OnOk};
 ghost use Rattle.clap.specs.Walk.{texts as texts_of};
 ghost use Rattle.cli.specs.Files.{AreSpelled, FileHolds, KeepsAllBut, SpellsClass};
+ghost use Rattle.cli.specs.ReadRefusals.{IsReadRefusal};
+ghost use Rattle.cli.specs.Status.{status_of};
+ghost use Rattle.cli.specs.declared.files.TheConstants.{MOST_BYTES};
 
 use crate::fault::Fault;
 use jasmin_reader::read_class;
@@ -43,13 +46,6 @@ pub trait Named {
         ensures files { KeepsAllBut (Some name.now) (held self.old) (held self.new) };
 }
 
-fn fault_of(fault: NamedFault, name: &str) -> Fault<'_> {
-    match fault {
-        NamedFault::Io => Fault::Io(name),
-        NamedFault::Memory => Fault::Memory,
-    }
-}
-
 /// The class text of a file.
 #[tactic(auto, using(crate::proofs::KnownFiles::keeps_all))]
 fn read_text<'a, N: Named>(
@@ -58,11 +54,14 @@ fn read_text<'a, N: Named>(
     file: &'a str,
 ) -> Result<ClassText, Fault<'a>>
     ensures spelled { IfOk result (SpellsClass (N.held named.old) file.now) }
+    ensures limit { OnOk result (FileHolds (N.held named.old) file.now (λ all. length all ≤ MOST_BYTES)) }
+    ensures refused { IfErr result (IsReadRefusal (N.held named.old) file.now) }
     ensures files { KeepsAllBut None (N.held named.old) (N.held named.new) }
 {
     let bytes = match named.read(alloc, file, MOST_BYTES + 1) {
         Ok(bytes) => bytes,
-        Err(fault) => return Err(fault_of(fault, file)),
+        Err(NamedFault::Io) => return Err(Fault::Io(file)),
+        Err(NamedFault::Memory) => return Err(Fault::Memory),
     };
     if bytes.len() > MOST_BYTES {
         return Err(Fault::Files);
@@ -104,9 +103,11 @@ pub(crate) fn write_named<'a, N: Named>(
 ) -> Result<(), Fault<'a>>
     ensures bytes { OnOk result (FileHolds (N.held named.new) name.now (λ all. all ≡ bytes.now)) }
     ensures files { KeepsAllBut (Some name.now) (N.held named.old) (N.held named.new) }
+    ensures refused { IfErr result (λ f. status_of f ≡ 3) }
 {
     match named.write(name, bytes) {
         Ok(()) => Ok(()),
-        Err(fault) => Err(fault_of(fault, name)),
+        Err(NamedFault::Io) => Err(Fault::Io(name)),
+        Err(NamedFault::Memory) => Err(Fault::Memory),
     }
 }

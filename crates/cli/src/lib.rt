@@ -8,8 +8,6 @@
 pub mod fault;
 pub mod files;
 pub mod needed;
-#[cfg(test)]
-mod ordered_tests;
 pub mod running;
 pub mod serving;
 pub mod words;

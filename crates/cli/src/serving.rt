@@ -1,18 +1,18 @@
 //! The program's body.
 
-ghost use Rattle.std.specs.Prelude.{◌≡◌, ◌⊎◌, None, IfOk, IfSome, OnOk};
+ghost use Rattle.std.specs.Prelude.{◌≡◌, ◌⊎◌, None, IfErr, IfOk, IfSome, OnOk};
 ghost use Rattle.std.specs.Io.KnownBytes.{Appends, Keeps};
 ghost use Rattle.std.specs.Option.{option_map};
 ghost use Rattle.clap.specs.Walk.{texts};
 ghost use Rattle.clap.specs.Words.{kind_of};
 ghost use Rattle.clap.specs.declared.error.kind.ErrorKind.TheVariants.{DisplayHelp, DisplayVersion};
 ghost use Rattle.trace.specs.TraceText.{trace_of};
-ghost use Rattle.cli.specs.CommandLine.{request_of};
+ghost use Rattle.cli.specs.CommandLine.{request_in, request_of};
 ghost use Rattle.cli.specs.Files.{FileHolds, KeepsAllBut};
 ghost use Rattle.cli.specs.NeedsText.{needs_text};
 ghost use Rattle.cli.specs.Running.{IsRunOfNamed};
-ghost use Rattle.cli.specs.Serving.{HasRun, HasToldNeeds, HasWritten, IsDone, IsLinkedFrom, IsServed, around, request_in, trace_in};
-ghost use Rattle.cli.specs.Status.{IsStatus};
+ghost use Rattle.cli.specs.Serving.{HasRun, HasToldNeeds, HasWritten, IsDone, IsLinkedFrom, IsServed, IsUntouched, around, trace_in};
+ghost use Rattle.cli.specs.Status.{IsStatus, status_of};
 
 use crate::fault::Fault;
 use crate::files::{Named, read_texts, write_named};
@@ -28,7 +28,8 @@ use trace::write_trace;
 /// Writes the output, whole.
 #[tactic(auto, using(crate::proofs::KnownOutput::appends_kept))]
 fn write_output<'a, O: io::Write>(out: &mut O, bytes: &[u8]) -> Result<(), Fault<'a>>
-    ensures { OnOk result (Appends (O.contents out.old) (O.contents out.new) bytes.now) }
+    ensures output { OnOk result (Appends (O.contents out.old) (O.contents out.new) bytes.now) }
+    ensures refused { IfErr result (λ f. status_of f ≡ 3) }
 {
     if out.write_all(bytes).is_err() || out.flush().is_err() {
         return Err(Fault::Output);
@@ -46,6 +47,7 @@ fn write_traced<'a, N: Named>(
     ensures traced { OnOk result (IfSome (option_map (λ s. s.now) trace.entry) (λ name.
         FileHolds (N.held named.new) name (λ bytes. bytes ≡ trace_of ran.now.program ran.now.report.events))) }
     ensures files { KeepsAllBut (option_map (λ s. s.now) trace.entry) (N.held named.old) (N.held named.new) }
+    ensures refused { IfErr result (λ f. status_of f ≡ 3) }
 {
     let Some(name) = trace else {
         return Ok(());
@@ -81,6 +83,7 @@ fn write_run<'a, N: Named, O: io::Write>(
     ensures written { OnOk result (HasWritten (around (N.held named.old) (O.contents out.old)) (around (N.held named.new) (O.contents out.new))
         (option_map (λ s. s.now) trace.entry) ran.now.program ran.now.report) }
     ensures files { KeepsAllBut (option_map (λ s. s.now) trace.entry) (N.held named.old) (N.held named.new) }
+    ensures refused { IfErr result (λ f. status_of f ≡ 3) }
 {
     write_output(out, ran.report.output.as_slice())?;
     write_traced(alloc, ran, trace, named)
@@ -96,6 +99,7 @@ fn run<'a, N: Named, O: io::Write>(
     ensures files { KeepsAllBut (option_map (λ s. s.now) run.now.trace) (N.held named.old) (N.held named.new) }
     ensures ran { OnOk result (HasRun (around (N.held named.old) (O.contents out.old)) (around (N.held named.new) (O.contents out.new))
         (option_map (λ s. s.now) run.now.mains) (option_map (λ s. s.now) run.now.trace) (texts run.now.files.items)) }
+    ensures untouched { IfErr result (λ f. status_of f ≡ 2 → IsUntouched (around (N.held named.old) (O.contents out.old)) (around (N.held named.new) (O.contents out.new))) }
 {
     let ran = match run_files(alloc, &run.files, run.mains, named) {
         Ok(ran) => ran,
@@ -124,7 +128,8 @@ fn write_needed<'a, O: io::Write>(
     program: &Program,
     out: &mut O,
 ) -> Result<(), Fault<'a>>
-    ensures { OnOk result (Appends (O.contents out.old) (O.contents out.new) (needs_text program.now)) }
+    ensures output { OnOk result (Appends (O.contents out.old) (O.contents out.new) (needs_text program.now)) }
+    ensures refused { IfErr result (λ f. status_of f ≡ 3) }
 {
     let text = write_needs(alloc, program)?;
     write_output(out, &text)
@@ -139,6 +144,7 @@ fn tell_needs<'a, N: Named, O: io::Write>(
 ) -> Result<(), Fault<'a>>
     ensures files { KeepsAllBut None (N.held named.old) (N.held named.new) }
     ensures told { OnOk result (HasToldNeeds (around (N.held named.old) (O.contents out.old)) (around (N.held named.new) (O.contents out.new)) (texts files.now)) }
+    ensures untouched { IfErr result (λ f. status_of f ≡ 2 → IsUntouched (around (N.held named.old) (O.contents out.old)) (around (N.held named.new) (O.contents out.new))) }
 {
     let program = match link_files(alloc, files, named) {
         Ok(program) => program,
@@ -156,6 +162,7 @@ fn answer<'a, N: Named, O: io::Write>(
 ) -> Result<(), Fault<'a>>
     ensures files { KeepsAllBut (trace_in (request_of asked.now)) (N.held named.old) (N.held named.new) }
     ensures served { OnOk result (IsServed (around (N.held named.old) (O.contents out.old)) (around (N.held named.new) (O.contents out.new)) (request_of asked.now)) }
+    ensures untouched { IfErr result (λ f. status_of f ≡ 2 → IsUntouched (around (N.held named.old) (O.contents out.old)) (around (N.held named.new) (O.contents out.new))) }
 {
     match asked {
         Asked::Run(words) => run(alloc, words, named, out),
@@ -169,6 +176,7 @@ fn tell_words<O: io::Write, E: io::Write>(error: &clap::Error, out: &mut O, err:
     ensures status { IsStatus result }
     ensures shown { result ≡ 0 → (kind_of error.now ≡ DisplayHelp) ⊎ (kind_of error.now ≡ DisplayVersion) }
     ensures quiet { result ≡ 0 → Keeps (E.contents err.old) (E.contents err.new) }
+    ensures untouched { result ≡ 2 → Keeps (O.contents out.old) (O.contents out.new) }
 {
     match error.kind() {
         ErrorKind::OutOfMemory => {
@@ -200,6 +208,7 @@ fn answer_or_tell<N: Named, O: io::Write, E: io::Write>(
     ensures status { IsStatus result }
     ensures served { result ≡ 0 → IsServed (around (N.held named.old) (O.contents out.old)) (around (N.held named.new) (O.contents out.new)) (request_of asked.now) }
     ensures quiet { result ≡ 0 → Keeps (E.contents err.old) (E.contents err.new) }
+    ensures untouched { result ≡ 2 → IsUntouched (around (N.held named.old) (O.contents out.old)) (around (N.held named.new) (O.contents out.new)) }
     ensures files { KeepsAllBut (trace_in (request_of asked.now)) (N.held named.old) (N.held named.new) }
 {
     match answer(alloc, asked, named, out) {
@@ -220,7 +229,7 @@ fn answer_or_tell<N: Named, O: io::Write, E: io::Write>(
 /// written then.
 ///
 /// At status 0 what the words ask for is done, or they ask for help or the version, and nothing is written to `err`.
-/// At every status all files but the trace are as they were. What files hold is said where that is known
+/// At status 2 no file is written, and nothing to `out`. At every status all files but the trace are as they were. What files hold is said where that is known
 /// (`Named::held`), and so is what was written to the output (`Write::contents`).
 pub fn serve<N: Named, O: io::Write, E: io::Write>(
     alloc: Global,
@@ -233,6 +242,7 @@ pub fn serve<N: Named, O: io::Write, E: io::Write>(
     ensures done { result ≡ 0 → IsDone (around (N.held named.old) (O.contents out.old)) (around (N.held named.new) (O.contents out.new))
         (texts words.entry.now) }
     ensures quiet { result ≡ 0 → Keeps (E.contents err.old) (E.contents err.new) }
+    ensures untouched { result ≡ 2 → IsUntouched (around (N.held named.old) (O.contents out.old)) (around (N.held named.new) (O.contents out.new)) }
     ensures files { KeepsAllBut (trace_in (request_in (texts words.entry.now))) (N.held named.old) (N.held named.new) }
 {
     match parse(alloc, words) {

@@ -1,11 +1,10 @@
 //! The words of the command line.
 
-ghost use Rattle.std.specs.Prelude.{◌≡◌, IfOk, codes, false, true};
-ghost use Rattle.clap.specs.Simple.{on_top};
+ghost use Rattle.std.specs.Prelude.{◌≡◌, IfOk, false};
 ghost use Rattle.clap.specs.Walk.{texts};
-ghost use Rattle.clap.specs.Words.{FailsBy, app_of, fault_of, found_of, new_app, rule_of, subcommand_of, with_rule, with_subcommand};
+ghost use Rattle.clap.specs.Words.{FailsBy, app_of, found_of, rule_of, subcommand_rows_of, with_rule, with_subcommand};
 ghost use Rattle.clap.specs.declared.builder.command.Command.TheViews.{out-Command as fields_of};
-ghost use Rattle.cli.specs.CommandLine.{command_line, file_words, files_found, option_named, request_by, request_found, request_of, subcommand_named};
+ghost use Rattle.cli.specs.CommandLine.{bare_line, command_line, faults_in, file_words, files_found, option_named, request_found, request_in, request_of, rows_in, subcommand_named};
 
 use clap::{Arg, ArgAction, ArgMatches, Command, Error};
 use std::alloc::{AllocError, Global};
@@ -33,6 +32,7 @@ pub enum Asked<'a> {
 }
 
 /// An option with one value: its name, and for the help the name of the value, a line, and whether it is hidden.
+#[tactic(auto, unfolding(crate::specs::CommandLine::option_named))]
 fn option<'a>(
     alloc: Global,
     name: &'a str,
@@ -50,6 +50,7 @@ fn option<'a>(
         .hide(is_hidden)
 }
 
+#[tactic(auto, unfolding(crate::specs::CommandLine::file_words))]
 fn files_argument<'a>(alloc: Global) -> Arg<'a>
     ensures rule { rule_of result ≡ file_words }
     ensures local { result.global ≡ false }
@@ -71,6 +72,7 @@ fn with_argument<'a>(command: Command<'a>, argument: Arg<'a>) -> Result<Command<
 }
 
 /// A subcommand. It knows the options of the others too, but shows only those that it takes.
+#[tactic(auto, unfolding(crate::specs::CommandLine::subcommand_named))]
 fn subcommand<'a>(
     alloc: Global,
     name: &'a str,
@@ -90,8 +92,9 @@ fn subcommand<'a>(
 }
 
 /// The program's command line without its subcommands.
+#[tactic(auto, unfolding(crate::specs::CommandLine::bare_line))]
 fn bare_command<'a>(alloc: Global) -> Command<'a>
-    ensures { app_of result ≡ on_top (λ s. record s { has_version = true; subcommand_required = true }) (new_app (codes "jinit")) }
+    ensures { app_of result ≡ bare_line }
 {
     Command::new(alloc, "jinit")
         .about("Initializes Java classes as JLS SE 8 12.4.2 demands, and tells each step")
@@ -111,6 +114,7 @@ fn with_command<'a>(
 }
 
 /// The program's command line.
+#[tactic(auto, unfolding(crate::specs::CommandLine::command_line))]
 fn command<'a>(alloc: Global) -> Result<Command<'a>, AllocError>
     ensures { IfOk result (λ c. app_of c ≡ command_line) }
 {
@@ -155,6 +159,14 @@ fn asked_of<'a>(
     Ok(Asked::Unfit)
 }
 
+/// What `clap` finds in the words.
+fn matches_of<'a>(alloc: Global, words: &'a [&'a str]) -> Result<ArgMatches<'a>, Error>
+    ensures found { IfOk result (λ m. subcommand_rows_of m ≡ rows_in (texts words.entry.now)) }
+    ensures fails { FailsBy (faults_in (texts words.entry.now)) result }
+{
+    command(alloc)?.try_get_matches_from(words)
+}
+
 /// What the words ask for; the first word is the program's name.
 ///
 /// Subcommand, options and files are those that `clap` finds in the words: `run` and `needs` with any number of files, and
@@ -165,10 +177,10 @@ fn asked_of<'a>(
 /// The words are no words of that command line, or ask for help or the version: the error's text says which, and
 /// its kind is the one that `clap` gives. Want of memory is a kind of its own there.
 pub fn parse<'a>(alloc: Global, words: &'a [&'a str]) -> Result<Asked<'a>, Error>
-    ensures asked { IfOk result (λ asked. request_of asked ≡ request_by (subcommand_of command_line (texts words.entry.now))) }
-    ensures fails { FailsBy (fault_of command_line (texts words.entry.now)) result }
+    ensures asked { IfOk result (λ asked. request_of asked ≡ request_in (texts words.entry.now)) }
+    ensures fails { FailsBy (faults_in (texts words.entry.now)) result }
 {
-    let matches = command(alloc)?.try_get_matches_from(words)?;
+    let matches = matches_of(alloc, words)?;
     match matches.subcommand() {
         Some((name, found)) => Ok(asked_of(alloc, name, found)?),
         None => Ok(Asked::Unfit),

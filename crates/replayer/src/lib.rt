@@ -5,5 +5,7 @@
 #![tactic(auto)]
 
 pub mod ordered;
+#[cfg(test)]
+mod tests;
 
 pub use ordered::run_ordered;

@@ -1,7 +1,7 @@
 use Rattle.std.proofs.Common.{rules, ◌≡◌, refl, subst, inl, inr, ℕ, List, [], ◌∷◌, Option, Some, None, codes, if◌then◌else◌}
 use Rattle.std.specs.Str.{bytes_eq}
 use Rattle.clap.specs.Walk.{texts}
-use Rattle.clap.specs.Words.{IsAmong, Text, fault_of}
+use Rattle.clap.specs.Words.{IsAmong, Text}
 use Rattle.clap.specs.declared.error.kind.ErrorKind.TheVariants.{DisplayHelp, DisplayVersion}
 use Rattle.clap.proofs.OnLiterals.{clap_on_literals}
 use Rattle.jasmin_text.specs.Grammar.{Spells}
@@ -11,21 +11,21 @@ use Rattle.hierarchy.specs.FirstFault.{LinksTo}
 use Rattle.hierarchy.specs.LinkedProgram.{LinkedProgram}
 use Rattle.trace.specs.TraceText.{trace_of}
 use Rattle.trace.specs.declared.report.Report.{Report}
-use Rattle.cli.specs.CommandLine.{command_line, run}
+use Rattle.cli.specs.CommandLine.{bare_line, command_line, faults_in, file_words, option_named, request_in, rows_in, run, subcommand_named}
 use Rattle.cli.specs.Files.{AreSpelled, Files}
 use Rattle.cli.specs.Running.{IsRunOfNamed}
-use Rattle.cli.specs.Serving.{HasRun, IsDone, IsServed, Surroundings, around, request_in}
+use Rattle.cli.specs.Serving.{HasRun, IsDone, IsServed, Surroundings, around}
 use Rattle.cli.proofs.sheet_tests.trace_the_sheet.Goals as goal
 
 abbrev words : List Text
 words = codes "jinit" ∷ codes "run" ∷ codes "--mains" ∷ codes "Solo" ∷ codes "--trace" ∷ codes "sheet" ∷ codes "sheet" ∷ []
 
 asked : request_in words ≡ run (Some (codes "Solo")) (Some (codes "sheet")) (codes "sheet" ∷ [])
-unfolding clap_on_literals
+unfolding clap_on_literals rows_in faults_in command_line bare_line subcommand_named option_named file_words
 asked = refl
 
-no_fault : fault_of command_line words ≡ []
-unfolding clap_on_literals
+no_fault : faults_in words ≡ []
+unfolding clap_on_literals rows_in faults_in command_line bare_line subcommand_named option_named file_words
 no_fault = refl
 
 run_done : (before after : Surroundings) (ws : List Text) → ws ≡ words → IsDone before after ws → HasRun before after (Some (codes "Solo")) (Some (codes "sheet")) (codes "sheet" ∷ [])
