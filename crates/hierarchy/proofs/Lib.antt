@@ -3,6 +3,7 @@ pub mod Ancestries
 pub mod BuiltIns
 pub mod ClassMembership
 pub mod ClassNames
+pub mod ClassSets
 pub mod Counts
 pub mod DistinctMembers
 pub mod EmptyProgram

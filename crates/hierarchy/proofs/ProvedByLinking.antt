@@ -13,22 +13,11 @@ use Rattle.hierarchy.specs.Linking.{names_of, kinds_of}
 use Rattle.hierarchy.specs.FirstFault.{HasNoCycle, HasDistinctMembers, FitsHeap}
 use Rattle.hierarchy.specs.SpellableClass.{IsSpellableClass}
 use Rattle.hierarchy.specs.LinkedTexts.{IsResolved, IsLinked}
+use Rattle.hierarchy.proofs.ClassSets.{distinct_pushed}
 use Rattle.hierarchy.proofs.ClassMembership.{among_from_true}
 use Rattle.hierarchy.proofs.Searches.{Searches, searches_none, searches_more, searches_all, searched_through, length-get_none}
 use Rattle.hierarchy.proofs.Acyclic.{IsClear, acyclic_all}
 use Rattle.hierarchy.proofs.InRange.{as_many, in_range_all, spellable_all}
-
-none_pushed : (y : ClassId) (xs : List ClassId) (x : ClassId) → AllByRecursion (λ z. same_class y z ≡ false) xs → same_class y x ≡ false → AllByRecursion (λ z. same_class y z ≡ false) (xs ++ x ∷ [])
-none_pushed y [] x a e = (e, tt)
-none_pushed y (z ∷ xs) x a e = (a.0, none_pushed y xs x a.1 e)
-
-distinct_pushed : (xs : List ClassId) (x : ClassId) → IsDistinct same_class xs → list_any (same_class x) xs ≡ false → IsDistinct same_class (xs ++ x ∷ [])
-unfolding IsDistinct
-distinct_pushed [] x d e = (tt, tt)
-distinct_pushed (y ∷ ys) x d e = elim (cases_Bool (same_class x y)) [
-  | inl t ↦ let q = rw t at e in cc
-  | inr f ↦ (none_pushed y ys x d.0 (nat_eq_equiv.symm y.number x.number ∙ f), distinct_pushed ys x d.1 (rw f at e))
-]
 
 add_new-distinct : (xs : List ClassId) (x : ClassId) → IsDistinct same_class xs → IsDistinct same_class (add_new xs x)
 add_new-distinct xs x d = elim (cases_Bool (list_any (same_class x) xs)) [ inl e ↦ rw e d | inr e ↦ rw e (distinct_pushed xs x d e) ]

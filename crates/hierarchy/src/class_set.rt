@@ -1,31 +1,36 @@
 //! Sets of classes in the order in which they were found.
 
-ghost use Rattle.std.specs.Prelude.{◌≡◌, ◌<◌, ℕ, [], IfOk, OnOk, OnErr, length, slice_get, option_copied};
+ghost use Rattle.std.specs.Prelude.{◌≡◌, ◌<◌, ℕ, [], false, IfOk, OnOk, OnErr, length, slice_get, slice_index_or, option_copied};
 ghost use Rattle.std.specs.List.{IsDistinct};
 ghost use Rattle.hierarchy.specs.ClassLists.{is_among, add_new, same_class};
 
 use crate::class::ClassId;
-use indexmap::IndexSet;
 use std::alloc::{AllocError, Global};
 use std::marker::Model;
 
 /// Classes in the order in which they were found, each once.
 #[derive(Debug, Drop)]
 pub(crate) struct ClassSet {
-    ids: IndexSet<ClassId>,
+    ids: Vec<ClassId>,
+    /// Whether the class of each number is there; those past the end are not.
+    marks: Vec<bool>,
 }
 
 impl Model for ClassSet {
-    ghost use Rattle.std.specs.Prelude.{List};
+    ghost use Rattle.std.specs.Prelude.{◌≡◌, ℕ, List, false, slice_index_or};
     ghost use Rattle.std.specs.List.{IsDistinct};
-    ghost use Rattle.hierarchy.specs.ClassLists.{same_class};
+    ghost use Rattle.hierarchy.specs.ClassLists.{is_among, same_class};
+    ghost use Rattle.hierarchy.specs.LinkedProgram.{id};
     ghost use Rattle.hierarchy.specs.declared.class.ClassId.{ClassId};
 
     ghost Value = { List ClassId };
 
-    ghost view = { λ s. s.ids.keys };
+    ghost view = { λ s. s.ids.items };
 
-    ghost invariant = { λ s. IsDistinct same_class s.ids.keys };
+    ghost invariant = { λ s. record {
+      once : IsDistinct same_class s.ids.items;
+      marked : (n : ℕ) → slice_index_or s.marks.items n false ≡ is_among (id n) s.ids.items;
+    } };
 }
 
 impl ClassSet {
@@ -34,7 +39,8 @@ impl ClassSet {
         ensures { result ≡ [] }
     {
         ClassSet {
-            ids: IndexSet::new(alloc),
+            ids: Vec::new(alloc),
+            marks: Vec::new(alloc),
         }
     }
 
@@ -50,14 +56,17 @@ impl ClassSet {
     pub(crate) fn contains(&self, id: ClassId) -> bool
         ensures { result ≡ is_among id self.now }
     {
-        self.ids.contains(&id)
+        match self.marks.get(id.number) {
+            Some(mark) => *mark,
+            None => false,
+        }
     }
 
     /// The class at that place.
     pub(crate) fn at(&self, place: usize) -> Option<ClassId>
         ensures { result ≡ slice_get self.now place }
     {
-        self.ids.get_index(place).copied()
+        self.ids.get(place).copied()
     }
 
     /// Adds a class at the end unless it is there already.
@@ -65,7 +74,27 @@ impl ClassSet {
         ensures added { OnOk result (self.new ≡ add_new self.old id) }
         ensures refused { OnErr result (self.new ≡ self.old) }
     {
-        self.ids.insert(id)?;
+        if self.contains(id) {
+            return Ok(());
+        }
+        make_room(&mut self.marks, id.number)?;
+        self.ids.push(id)?;
+        self.marks[id.number] = true;
         Ok(())
     }
+}
+
+/// Makes marks long enough for that number; what is added is no mark.
+fn make_room(marks: &mut Vec<bool>, number: usize) -> Result<(), AllocError>
+    ensures room { OnOk result (number < length marks.new.items) }
+    ensures same { (n : ℕ) → slice_index_or marks.new.items n false ≡ slice_index_or marks.old.items n false }
+{
+    if number < marks.len() {
+        return Ok(());
+    }
+    let Some(end) = number.checked_add(1) else {
+        return Err(AllocError);
+    };
+    marks.resize(end, false)?;
+    Ok(())
 }
