@@ -1,5 +1,5 @@
 //! What a thread steps with, and a record that it has.
-ghost use Rattle.std.specs.Prelude.{◌≡◌, ◌+◌, ◌≤◌, ◌^◌, length, MatchResult};
+ghost use Rattle.std.specs.Prelude.{◌≡◌, ◌+◌, ◌<◌, ◌≤◌, ◌^◌, length, OnOk, OnErr};
 ghost use Rattle.std.specs.Borrow.{Lends, sem};
 ghost use Rattle.init_lock.specs.contracts.pass.Held.{the_row};
 
@@ -11,6 +11,9 @@ use crossbeam_utils::CachePadded;
 use std::alloc::AllocError;
 use std::marker::Model;
 use std::snapshot::Snapshot;
+
+// So many events at most are in one journal, so that the stamps of all passes stay below 2^62.
+const MOST_EVENTS: usize = 1 << 58;
 
 /// The token of one thread: its number, and the journal of the events that it drew.
 ///
@@ -45,12 +48,28 @@ impl<R: Keeps> Pass<R> {
         self.number
     }
 
-    /// Makes room in the journal for `count` more events, beside the room that is left.
-    /// Drawing takes no memory, and needs the room. A refusal leaves the pass as it was.
-    pub fn reserve(&mut self, count: usize) -> Result<(), AllocError>
-        requires { length self.old.journal + self.old.room + count ≤ 2 ^ 58 }
-        ensures room { MatchResult result (λ _. self.new ≡ record self.old { room = self.old.room + count }) (λ _. self.new ≡ self.old) }
+    /// How many more events the journal takes without memory.
+    pub fn room(&self) -> usize
+        ensures { result ≡ self.now.room }
     {
+        self.journal.room()
+    }
+
+    /// Makes room in the journal for `count` more events, beside the room that is left.
+    /// Drawing takes no memory, and needs the room.
+    ///
+    /// It is refused where there is no memory for it, or where the journal would come to more than 2^58 events.
+    /// A refusal leaves the pass as it was, and room for no more events is never refused.
+    pub fn reserve(&mut self, count: usize) -> Result<(), AllocError>
+        ensures ok { OnOk result (self.new ≡ record self.old { room = self.old.room + count }) }
+        ensures few { OnOk result (length self.old.journal + self.old.room + count ≤ 2 ^ 58) }
+        ensures err { OnErr result (self.new ≡ self.old) }
+        ensures refused { OnErr result (0 < count) }
+    {
+        let left = MOST_EVENTS - (self.journal.len() + self.journal.room());
+        if count > left {
+            return Err(AllocError);
+        }
         self.journal.reserve(count)?;
         Ok(())
     }
