@@ -70,6 +70,7 @@
 //! which events settle a place.
 #![tactic(auto)]
 
+mod block;
 mod draw;
 mod finish;
 mod journal;

@@ -3,6 +3,7 @@ ghost use Rattle.std.specs.Prelude.{◌≡◌, ◌+◌, ◌<◌, ◌≤◌, ◌^
 ghost use Rattle.std.specs.Borrow.{Lends, sem};
 ghost use Rattle.init_lock.specs.contracts.pass.Held.{the_row};
 
+use crate::block::Block;
 use crate::journal::{Journal, Stamped};
 use crate::keeps::Keeps;
 use crate::rule::View;
@@ -21,7 +22,7 @@ const MOST_EVENTS: usize = 1 << 58;
 /// Contracts see a pass as the record `PassFacts`.
 #[derive(Drop)]
 pub struct Pass<R: Keeps> {
-    pub(crate) seat: Seat<Option<R>, View<R, R::Event>>,
+    pub(crate) seat: Seat<Option<Block<R>>, View<R, R::Event>>,
     pub(crate) number: usize,
     // All passes are made side by side in one `Vec`, and each thread writes to the length and the room of its own
     // journal at every draw. The padding keeps two of them off one cache line, wherever the passes lie.
@@ -79,9 +80,9 @@ impl<R: Keeps> Pass<R> {
 ///
 /// Contracts see the record `HeldFacts`: the place, the record as it was taken, and the record as it is now.
 pub struct Held<R> {
-    pub(crate) record: R,
+    pub(crate) block: Block<R>,
     pub(crate) place: usize,
-    pub(crate) taken: Snapshot<R>,
+    pub(crate) taken: Snapshot<Block<R>>,
 }
 
 impl<R> Model for Held<R> {
@@ -89,7 +90,7 @@ impl<R> Model for Held<R> {
 
     ghost Value = { HeldFacts R };
 
-    ghost view = { λ h. record { place = h.place; taken = h.taken.value; kept = h.record } };
+    ghost view = { λ h. record { place = h.place; taken = h.taken.value; kept = h.block } };
 }
 
 impl<R> Held<R> {
@@ -98,6 +99,6 @@ impl<R> Held<R> {
         ensures* writes_back { sem 𝓛 (Lends (the_row R.row) R.row self.entry result (λ r. record { place = self.old.place; taken = self.old.taken; kept = r })) }
         ensures record { result.now ≡ self.old.kept }
     {
-        &mut self.record
+        self.block.record()
     }
 }

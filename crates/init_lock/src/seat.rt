@@ -8,6 +8,7 @@ ghost use Rattle.init_lock.specs.Rule.{Each};
 ghost use Rattle.init_lock.specs.Known.{places_of};
 ghost use Rattle.init_lock.specs.Steps.{Found, IsOnePass, MayReturn, took, released};
 
+use crate::block::Block;
 use crate::keeps::Keeps;
 use crate::rule::{FetchSlot, FreeLock, LockRule, ParkSlot, TakeLock, View};
 use crate::views::Setup;
@@ -24,11 +25,11 @@ fn lock_word(place: usize) -> usize
 
 /// Tries the lock of a place once, and takes its record out of the slot. The slot stays in the table, empty.
 pub(crate) fn take_out<R: Keeps>(
-    shared: &Shared<Option<R>, View<R, R::Event>, Setup<R>, LockRule<R>>,
-    seat: &mut Seat<Option<R>, View<R, R::Event>>,
+    shared: &Shared<Option<Block<R>>, View<R, R::Event>, Setup<R>, LockRule<R>>,
+    seat: &mut Seat<Option<Block<R>>, View<R, R::Event>>,
     number: usize,
     place: usize,
-) -> Option<R>
+) -> Option<Block<R>>
     requires table { seat.old.table_id ≡ shared.now.table_id }
     requires place { (place < shared.now.table_id.slots) × (shared.now.table_id.words ≡ shared.now.table_id.slots * 8 + 8) × (shared.now.table_id.slots < 2 ^ 58) }
     requires pass { (number < 16) × IsOnePass number seat.old.me }
@@ -42,19 +43,19 @@ pub(crate) fn take_out<R: Keeps>(
     if found != 0 {
         return None;
     }
-    let Some(record) = shared.exchange(seat, place, None) else {
+    let Some(block) = shared.exchange(seat, place, None) else {
         unreachable!()
     };
     shared.load::<ParkSlot>(seat, word);
-    Some(record)
+    Some(block)
 }
 
 /// Puts the record of a place into its slot, and frees its lock.
 pub(crate) fn put_back<R: Keeps>(
-    shared: &Shared<Option<R>, View<R, R::Event>, Setup<R>, LockRule<R>>,
-    seat: &mut Seat<Option<R>, View<R, R::Event>>,
+    shared: &Shared<Option<Block<R>>, View<R, R::Event>, Setup<R>, LockRule<R>>,
+    seat: &mut Seat<Option<Block<R>>, View<R, R::Event>>,
     place: usize,
-    back: R,
+    back: Block<R>,
 )
     requires table { seat.old.table_id ≡ shared.now.table_id }
     requires place { (place < shared.now.table_id.slots) × (shared.now.table_id.words ≡ shared.now.table_id.slots * 8 + 8) × (shared.now.table_id.slots < 2 ^ 58) }

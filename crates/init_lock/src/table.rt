@@ -4,6 +4,7 @@ ghost use Rattle.init_lock.specs.Log.{Grew, IsWithin, own_events};
 ghost use Rattle.init_lock.specs.Rule.{element_at};
 ghost use Rattle.init_lock.specs.Known.{look, seen_at, out_of, last_at, IsSamePass, IsSameBut, IsAway, IsAwayBut};
 
+use crate::block::Block;
 use crate::journal::Journal;
 use crate::keeps::Keeps;
 use crate::pass::{Held, Pass};
@@ -21,7 +22,7 @@ use std::snapshot::Snapshot;
 /// Contracts see the record `TableFacts`: which table it is, how many places it has, and how many passes.
 #[derive(Drop)]
 pub struct InitTable<R: Keeps> {
-    pub(crate) table: Table<Option<R>, View<R, R::Event>, Setup<R>, LockRule<R>, Global>,
+    pub(crate) table: Table<Option<Block<R>>, View<R, R::Event>, Setup<R>, LockRule<R>, Global>,
     pub(crate) places: usize,
     pub(crate) threads: usize,
     // Room for what `finish` gives out, so that it takes no memory.
@@ -68,12 +69,12 @@ impl<R: Keeps> InitTable<R> {
         ensures holding { IsAway pass.old.places → IfSome result (λ h. IsAwayBut place pass.new.places) }
         ensures none { IfNone result (pass.new ≡ pass.old) }
     {
-        let Some(record) = take_out(&self.table.shared, &mut pass.seat, pass.number, place) else {
+        let Some(block) = take_out(&self.table.shared, &mut pass.seat, pass.number, place) else {
             return None;
         };
-        let taken = Snapshot::of(&record);
+        let taken = Snapshot::of(&block);
         Some(Held {
-            record,
+            block,
             place,
             taken,
         })
@@ -101,10 +102,10 @@ impl<R: Keeps> InitTable<R> {
         ensures away { IsAwayBut held.place pass.old.places → IsAway pass.new.places }
     {
         let Held {
-            record,
+            block,
             place,
             taken: _,
         } = held;
-        put_back(&self.table.shared, &mut pass.seat, place, record);
+        put_back(&self.table.shared, &mut pass.seat, place, block);
     }
 }
