@@ -85,7 +85,11 @@ fn gather<R: Keeps>(
 }
 
 // The record of each slot moves out.
-fn unload<R: Keeps>(closed: &mut Unlocked<Option<Block<R>>, Global>, places: usize, records: &mut Vec<R>)
+fn unload<R: Keeps>(
+    closed: &mut Unlocked<Option<Block<R>>, Global>,
+    places: usize,
+    records: &mut Vec<R>,
+)
     requires full { IsFull closed.old.slots × (slots_len closed.old.slots ≡ places) }
     requires some { AllByRecursion (λ x. IsSome x) (slots_items closed.old.slots) }
     requires room { (vec_len records.old ≡ 0) × (places ≤ vec_capacity records.old) }

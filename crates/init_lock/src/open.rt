@@ -17,7 +17,13 @@ use crossbeam_utils::CachePadded;
 use std::alloc::{AllocError, Global};
 use std::snapshot::Snapshot;
 
-type LockTable<R> = Table<Option<Block<R>>, View<R, <R as Keeps>::Event>, Setup<R>, LockRule<R>, Global>;
+type LockTable<R> = Table<
+    Option<Block<R>>,
+    View<R, <R as Keeps>::Event>,
+    Setup<R>,
+    LockRule<R>,
+    Global,
+>;
 
 impl<R: Keeps> InitTable<R> {
     /// A table of the records, each free, and one pass for each thread, numbered from 0 on.

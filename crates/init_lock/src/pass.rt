@@ -31,12 +31,12 @@ pub struct Pass<R: Keeps> {
 
 impl<R: Keeps> Model for Pass<R> {
     ghost use Rattle.crossbeam_utils.specs.Padded.{padded_value};
-    ghost use Rattle.init_lock.specs.Known.{PassFacts, places_of, looks_of, opening_of};
+    ghost use Rattle.init_lock.specs.Known.{PassFacts, places_of, misses_of, looks_of, opening_of};
     ghost use Rattle.init_lock.specs.Steps.{PassHolds};
 
     ghost Value = { PassFacts R R.Event };
 
-    ghost view = { λ p. record { table = p.seat.table_id; number = p.number; journal = (padded_value p.journal).events; room = (padded_value p.journal).room; looks = looks_of p.seat.me.0; opening = opening_of p.seat.me.0; places = places_of p.seat.me.0 } };
+    ghost view = { λ p. record { table = p.seat.table_id; number = p.number; misses = misses_of p.seat.me.0; journal = (padded_value p.journal).events; room = (padded_value p.journal).room; looks = looks_of p.seat.me.0; opening = opening_of p.seat.me.0; places = places_of p.seat.me.0 } };
 
     ghost invariant = { λ p. PassHolds p.seat.table_id.slots p.number (padded_value p.journal).events (padded_value p.journal).room p.seat.me };
 }

@@ -35,6 +35,15 @@ impl<R: Keeps> Play<Option<Block<R>>, View<R, R::Event>> for TakeLock<R> {
     ghost then = { TakesLock R.kept R.may_draw R.follows };
 }
 
+// The lock word is read, to see whether it is worth trying.
+pub(crate) struct SeeLock;
+
+impl<R, E> Play<Option<Block<R>>, View<R, E>> for SeeLock {
+    ghost use Rattle.init_lock.specs.Steps.{SeesLock};
+
+    ghost then = { SeesLock };
+}
+
 // The slot goes home empty, so that the pass may take another.
 pub(crate) struct ParkSlot;
 
