@@ -73,9 +73,9 @@ numbers_snoc n = let a : n + 1 ≡ suc n = omega arith in let b : 0 + n ≡ n = 
 
 module _ {R E : Type 0} where
   -- the first of the passes that are left is dealt
-  pub deal_one : (v : List (PassView R E)) (i n : ℕ) (rs : List R) → v ≡ newcomers i (n - i) rs → i < n → (just_first v ≡ pass_view i [] [] rs (unseen rs) ∷ []) × (but_first v ≡ newcomers (i + 1) (n - (i + 1)) rs)
+  pub deal_one : (v : List (PassView R E)) (i n : ℕ) (rs : List R) → v ≡ newcomers i (n - i) rs → i < n → (just_first v ≡ pass_view i 0 [] [] rs (unseen rs) ∷ []) × (but_first v ≡ newcomers (i + 1) (n - (i + 1)) rs)
   deal_one v i n rs e l = let a : n - i ≡ suc (n - (i + 1)) = omega arith in
-      let b : v ≡ pass_view i [] [] rs (unseen rs) ∷ newcomers (suc i) (n - (i + 1)) rs = e ∙ ap (λ (z : ℕ). newcomers i z rs) a in
+      let b : v ≡ pass_view i 0 [] [] rs (unseen rs) ∷ newcomers (suc i) (n - (i + 1)) rs = e ∙ ap (λ (z : ℕ). newcomers i z rs) a in
       let d : suc i ≡ i + 1 = omega arith in (ap just_first b, ap but_first b ∙ ap (λ (z : ℕ). newcomers z (n - (i + 1)) rs) d)
 
 module _ {R E : Type 0} (kept : R → List E) (may : ℕ → Opt ℕ → E → Type 0) (follows : R → R → Type 0) (settles : E → Bool) (setup : Setup R) where
@@ -170,7 +170,7 @@ module _ {R E : Type 0} (kept : R → List E) (may : ℕ → Opt ℕ → E → T
         (λ same. let a : cond {A = ℕ} (eqb i by) 1 0 ≡ 1 = ap (λ (b : Bool). cond {A = ℕ} b 1 0) (eq-eqb i by same) in let z = h.0 (omega arith) in ((λ l. absurd (omega arith)), omega arith))
         (λ other. let a : cond {A = ℕ} (eqb i by) 1 0 ≡ 0 = ap (λ (b : Bool). cond {A = ℕ} b 1 0) (ne_eqb i by other) in let z = h.1 in ((λ l. let y = h.0 (omega arith) in omega arith), omega arith))
 
-    newcomers_fit : (G : P → Type 0) (i n : ℕ) (rs : List R) → ((k : ℕ) → k < i + n → G (pass_view k [] [] rs (unseen rs))) → Each G (newcomers i n rs)
+    newcomers_fit : (G : P → Type 0) (i n : ℕ) (rs : List R) → ((k : ℕ) → k < i + n → G (pass_view k 0 [] [] rs (unseen rs))) → Each G (newcomers i n rs)
     newcomers_fit G i Prim.Native.Nat.zero rs h = tt
     newcomers_fit G i (suc n) rs h = (h i (omega arith), newcomers_fit G (suc i) n rs (λ k l. h k (omega arith)))
 

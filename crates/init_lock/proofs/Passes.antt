@@ -1,5 +1,5 @@
 -- What is true of a pass, and what it knows, after each of its steps.
-use Rattle.std.proofs.Common.{◌≡◌, ◌≢◌, ℕ, ◌+◌, ◌<◌, List, [], ◌∷◌, ◌++◌, Option as Opt, Some, None, length, map, refl, sym, ap, ◌∙◌, subst, arith}
+use Rattle.std.proofs.Common.{◌≡◌, ◌≢◌, ℕ, suc, ◌+◌, ◌<◌, List, [], ◌∷◌, ◌++◌, Option as Opt, Some, None, length, map, refl, sym, ap, ◌∙◌, subst, arith}
 use Rattle.atomic_table.specs.Seated.{TableId}
 use Rattle.init_lock.specs.declared.views.PassView.{PassView}
 use Rattle.init_lock.specs.declared.views.Look.{Look}
@@ -8,8 +8,8 @@ use Rattle.init_lock.specs.declared.views.Custody.TheVariants.{Away, Carried, He
 use Rattle.init_lock.specs.declared.journal.Stamped.{Stamped}
 use Rattle.init_lock.specs.Log.{stamped}
 use Rattle.init_lock.specs.Rule.{place_view, pass_view, unseen}
-use Rattle.init_lock.specs.Known.{PassFacts, IsAway, IsNewPass, look, seen_at, out_of, last_at, places_of, looks_of, opening_of}
-use Rattle.init_lock.specs.Steps.{SeatView, modify, took, leave, released, extend, drawn_places, drew, view_of, PassHolds, IsOnePass, MayReturn, IsHolding, IsHoldingAt, IsOutAt}
+use Rattle.init_lock.specs.Known.{PassFacts, IsAway, IsNewPass, look, seen_at, out_of, last_at, places_of, misses_of, looks_of, opening_of}
+use Rattle.init_lock.specs.Steps.{SeatView, modify, took, missed, leave, released, extend, drawn_places, drew, view_of, PassHolds, IsOnePass, MayReturn, IsHolding, IsHoldingAt, IsOutAt}
 use Rattle.init_lock.proofs.Lists.{length_map, length-modify, length_snoc, some_at, at_low}
 use Rattle.init_lock.proofs.Entries.{length-drawn}
 use Rattle.init_lock.proofs.Ends.{unseen_none_carried, unseen_away, unseen_seen, unseen_last}
@@ -17,14 +17,14 @@ use Rattle.init_lock.proofs.Places.{NoneCarried, all_modify, now_at, held_there}
 
 module _ {R E : Type 0} where
   abbrev pub the_view : ℕ → List (Stamped E) → SeatView R E → PassView R E
-  the_view number journal me = pass_view number journal (looks_of me.0) (opening_of me.0) (places_of me.0)
+  the_view number journal me = pass_view number (misses_of me.0) journal (looks_of me.0) (opening_of me.0) (places_of me.0)
 
   pub is_one : (slots number room : ℕ) (journal : List (Stamped E)) (me : SeatView R E) → PassHolds slots number journal room me → IsOnePass number me
   is_one slots number room journal me h = record { pass = the_view number journal me; is = h.tied; numbered = refl }
 
-  tied_again : (number : ℕ) (journal : List (Stamped E)) (looks : List (Look E)) (opening : List R) (places : List (PlaceView R E)) (me1 : SeatView R E) → me1 ≡ (pass_view number journal looks opening places ∷ [], [])
+  tied_again : (number misses : ℕ) (journal : List (Stamped E)) (looks : List (Look E)) (opening : List R) (places : List (PlaceView R E)) (me1 : SeatView R E) → me1 ≡ (pass_view number misses journal looks opening places ∷ [], [])
       → me1 ≡ (view_of number journal me1.0, [])
-  tied_again number journal looks opening places me1 e = e ∙ ap (λ (z : SeatView R E). (view_of number journal z.0, [])) (sym e)
+  tied_again number misses journal looks opening places me1 e = e ∙ ap (λ (z : SeatView R E). (view_of number journal z.0, [])) (sym e)
 
   drawn_none_carried : (place : Opt ℕ) (event : E) (ts : List (PlaceView R E)) → NoneCarried ts → NoneCarried (drawn_places place event ts)
   drawn_none_carried None event ts a = a
@@ -37,6 +37,7 @@ module _ {R E : Type 0} where
       pub seen : seen_at place (places_of me1.0) ≡ kept r
       pub last : last_at place (places_of me1.0) ≡ Some r
       pub out : out_of place (places_of me1.0) ≡ Some r
+      pub misses : misses_of me1.0 ≡ misses_of me.0
 
     pub taken : (slots number room : ℕ) (journal : List (Stamped E)) (place : ℕ) (r : R) (me me1 : SeatView R E) → PassHolds slots number journal room me → place < slots → me1 ≡ (map (took kept place r Held) me.0, [])
         → Taken slots number room journal place r me me1
@@ -49,7 +50,7 @@ module _ {R E : Type 0} where
         let there = some_at ts place (omega arith) in
         let now = now_at ts (places_of me1.0) place f there.0 at_places there.1 in record {
           holds = record {
-            tied = tied_again number journal (look place (length journal) (kept r) ∷ looks_of me.0) (opening_of me.0) (modify place f ts) me1 e1;
+            tied = tied_again number (misses_of me.0) journal (look place (length journal) (kept r) ∷ looks_of me.0) (opening_of me.0) (modify place f ts) me1 e1;
             low = h.low;
             short = h.short;
             wide = ap length at_places ∙ (length-modify ts place f ∙ wide);
@@ -59,6 +60,7 @@ module _ {R E : Type 0} where
           seen = now.0;
           last = now.1;
           out = now.2;
+          misses = ap (λ (z : SeatView R E). misses_of z.0) e1;
         }
 
     pub record Returned (slots number room : ℕ) (journal : List (Stamped E)) (place : ℕ) (r : R) (me me1 : SeatView R E) : Type 0 where
@@ -79,7 +81,7 @@ module _ {R E : Type 0} where
         let there = held_there ts place was h.none_carried out in
         let now = now_at ts (places_of me1.0) place (leave r) there.0 at_places there.1 in record {
           holds = record {
-            tied = tied_again number journal (look place (length journal) (seen_at place ts) ∷ looks_of me.0) (opening_of me.0) (modify place (leave r) ts) me1 e1;
+            tied = tied_again number (misses_of me.0) journal (look place (length journal) (seen_at place ts) ∷ looks_of me.0) (opening_of me.0) (modify place (leave r) ts) me1 e1;
             low = h.low;
             short = h.short;
             wide = ap length at_places ∙ (length-modify ts place (leave r) ∙ h.wide);
@@ -134,7 +136,7 @@ module _ {R E : Type 0} where
       let more = length_snoc journal (stamped stamp place event) in
       let short = h.short in record {
         holds = record {
-          tied = tied_again number (journal ++ stamped stamp place event ∷ []) (looks_of me.0) (opening_of me.0) (drawn_places place event ts) me1 e1;
+          tied = tied_again number (misses_of me.0) (journal ++ stamped stamp place event ∷ []) (looks_of me.0) (opening_of me.0) (drawn_places place event ts) me1 e1;
           low = h.low;
           short = omega arith;
           wide = ap length at_places ∙ (length-drawn place event ts ∙ h.wide);
@@ -145,17 +147,42 @@ module _ {R E : Type 0} where
         opening = ap (λ (z : SeatView R E). opening_of z.0) e1;
       }
 
-  pub new_holds : (slots number room : ℕ) (journal : List (Stamped E)) (rs : List R) (me : SeatView R E) → me ≡ (pass_view number [] [] rs (unseen rs) ∷ [], []) → journal ≡ [] → room ≡ 0 → number < 16 → length rs ≡ slots → PassHolds slots number journal room me
+  -- a lock was found taken
+  pub record Missed (slots number room : ℕ) (journal : List (Stamped E)) (me me1 : SeatView R E) : Type 0 where
+    pub holds : PassHolds slots number journal room me1
+    pub places : places_of me1.0 ≡ places_of me.0
+    pub looks : looks_of me1.0 ≡ looks_of me.0
+    pub opening : opening_of me1.0 ≡ opening_of me.0
+    pub misses : misses_of me1.0 ≡ misses_of me.0 + 1
+
+  pub missed_one : (slots number room : ℕ) (journal : List (Stamped E)) (me me1 : SeatView R E) → PassHolds slots number journal room me → me1 ≡ (map missed me.0, []) → Missed slots number room journal me me1
+  missed_one slots number room journal me me1 h e =
+      let e1 : me1 ≡ (missed (the_view number journal me) ∷ [], []) = e ∙ ap (λ (z : SeatView R E). (map missed z.0, [])) h.tied in
+      let at_places : places_of me1.0 ≡ places_of me.0 = ap (λ (z : SeatView R E). places_of z.0) e1 in record {
+        holds = record {
+          tied = tied_again number (suc (misses_of me.0)) journal (looks_of me.0) (opening_of me.0) (places_of me.0) me1 e1;
+          low = h.low;
+          short = h.short;
+          wide = ap length at_places ∙ h.wide;
+          none_carried = subst NoneCarried (sym at_places) h.none_carried;
+        };
+        places = at_places;
+        looks = ap (λ (z : SeatView R E). looks_of z.0) e1;
+        opening = ap (λ (z : SeatView R E). opening_of z.0) e1;
+        misses = ap (λ (z : SeatView R E). misses_of z.0) e1 ∙ (let a : suc (misses_of me.0) ≡ misses_of me.0 + 1 = omega arith in a);
+      }
+
+  pub new_holds : (slots number room : ℕ) (journal : List (Stamped E)) (rs : List R) (me : SeatView R E) → me ≡ (pass_view number 0 [] [] rs (unseen rs) ∷ [], []) → journal ≡ [] → room ≡ 0 → number < 16 → length rs ≡ slots → PassHolds slots number journal room me
   new_holds slots number room journal rs me e empty none low wide =
       let at_places : places_of me.0 ≡ unseen rs = ap (λ (z : SeatView R E). places_of z.0) e in record {
-        tied = e ∙ (λ i. (pass_view number (sym empty i) (looks_of (sym e i).0) (opening_of (sym e i).0) (places_of (sym e i).0) ∷ [], []));
+        tied = e ∙ (λ i. (pass_view number (misses_of (sym e i).0) (sym empty i) (looks_of (sym e i).0) (opening_of (sym e i).0) (places_of (sym e i).0) ∷ [], []));
         low = low;
         short = let a = ap length empty in omega arith;
         wide = ap length at_places ∙ (length_map (λ r. place_view [] r Away) rs ∙ wide);
         none_carried = subst NoneCarried (sym at_places) (unseen_none_carried E rs);
       }
 
-  pub is_new : (id : TableId) (rs : List R) (p : PassFacts R E) (me : SeatView R E) (number : ℕ) → me ≡ (pass_view number [] [] rs (unseen rs) ∷ [], []) → p.table ≡ id → p.journal ≡ [] → p.room ≡ 0
+  pub is_new : (id : TableId) (rs : List R) (p : PassFacts R E) (me : SeatView R E) (number : ℕ) → me ≡ (pass_view number 0 [] [] rs (unseen rs) ∷ [], []) → p.table ≡ id → p.journal ≡ [] → p.room ≡ 0
       → p.looks ≡ looks_of me.0 → p.opening ≡ opening_of me.0 → p.places ≡ places_of me.0 → IsNewPass id rs p
   is_new id rs p me number e t j r l o s = record {
     table = t;

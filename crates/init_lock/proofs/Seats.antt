@@ -1,6 +1,8 @@
 -- The steps of a seat that has one pass, as the calls of the table make them.
-use Rattle.std.proofs.Common.{◌≡◌, ℕ, suc, ◌+◌, ◌^◌, ◌%◌, ◌<◌, List, [], ◌∷◌, Bool, true, eqb, Option as Opt, Some, None, length, refl, sym, ap, ◌∙◌, subst, ◌-◌, ◌*◌, ◌/◌, arith}
+use Rattle.std.proofs.Common.{◌≡◌, ◌≢◌, ℕ, suc, ◌+◌, ◌^◌, ◌%◌, ◌<◌, List, [], ◌∷◌, Bool, true, eqb, eq-eqb, ne_eqb, MatchBool, map, Option as Opt, Some, None, length, refl, sym, ap, ◌∙◌, subst, ◌-◌, ◌*◌, ◌/◌, arith}
 use Rattle.std.proofs.lemmas.Nat.{div-mul-add}
+use mathlib.Core.Logic.{dite}
+use native.Mathlib.Decide.{ℕ_discrete}
 use mathlib.Core.Option.{none, some}
 use lib.ListN.{get_elem?}
 use prog.Atomic.{either}
@@ -13,10 +15,10 @@ use Rattle.init_lock.specs.declared.views.Custody.TheVariants.{Carried, Held}
 use Rattle.init_lock.specs.Log.{is_at}
 use Rattle.init_lock.specs.Rule.{lock_word, place_of_word, place_view, pass_view, RuleHolds}
 use Rattle.init_lock.specs.Known.{look, seen_at}
-use Rattle.init_lock.specs.Steps.{SeatView, modify, restage, in_custody, took, leave, released, Found, TakesLock, TakesLockAt, ParksSlot, ParksSlotAt, FetchesSlot, FetchesSlotAt, FreesLock, FreesLockAt, DrawsStamp, DrawsWhatIsSaid, IsHolding, IsHoldingAt}
+use Rattle.init_lock.specs.Steps.{SeatView, modify, restage, in_custody, took, missed, leave, released, Found, TakesLock, TakesLockAt, SeesLock, ParksSlot, ParksSlotAt, FetchesSlot, FetchesSlotAt, FreesLock, FreesLockAt, DrawsStamp, DrawsWhatIsSaid, IsHolding, IsHoldingAt}
 use Rattle.init_lock.proofs.Lists.{modify_here, modify_twice, some_at}
 use Rattle.init_lock.proofs.Logs.{is_at_some}
-use Rattle.init_lock.proofs.Steps.{takes_lock, parks, fetches, frees, draws}
+use Rattle.init_lock.proofs.Steps.{takes_lock, sees_lock, parks, fetches, frees, draws}
 
 -- the lock word of a place tells the place
 place_back : (word place : ℕ) → word ≡ lock_word place → place_of_word word ≡ place
@@ -47,6 +49,21 @@ module _ {R E : Type 0} (kept : R → List E) (may : ℕ → Opt ℕ → E → T
       let h = subst (λ (z : SeatView R E × ℕ). TakesLockAt kept may follows z.1 z.0 found me1) (λ i. (is i, place_back word place up i)) told in
       let a = h.0 zero in (a.0, a.1, a.2.0)
 
+  -- the lock was taken
+  pub missed_it : (slots : ℕ) (p : P) (me : SeatView R E) (place word mark found : ℕ) (me1 : SeatView R E) → me ≡ (p ∷ [], []) → found ≢ 0 → TakesLock kept may follows (step slots word 0 mark none) me found me1 → me1 ≡ (map missed me.0, [])
+  missed_it slots p me place word mark found me1 is miss told = told.1 miss ∙ ap (λ (z : SeatView R E). (map missed me.0, z.1)) is
+
+  pub see_allowed : (slots id : ℕ) (p : P) (me : SeatView R E) (place word : ℕ) → me ≡ (p ∷ [], []) → word ≡ lock_word place → Allows Rule slots id me word (λ z. z) (SeesLock (step slots word 0 0 none) me)
+  see_allowed slots id p me place word is up =
+      subst (λ (z : SeatView R E × ℕ). Allows Rule slots id z.0 z.1 (λ y. y) (SeesLock (step slots z.1 0 0 none) z.0)) (λ i. (sym is i, sym up i))
+      (sees_lock kept may follows settles on itself setup slots id p place)
+
+  -- what a load of the lock word saw
+  pub saw_it : (slots word found : ℕ) (p : P) (me me1 : SeatView R E) → me ≡ (p ∷ [], []) → SeesLock (step slots word 0 0 none) me found me1 → MatchBool (eqb found 0) (me1 ≡ me) (me1 ≡ (map missed me.0, []))
+  saw_it slots word found p me me1 is told = dite (ℕ_discrete found 0)
+      (λ hit. subst (λ (b : Bool). MatchBool b (me1 ≡ me) (me1 ≡ (map missed me.0, []))) (sym (eq-eqb found 0 hit)) (told.0 hit))
+      (λ miss. subst (λ (b : Bool). MatchBool b (me1 ≡ me) (me1 ≡ (map missed me.0, []))) (sym (ne_eqb found 0 miss)) (told.1 miss ∙ ap (λ (z : SeatView R E). (map missed me.0, z.1)) is))
+
   abbrev front : List (ℕ × Opt R) → Opt R
   front [] = None
   front (x ∷ xs) = x.1
@@ -67,7 +84,7 @@ module _ {R E : Type 0} (kept : R → List E) (may : ℕ → Opt ℕ → E → T
       → ParksSlot (step slots word 0 0 none) me found me3 → me3 ≡ (took kept place r Held p ∷ [], [])
   parked slots p me place word found r me3 is up told =
       subst (λ (z : SeatView R E × ℕ). ParksSlotAt z.1 z.0 found me3) (λ i. (is i, place_back word place up i)) told
-      ∙ ap (λ (z : List (PlaceView R E)). (pass_view p.pass p.journal (look place (length p.journal) (kept r) ∷ p.looks) p.opening z ∷ [], [])) (modify_twice p.places place (λ t. place_view (kept r) r Carried) (restage Held))
+      ∙ ap (λ (z : List (PlaceView R E)). (pass_view p.pass p.misses p.journal (look place (length p.journal) (kept r) ∷ p.looks) p.opening z ∷ [], [])) (modify_twice p.places place (λ t. place_view (kept r) r Carried) (restage Held))
 
   hold_at : (place : Opt ℕ) (places : List (PlaceView R E)) → IsHoldingAt place places → (n : ℕ) → is_at n place ≡ true → IsHolding n places
   hold_at place places h n there = subst (λ (z : Opt ℕ). IsHoldingAt z places) (is_at_some n place there) h
@@ -103,4 +120,4 @@ module _ {R E : Type 0} (kept : R → List E) (may : ℕ → Opt ℕ → E → T
       → FreesLock (step slots word 0 0 none) me 0 me3 → me3 ≡ (released place r p ∷ [], [])
   freed slots p me place word r me3 is up told =
       let a = subst (λ (z : SeatView R E × ℕ). FreesLockAt z.1 z.0 0 me3) (λ i. (is i, place_back word place up i)) told in
-      a r refl ∙ (λ i. (pass_view p.pass p.journal (look place (length p.journal) (seen_restaged p.places place Carried i) ∷ p.looks) p.opening (modify_twice p.places place (restage Carried) (leave r) i) ∷ [], []))
+      a r refl ∙ (λ i. (pass_view p.pass p.misses p.journal (look place (length p.journal) (seen_restaged p.places place Carried i) ∷ p.looks) p.opening (modify_twice p.places place (restage Carried) (leave r) i) ∷ [], []))

@@ -18,7 +18,7 @@ use Rattle.init_lock.specs.declared.journal.Stamped.{Stamped}
 use Rattle.init_lock.specs.Log.{Entry, entry, is_at, IsPlace, events_at, journal_of, own_events, AreBelow, AllAllowed, Grew, IsWithin, stamped, settled}
 use Rattle.init_lock.specs.Rule.{lock_word, done_word, element_at, place_view, FollowedBy, Knows, Fits, RuleHolds, AllSeen}
 use Rattle.init_lock.specs.Known.{look, seen_at, out_by}
-use Rattle.init_lock.specs.Steps.{restage, in_custody, took, leave, released, extend, drew, Found, TakesLockAt, ParksSlotAt, FetchesSlotAt, FreesLockAt, DrawsStamp}
+use Rattle.init_lock.specs.Steps.{restage, in_custody, took, missed, leave, released, extend, drew, Found, TakesLockAt, SeesLock, ParksSlotAt, FetchesSlotAt, FreesLockAt, DrawsStamp}
 use Rattle.init_lock.proofs.Lists.{length_snoc, low_index, said_is, length-modify, modified, unmodified, some_at, at_low}
 use Rattle.init_lock.proofs.Logs.{bool_cases, events-append, settled-append, none-append, allowed-append, allowed_after, by_others, own_within, below, short}
 use Rattle.init_lock.proofs.Entries.{events_off, events_on, journal_off, journal_on, seen_on, seen_is, last_is, out_is, drawn_at, length-drawn}
@@ -188,6 +188,43 @@ module _ {R E : Type 0} (kept : R → List E) (may : ℕ → Opt ℕ → E → T
   sees_all s r id p n seen at_id all = let my = (r.each id (p ∷ []) at_id).0 in
       (record { before = r.log; after = []; parts = sym (append-nil r.log); all = all; mine = ap length my.drawn }, my.looks)
 
+  -- a lock was found taken
+  missed_rule : (s : St) (r : Rule s) (id : ℕ) (p : P) → get_elem? s.views id ≡ some (p ∷ []) → Rule record { words = s.words; homes = s.homes; views = set s.views id (missed p ∷ []) }
+  missed_rule s r id p at_id =
+      let Old : P → Type 0 = Fits kept may follows setup.threads s.words s.homes r.log r.now in
+      let my = (r.each id (p ∷ []) at_id).0 in record {
+        log = r.log;
+        now = r.now;
+        wide = r.wide;
+        few = r.few;
+        counted = r.counted;
+        allowed = r.allowed;
+        bounded = r.bounded;
+        alone = still_alone s.views id p (missed p) at_id refl r.alone;
+        each = others_keep Old Old s.views id p (missed p) at_id r.alone (λ q apart o. o) (record { below = my.below; drawn = my.drawn; places = my.places; wide = my.wide; began = my.began; looks = my.looks }) r.each;
+        taken = r.taken;
+        free = r.free;
+        done = r.done;
+      }
+
+  -- the lock is seen
+  pub sees_lock : (slots id : ℕ) (p : P) (n : ℕ) → Allows Rule slots id (p ∷ [], []) (lock_word n) (λ z. z) (SeesLock (step slots (lock_word n) 0 0 none) (p ∷ [], []))
+  sees_lock slots id p n s r wide at_id _ = dite (ℕ_discrete (word s n) 0)
+      (λ hit. (
+        p ∷ [],
+        keeps,
+        tt,
+        subst (λ (z : List ℕ × List (List P)). Rule record { words = z.0; homes = s.homes; views = z.1 }) (λ i. (sym (set-get_or s.words (lock_word n) 0) i, sym (set_again s.views id (p ∷ []) at_id) i)) r,
+        ((λ _. refl), λ miss. absurd (miss hit)),
+      ))
+      (λ miss. (
+        missed p ∷ [],
+        keeps,
+        tt,
+        subst (λ (z : List ℕ). Rule record { words = z; homes = s.homes; views = set s.views id (missed p ∷ []) }) (sym (set-get_or s.words (lock_word n) 0)) (missed_rule s r id p at_id),
+        ((λ hit. absurd (miss hit)), λ _. refl),
+      ))
+
   -- the lock is tried
   pub takes_lock : (slots id : ℕ) (p : P) (n : ℕ) → n < slots → Allows Rule slots id (p ∷ [], []) (lock_word n) (λ z. either (eqb z 0) (suc p.pass) z) (TakesLockAt kept may follows n (p ∷ [], []))
   takes_lock slots id p n low s r wide at_id _ = let inside = inside_of s r slots n low wide in dite (ℕ_discrete (word s n) 0)
@@ -207,10 +244,10 @@ module _ {R E : Type 0} (kept : R → List E) (may : ℕ → Opt ℕ → E → T
         ),
       ))
       (λ miss. (
-        p ∷ [],
+        missed p ∷ [],
         keeps,
         tt,
-        subst (λ (z : List ℕ × List (List P)). Rule record { words = z.0; homes = s.homes; views = z.1 }) (λ i. (sym (same_words s n (suc p.pass) miss) i, sym (set_again s.views id (p ∷ []) at_id) i)) r,
+        subst (λ (z : List ℕ). Rule record { words = z; homes = s.homes; views = set s.views id (missed p ∷ []) }) (sym (same_words s n (suc p.pass) miss)) (missed_rule s r id p at_id),
         ((λ hit. absurd (miss hit)), λ _. refl),
       ))
 

@@ -20,10 +20,11 @@ pub record Written (E : Type 0) : Type 0 where
   pub events : List (Stamped E)
   pub room : ℕ
 
--- a pass: its table, its number, its journal with the room that is left, the looks that were noted, the records of the beginning, and what it knows of each place
+-- a pass: its table, its number, how often it found a lock taken, its journal with the room that is left, the looks that were noted, the records of the beginning, and what it knows of each place
 pub record PassFacts (R E : Type 0) : Type 0 where
   pub table : TableId
   pub number : ℕ
+  pub misses : ℕ
   pub journal : List (Stamped E)
   pub room : ℕ
   pub looks : List (Look E)
@@ -106,6 +107,10 @@ module _ {R E : Type 0} where
   places_of [] = []
   places_of (p ∷ ps) = p.places
 
+  abbrev pub misses_of : List (PassView R E) → ℕ
+  misses_of [] = 0
+  misses_of (p ∷ ps) = p.misses
+
   abbrev pub looks_of : List (PassView R E) → List (Look E)
   looks_of [] = []
   looks_of (p ∷ ps) = p.looks
@@ -116,4 +121,4 @@ module _ {R E : Type 0} where
 
   -- what the rule speaks of, of a pass
   abbrev pub view_of_pass : PassFacts R E → PassView R E
-  view_of_pass p = record { pass = p.number; journal = p.journal; looks = p.looks; opening = p.opening; places = p.places }
+  view_of_pass p = record { pass = p.number; misses = p.misses; journal = p.journal; looks = p.looks; opening = p.opening; places = p.places }

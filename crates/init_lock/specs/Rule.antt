@@ -55,8 +55,8 @@ module _ {R E : Type 0} where
   abbrev pub place_view : List E → R → Custody → PlaceView R E
   place_view seen last custody = record { seen = seen; last = last; custody = custody }
 
-  abbrev pub pass_view : ℕ → List (Stamped E) → List (Look E) → List R → List (PlaceView R E) → PassView R E
-  pass_view pass journal looks opening places = record { pass = pass; journal = journal; looks = looks; opening = opening; places = places }
+  abbrev pub pass_view : ℕ → ℕ → List (Stamped E) → List (Look E) → List R → List (PlaceView R E) → PassView R E
+  pass_view pass misses journal looks opening places = record { pass = pass; misses = misses; journal = journal; looks = looks; opening = opening; places = places }
 
   -- a pass that knows nothing but the records of the beginning
   abbrev pub unseen : List R → List (PlaceView R E)
@@ -65,7 +65,7 @@ module _ {R E : Type 0} where
   -- the views of n passes from the first on, which know nothing but the records
   abbrev pub newcomers : ℕ → ℕ → List R → List (PassView R E)
   newcomers first Prim.Native.Nat.zero records = []
-  newcomers first (suc n) records = pass_view first [] [] records (unseen records) ∷ newcomers (suc first) n records
+  newcomers first (suc n) records = pass_view first 0 [] [] records (unseen records) ∷ newcomers (suc first) n records
 
   abbrev pub opened : Setup R → List (PassView R E)
   opened setup = newcomers 0 setup.threads setup.records.value.items

@@ -11,7 +11,7 @@ use Rattle.init_lock.specs.declared.views.Custody.TheVariants.{Away, Carried, He
 use Rattle.init_lock.specs.declared.journal.Stamped.{Stamped}
 use Rattle.init_lock.specs.Log.{Grew, IsWithin, own_events, AreBelow, stamped}
 use Rattle.init_lock.specs.Rule.{place_view, pass_view, Each, element_at, place_of_word}
-use Rattle.init_lock.specs.Known.{look, seen_at, out_of, last_at, places_of, looks_of, opening_of}
+use Rattle.init_lock.specs.Known.{look, seen_at, out_of, last_at, places_of, misses_of, looks_of, opening_of}
 
 abbrev pub modify : {A : Type 0} → ℕ → (A → A) → List A → List A
 modify n f [] = []
@@ -28,18 +28,22 @@ module _ {R E : Type 0} where
   restage custody t = place_view t.seen t.last custody
 
   abbrev pub in_custody : ℕ → Custody → PassView R E → PassView R E
-  in_custody n custody p = pass_view p.pass p.journal p.looks p.opening (modify n (restage custody) p.places)
+  in_custody n custody p = pass_view p.pass p.misses p.journal p.looks p.opening (modify n (restage custody) p.places)
 
   -- the pass has the record, and a look is noted
   abbrev pub took : (R → List E) → ℕ → R → Custody → PassView R E → PassView R E
-  took kept n r custody p = pass_view p.pass p.journal (look n (length p.journal) (kept r) ∷ p.looks) p.opening (modify n (λ t. place_view (kept r) r custody) p.places)
+  took kept n r custody p = pass_view p.pass p.misses p.journal (look n (length p.journal) (kept r) ∷ p.looks) p.opening (modify n (λ t. place_view (kept r) r custody) p.places)
+
+  -- the pass found a lock taken once more
+  abbrev pub missed : PassView R E → PassView R E
+  missed p = pass_view p.pass (suc p.misses) p.journal p.looks p.opening p.places
 
   abbrev pub leave : R → PlaceView R E → PlaceView R E
   leave r t = place_view t.seen r Away
 
   -- the pass no longer has the record, and a look is noted
   abbrev pub released : ℕ → R → PassView R E → PassView R E
-  released n r p = pass_view p.pass p.journal (look n (length p.journal) (seen_at n p.places) ∷ p.looks) p.opening (modify n (leave r) p.places)
+  released n r p = pass_view p.pass p.misses p.journal (look n (length p.journal) (seen_at n p.places) ∷ p.looks) p.opening (modify n (leave r) p.places)
 
   abbrev pub extend : E → PlaceView R E → PlaceView R E
   extend event t = place_view (t.seen ++ event ∷ []) t.last t.custody
@@ -49,7 +53,7 @@ module _ {R E : Type 0} where
   drawn_places (Some n) event ts = modify n (extend event) ts
 
   abbrev pub drew : Opt ℕ → E → ℕ → PassView R E → PassView R E
-  drew place event found p = pass_view p.pass (p.journal ++ stamped found place event ∷ []) p.looks p.opening (drawn_places place event p.places)
+  drew place event found p = pass_view p.pass p.misses (p.journal ++ stamped found place event ∷ []) p.looks p.opening (drawn_places place event p.places)
 
   module _ (kept : R → List E) (may : ℕ → Opt ℕ → E → Type 0) (follows : R → R → Type 0) where
     -- what a pass finds when it takes the record r of the place n
@@ -65,10 +69,14 @@ module _ {R E : Type 0} where
     abbrev pub TakesLockAt : ℕ → SeatView R E → ℕ → SeatView R E → Type 0
     TakesLockAt n v found w =
         (found ≡ 0 → (r : R) × (w ≡ (map (took kept n r Carried) v.0, (n, Some r) ∷ v.1)) × Each (Found n r) v.0)
-        × (found ≢ 0 → w ≡ v)
+        × (found ≢ 0 → w ≡ (map missed v.0, v.1))
 
     abbrev pub TakesLock : Step (Opt R) → SeatView R E → ℕ → SeatView R E → Type 0
     TakesLock s v found w = TakesLockAt (place_of_word s.word) v found w
+
+  -- the lock word is read
+  abbrev pub SeesLock : Step (Opt R) → SeatView R E → ℕ → SeatView R E → Type 0
+  SeesLock s v found w = (found ≡ 0 → w ≡ v) × (found ≢ 0 → w ≡ (map missed v.0, v.1))
 
   -- the emptied slot goes home, while the pass keeps the record
   abbrev pub ParksSlotAt : ℕ → SeatView R E → ℕ → SeatView R E → Type 0
@@ -101,7 +109,7 @@ module _ {R E : Type 0} where
 
   -- the view of a seat with one pass
   abbrev pub view_of : ℕ → List (Stamped E) → List (PassView R E) → List (PassView R E)
-  view_of pass journal v = pass_view pass journal (looks_of v) (opening_of v) (places_of v) ∷ []
+  view_of pass journal v = pass_view pass (misses_of v) journal (looks_of v) (opening_of v) (places_of v) ∷ []
 
   -- the seat has the pass of the number alone, and carries no slot
   pub record IsOnePass (number : ℕ) (me : SeatView R E) : Type 0 where

@@ -7,6 +7,7 @@ ghost use Rattle.init_lock.specs.Log.{Entry, AllAllowed};
 ghost use Rattle.init_lock.specs.Known.{IsAway, view_of_pass};
 ghost use Rattle.init_lock.specs.Closing.{numbers, written, HasJournals, HasLooks, HasRecords, FollowsAll};
 
+use crate::block::Block;
 use crate::journal::Journal;
 use crate::keeps::Keeps;
 use crate::pass::Pass;
@@ -59,8 +60,8 @@ impl<R: Keeps> InitTable<R> {
 
 // One seat gets what all passes know, and their journals are moved out.
 fn gather<R: Keeps>(
-    shared: &Shared<Option<R>, View<R, R::Event>, Setup<R>, LockRule<R>>,
-    seat: &mut Seat<Option<R>, View<R, R::Event>>,
+    shared: &Shared<Option<Block<R>>, View<R, R::Event>, Setup<R>, LockRule<R>>,
+    seat: &mut Seat<Option<Block<R>>, View<R, R::Event>>,
     passes: Vec<Pass<R>>,
     journals: &mut Vec<Journal<R::Event>>,
 )
@@ -84,7 +85,11 @@ fn gather<R: Keeps>(
 }
 
 // The record of each slot moves out.
-fn unload<R: Keeps>(closed: &mut Unlocked<Option<R>, Global>, places: usize, records: &mut Vec<R>)
+fn unload<R: Keeps>(
+    closed: &mut Unlocked<Option<Block<R>>, Global>,
+    places: usize,
+    records: &mut Vec<R>,
+)
     requires full { IsFull closed.old.slots × (slots_len closed.old.slots ≡ places) }
     requires some { AllByRecursion (λ x. IsSome x) (slots_items closed.old.slots) }
     requires room { (vec_len records.old ≡ 0) × (places ≤ vec_capacity records.old) }
@@ -92,10 +97,10 @@ fn unload<R: Keeps>(closed: &mut Unlocked<Option<R>, Global>, places: usize, rec
     ensures empty { (k : ℕ) → k < slots_len closed.new.slots → slice_index_or (slots_filled closed.new.slots) k false ≡ false }
 {
     for place in 0..places {
-        let Some(record) = closed.take(place) else {
+        let Some(block) = closed.take(place) else {
             unreachable!()
         };
-        let pushed = records.push(record);
+        let pushed = records.push(block.into_record());
         let Ok(()) = pushed else { unreachable!() };
     }
 }

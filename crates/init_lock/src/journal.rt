@@ -1,5 +1,5 @@
 //! The events that one pass drew, with their stamps.
-ghost use Rattle.std.specs.Prelude.{◌≡◌, ℕ, ◌+◌, ◌++◌, ◌∷◌, [], ◌<◌, ◌≤◌, ◌^◌, length, IfOk, IfSome, IfNone, MatchResult, true, false, IsTrue, ◌↔◌};
+ghost use Rattle.std.specs.Prelude.{◌≡◌, ℕ, ◌+◌, ◌++◌, ◌∷◌, [], ◌<◌, ◌≤◌, ◌^◌, length, IfOk, IfSome, IfNone, OnOk, OnErr, true, false, IsTrue, ◌↔◌};
 ghost use Rattle.init_lock.specs.Log.{AreBelow};
 ghost use Rattle.init_lock.specs.Merging.{EndsAt};
 
@@ -52,11 +52,13 @@ impl<E: Drop> Journal<E> {
         }
     }
 
-    /// Makes room for `count` more events, beside the room that is left. A refusal leaves the journal as it was.
+    /// Makes room for `count` more events, beside the room that is left. It is refused where there is no memory for it,
+    /// which leaves the journal as it was.
     pub(crate) fn reserve(&mut self, count: usize) -> Result<(), AllocError>
         requires { length self.old.events + self.old.room + count ≤ 2 ^ 58 }
-        ensures events { self.new.events ≡ self.old.events }
-        ensures room { MatchResult result (λ _. self.new.room ≡ self.old.room + count) (λ _. self.new.room ≡ self.old.room) }
+        ensures ok { OnOk result (self.new ≡ record self.old { room = self.old.room + count }) }
+        ensures err { OnErr result (self.new ≡ self.old) }
+        ensures refused { OnErr result (0 < count) }
     {
         self.events.reserve(self.room + count)?;
         self.room += count;
@@ -72,6 +74,13 @@ impl<E: Drop> Journal<E> {
         let pushed = self.events.push(event);
         let Ok(()) = pushed else { unreachable!() };
         self.room -= 1;
+    }
+
+    /// How many more events go in without memory.
+    pub(crate) fn room(&self) -> usize
+        ensures { result ≡ self.now.room }
+    {
+        self.room
     }
 
     /// How many events it has.

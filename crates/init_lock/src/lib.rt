@@ -41,7 +41,8 @@
 //!
 //! | Step | Word | What the pass knows afterwards |
 //! |---|---|---|
-//! | the lock is tried | lock word, 0 to p + 1 by one exchange | if it was 0: it has the record, and all that stands there |
+//! | the lock is tried | lock word, 0 to p + 1 by one exchange | if it was 0: it has the record, and all that stands there; else one miss more |
+//! | the lock is seen | lock word, read | if it was taken: one miss more |
 //! | the empty slot is parked or fetched | lock word, read | the same |
 //! | a stamp is drawn | counter, plus one | its journal and, for an event with a place, the list there are longer by one |
 //! | the lock is freed | lock word, to 0 | it has seen the list that the record keeps now |
@@ -62,6 +63,8 @@
 //!
 //! # How it is used
 //!
+//! Each record lies in a block of memory of its own, so that taking it moves a pointer (`block.rt`).
+//!
 //! Make the table and one pass a thread with [`InitTable::new`]; give each thread its pass and `&InitTable`; `reserve`,
 //! then take, change the record by [`Held::kept`], [`InitTable::draw_held`], [`InitTable::give_back`]; draw events of no
 //! place by [`InitTable::draw`]; at the end hand all passes to `finish`, and their journals to [`merge`], which makes one
@@ -71,6 +74,7 @@
 //! which events settle a place.
 #![tactic(auto)]
 
+mod block;
 mod draw;
 mod finish;
 mod journal;

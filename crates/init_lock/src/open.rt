@@ -5,6 +5,7 @@ ghost use Rattle.init_lock.specs.Rule.{newcomers};
 ghost use Rattle.init_lock.specs.Known.{IsNewPass};
 ghost use Rattle.init_lock.specs.Closing.{numbers};
 
+use crate::block::Block;
 use crate::journal::Journal;
 use crate::keeps::Keeps;
 use crate::pass::Pass;
@@ -16,7 +17,13 @@ use crossbeam_utils::CachePadded;
 use std::alloc::{AllocError, Global};
 use std::snapshot::Snapshot;
 
-type LockTable<R> = Table<Option<R>, View<R, <R as Keeps>::Event>, Setup<R>, LockRule<R>, Global>;
+type LockTable<R> = Table<
+    Option<Block<R>>,
+    View<R, <R as Keeps>::Event>,
+    Setup<R>,
+    LockRule<R>,
+    Global,
+>;
 
 impl<R: Keeps> InitTable<R> {
     /// A table of the records, each free, and one pass for each thread, numbered from 0 on.
@@ -51,7 +58,7 @@ fn lay<R: Keeps>(
     alloc: Global,
     records: Vec<R>,
     threads: usize,
-) -> Result<(LockTable<R>, Seat<Option<R>, View<R, R::Event>>), AllocError>
+) -> Result<(LockTable<R>, Seat<Option<Block<R>>, View<R, R::Event>>), AllocError>
     requires threads { threads ≤ 16 }
     requires few { vec_len records < 2 ^ 58 }
     requires records { AllByRecursion (λ r. R.kept r ≡ []) records.items }
@@ -96,13 +103,13 @@ fn with_room<R: Keeps>(
     })
 }
 
-// Each record in its slot.
-fn shelve<R: Keeps>(alloc: Global, records: Vec<R>) -> Result<Vec<Option<R>>, AllocError>
+// Each record in its slot, in a block of its own.
+fn shelve<R: Keeps>(alloc: Global, records: Vec<R>) -> Result<Vec<Option<Block<R>>>, AllocError>
     ensures { IfOk result (λ v. v.items ≡ map Some records.items) }
 {
     let mut slots = Vec::new(alloc);
     for record in records {
-        slots.push(Some(record))?;
+        slots.push(Some(Block::new(alloc, record)?))?;
     }
     Ok(slots)
 }
@@ -110,8 +117,8 @@ fn shelve<R: Keeps>(alloc: Global, records: Vec<R>) -> Result<Vec<Option<R>>, Al
 // The first seat has the views of all passes. Each pass gets its own.
 fn deal<R: Keeps>(
     alloc: Global,
-    shared: &Shared<Option<R>, View<R, R::Event>, Setup<R>, LockRule<R>>,
-    mut seat: Seat<Option<R>, View<R, R::Event>>,
+    shared: &Shared<Option<Block<R>>, View<R, R::Event>, Setup<R>, LockRule<R>>,
+    mut seat: Seat<Option<Block<R>>, View<R, R::Event>>,
     threads: usize,
 ) -> Result<Vec<Pass<R>>, AllocError>
     requires few { threads ≤ 16 }

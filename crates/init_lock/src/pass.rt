@@ -1,8 +1,9 @@
 //! What a thread steps with, and a record that it has.
-ghost use Rattle.std.specs.Prelude.{◌≡◌, ◌+◌, ◌≤◌, ◌^◌, length, MatchResult};
+ghost use Rattle.std.specs.Prelude.{◌≡◌, ◌+◌, ◌<◌, ◌≤◌, ◌^◌, length, OnOk, OnErr};
 ghost use Rattle.std.specs.Borrow.{Lends, sem};
 ghost use Rattle.init_lock.specs.contracts.pass.Held.{the_row};
 
+use crate::block::Block;
 use crate::journal::{Journal, Stamped};
 use crate::keeps::Keeps;
 use crate::rule::View;
@@ -12,13 +13,16 @@ use std::alloc::AllocError;
 use std::marker::Model;
 use std::snapshot::Snapshot;
 
+// So many events at most are in one journal, so that the stamps of all passes stay below 2^62.
+const MOST_EVENTS: usize = 1 << 58;
+
 /// The token of one thread: its number, and the journal of the events that it drew.
 ///
 /// The seat at the table has no bytes. It is what the pass knows of the places, which exists in proofs alone.
 /// Contracts see a pass as the record `PassFacts`.
 #[derive(Drop)]
 pub struct Pass<R: Keeps> {
-    pub(crate) seat: Seat<Option<R>, View<R, R::Event>>,
+    pub(crate) seat: Seat<Option<Block<R>>, View<R, R::Event>>,
     pub(crate) number: usize,
     // All passes are made side by side in one `Vec`, and each thread writes to the length and the room of its own
     // journal at every draw. The padding keeps two of them off one cache line, wherever the passes lie.
@@ -27,12 +31,12 @@ pub struct Pass<R: Keeps> {
 
 impl<R: Keeps> Model for Pass<R> {
     ghost use Rattle.crossbeam_utils.specs.Padded.{padded_value};
-    ghost use Rattle.init_lock.specs.Known.{PassFacts, places_of, looks_of, opening_of};
+    ghost use Rattle.init_lock.specs.Known.{PassFacts, places_of, misses_of, looks_of, opening_of};
     ghost use Rattle.init_lock.specs.Steps.{PassHolds};
 
     ghost Value = { PassFacts R R.Event };
 
-    ghost view = { λ p. record { table = p.seat.table_id; number = p.number; journal = (padded_value p.journal).events; room = (padded_value p.journal).room; looks = looks_of p.seat.me.0; opening = opening_of p.seat.me.0; places = places_of p.seat.me.0 } };
+    ghost view = { λ p. record { table = p.seat.table_id; number = p.number; misses = misses_of p.seat.me.0; journal = (padded_value p.journal).events; room = (padded_value p.journal).room; looks = looks_of p.seat.me.0; opening = opening_of p.seat.me.0; places = places_of p.seat.me.0 } };
 
     ghost invariant = { λ p. PassHolds p.seat.table_id.slots p.number (padded_value p.journal).events (padded_value p.journal).room p.seat.me };
 }
@@ -45,12 +49,28 @@ impl<R: Keeps> Pass<R> {
         self.number
     }
 
-    /// Makes room in the journal for `count` more events, beside the room that is left.
-    /// Drawing takes no memory, and needs the room. A refusal leaves the pass as it was.
-    pub fn reserve(&mut self, count: usize) -> Result<(), AllocError>
-        requires { length self.old.journal + self.old.room + count ≤ 2 ^ 58 }
-        ensures room { MatchResult result (λ _. self.new ≡ record self.old { room = self.old.room + count }) (λ _. self.new ≡ self.old) }
+    /// How many more events the journal takes without memory.
+    pub fn room(&self) -> usize
+        ensures { result ≡ self.now.room }
     {
+        self.journal.room()
+    }
+
+    /// Makes room in the journal for `count` more events, beside the room that is left.
+    /// Drawing takes no memory, and needs the room.
+    ///
+    /// It is refused where there is no memory for it, or where the journal would come to more than 2^58 events.
+    /// A refusal leaves the pass as it was, and room for no more events is never refused.
+    pub fn reserve(&mut self, count: usize) -> Result<(), AllocError>
+        ensures ok { OnOk result (self.new ≡ record self.old { room = self.old.room + count }) }
+        ensures few { OnOk result (length self.old.journal + self.old.room + count ≤ 2 ^ 58) }
+        ensures err { OnErr result (self.new ≡ self.old) }
+        ensures refused { OnErr result (0 < count) }
+    {
+        let left = MOST_EVENTS - (self.journal.len() + self.journal.room());
+        if count > left {
+            return Err(AllocError);
+        }
         self.journal.reserve(count)?;
         Ok(())
     }
@@ -60,9 +80,9 @@ impl<R: Keeps> Pass<R> {
 ///
 /// Contracts see the record `HeldFacts`: the place, the record as it was taken, and the record as it is now.
 pub struct Held<R> {
-    pub(crate) record: R,
+    pub(crate) block: Block<R>,
     pub(crate) place: usize,
-    pub(crate) taken: Snapshot<R>,
+    pub(crate) taken: Snapshot<Block<R>>,
 }
 
 impl<R> Model for Held<R> {
@@ -70,7 +90,7 @@ impl<R> Model for Held<R> {
 
     ghost Value = { HeldFacts R };
 
-    ghost view = { λ h. record { place = h.place; taken = h.taken.value; kept = h.record } };
+    ghost view = { λ h. record { place = h.place; taken = h.taken.value; kept = h.block } };
 }
 
 impl<R> Held<R> {
@@ -79,6 +99,6 @@ impl<R> Held<R> {
         ensures* writes_back { sem 𝓛 (Lends (the_row R.row) R.row self.entry result (λ r. record { place = self.old.place; taken = self.old.taken; kept = r })) }
         ensures record { result.now ≡ self.old.kept }
     {
-        &mut self.record
+        self.block.record()
     }
 }

@@ -1,6 +1,7 @@
 //! The lock's rule as the table is told it, and what each kind of atomic step tells the pass that makes it.
 ghost use Rattle.std.specs.Prelude.{ℕ, Option};
 
+use crate::block::Block;
 use crate::keeps::Keeps;
 use crate::views::{PassView, Setup};
 use atomic_table::{Join, Play, Split, TableRule};
@@ -15,7 +16,7 @@ pub struct LockRule<R> {
     record: PhantomData<R>,
 }
 
-impl<R: Keeps> TableRule<Option<R>, View<R, R::Event>, Setup<R>> for LockRule<R> {
+impl<R: Keeps> TableRule<Option<Block<R>>, View<R, R::Event>, Setup<R>> for LockRule<R> {
     ghost use Rattle.init_lock.specs.Rule.{RuleHolds, opened};
 
     ghost holds = { λ setup s. RuleHolds R.kept R.may_draw R.follows R.settles setup s };
@@ -28,16 +29,25 @@ pub(crate) struct TakeLock<R> {
     record: PhantomData<R>,
 }
 
-impl<R: Keeps> Play<Option<R>, View<R, R::Event>> for TakeLock<R> {
+impl<R: Keeps> Play<Option<Block<R>>, View<R, R::Event>> for TakeLock<R> {
     ghost use Rattle.init_lock.specs.Steps.{TakesLock};
 
     ghost then = { TakesLock R.kept R.may_draw R.follows };
 }
 
+// The lock word is read, to see whether it is worth trying.
+pub(crate) struct SeeLock;
+
+impl<R, E> Play<Option<Block<R>>, View<R, E>> for SeeLock {
+    ghost use Rattle.init_lock.specs.Steps.{SeesLock};
+
+    ghost then = { SeesLock };
+}
+
 // The slot goes home empty, so that the pass may take another.
 pub(crate) struct ParkSlot;
 
-impl<R, E> Play<Option<R>, View<R, E>> for ParkSlot {
+impl<R, E> Play<Option<Block<R>>, View<R, E>> for ParkSlot {
     ghost use Rattle.init_lock.specs.Steps.{ParksSlot};
 
     ghost then = { ParksSlot };
@@ -46,7 +56,7 @@ impl<R, E> Play<Option<R>, View<R, E>> for ParkSlot {
 // The empty slot comes out again.
 pub(crate) struct FetchSlot;
 
-impl<R, E> Play<Option<R>, View<R, E>> for FetchSlot {
+impl<R, E> Play<Option<Block<R>>, View<R, E>> for FetchSlot {
     ghost use Rattle.init_lock.specs.Steps.{FetchesSlot};
 
     ghost then = { FetchesSlot };
@@ -55,7 +65,7 @@ impl<R, E> Play<Option<R>, View<R, E>> for FetchSlot {
 // The lock word is freed, and the slot goes home with the record.
 pub(crate) struct FreeLock;
 
-impl<R, E> Play<Option<R>, View<R, E>> for FreeLock {
+impl<R, E> Play<Option<Block<R>>, View<R, E>> for FreeLock {
     ghost use Rattle.init_lock.specs.Steps.{FreesLock};
 
     ghost then = { FreesLock };
@@ -77,7 +87,7 @@ pub(crate) struct DrawStamp<J> {
     drawn: PhantomData<J>,
 }
 
-impl<R, E, J: Drawn<E>> Play<Option<R>, View<R, E>> for DrawStamp<J> {
+impl<R, E, J: Drawn<E>> Play<Option<Block<R>>, View<R, E>> for DrawStamp<J> {
     ghost use Rattle.init_lock.specs.Steps.{DrawsWhatIsSaid};
 
     ghost then = { DrawsWhatIsSaid J.drawn };
@@ -102,7 +112,7 @@ impl<R, E> Join<View<R, E>> for OnePass {
     ghost spent = { [] };
 }
 
-impl<R, E> Play<Option<R>, View<R, E>> for OnePass {
+impl<R, E> Play<Option<Block<R>>, View<R, E>> for OnePass {
     ghost use Rattle.std.specs.Prelude.{◌≡◌, []};
 
     ghost then = { λ s v found w. w.0 ≡ [] };

@@ -1,15 +1,16 @@
 //! The steps of a seat that has one pass: what a try of a lock and a giving back are made of.
-ghost use Rattle.std.specs.Prelude.{◌≡◌, ℕ, ◌+◌, ◌*◌, ◌^◌, ◌<◌, ◌≤◌, [], ◌∷◌, map, IfSome, IfNone};
+ghost use Rattle.std.specs.Prelude.{◌≡◌, ℕ, ◌+◌, ◌*◌, ◌^◌, ◌<◌, ◌≤◌, [], ◌∷◌, map, IfSome, IfNone, MatchBool};
 ghost use mathlib.Core.Option.{some};
 ghost use lib.ListN.{get_elem?};
 ghost use Rattle.init_lock.specs.declared.views.Custody.TheVariants.{Held};
 ghost use Rattle.init_lock.specs.declared.views.PlaceView.{PlaceView};
 ghost use Rattle.init_lock.specs.Rule.{Each};
 ghost use Rattle.init_lock.specs.Known.{places_of};
-ghost use Rattle.init_lock.specs.Steps.{Found, IsOnePass, MayReturn, took, released};
+ghost use Rattle.init_lock.specs.Steps.{Found, IsOnePass, MayReturn, took, missed, released};
 
+use crate::block::Block;
 use crate::keeps::Keeps;
-use crate::rule::{FetchSlot, FreeLock, LockRule, ParkSlot, TakeLock, View};
+use crate::rule::{FetchSlot, FreeLock, LockRule, ParkSlot, SeeLock, TakeLock, View};
 use crate::views::Setup;
 use atomic_table::{Seat, Shared};
 
@@ -22,19 +23,35 @@ fn lock_word(place: usize) -> usize
     place * 8 + 8
 }
 
+/// Whether the lock of a place is free, as one load sees it.
+pub(crate) fn see<R: Keeps>(
+    shared: &Shared<Option<Block<R>>, View<R, R::Event>, Setup<R>, LockRule<R>>,
+    seat: &mut Seat<Option<Block<R>>, View<R, R::Event>>,
+    _number: usize,
+    place: usize,
+) -> bool
+    requires table { seat.old.table_id ≡ shared.now.table_id }
+    requires place { (place < shared.now.table_id.slots) × (shared.now.table_id.words ≡ shared.now.table_id.slots * 8 + 8) × (shared.now.table_id.slots < 2 ^ 58) }
+    requires pass { IsOnePass _number seat.old.me }
+    ensures table { (seat.new.table_id ≡ seat.old.table_id) × (seat.new.id ≡ seat.old.id) }
+    ensures seat { MatchBool result (seat.new.me ≡ seat.old.me) (seat.new.me ≡ (map missed seat.old.me.0, [])) }
+{
+    shared.load::<SeeLock>(seat, lock_word(place)) == 0
+}
+
 /// Tries the lock of a place once, and takes its record out of the slot. The slot stays in the table, empty.
 pub(crate) fn take_out<R: Keeps>(
-    shared: &Shared<Option<R>, View<R, R::Event>, Setup<R>, LockRule<R>>,
-    seat: &mut Seat<Option<R>, View<R, R::Event>>,
+    shared: &Shared<Option<Block<R>>, View<R, R::Event>, Setup<R>, LockRule<R>>,
+    seat: &mut Seat<Option<Block<R>>, View<R, R::Event>>,
     number: usize,
     place: usize,
-) -> Option<R>
+) -> Option<Block<R>>
     requires table { seat.old.table_id ≡ shared.now.table_id }
     requires place { (place < shared.now.table_id.slots) × (shared.now.table_id.words ≡ shared.now.table_id.slots * 8 + 8) × (shared.now.table_id.slots < 2 ^ 58) }
     requires pass { (number < 16) × IsOnePass number seat.old.me }
     ensures table { (seat.new.table_id ≡ seat.old.table_id) × (seat.new.id ≡ seat.old.id) }
     ensures some { IfSome result (λ r. (seat.new.me ≡ (map (took R.kept place r Held) seat.old.me.0, [])) × Each (Found R.kept R.may_draw R.follows place r) seat.old.me.0) }
-    ensures none { IfNone result (seat.new.me ≡ seat.old.me) }
+    ensures none { IfNone result (seat.new.me ≡ (map missed seat.old.me.0, [])) }
 {
     // A lock word is 0 while the lock is free, and one more than the pass's number while a pass has it.
     let word = lock_word(place);
@@ -42,19 +59,19 @@ pub(crate) fn take_out<R: Keeps>(
     if found != 0 {
         return None;
     }
-    let Some(record) = shared.exchange(seat, place, None) else {
+    let Some(block) = shared.exchange(seat, place, None) else {
         unreachable!()
     };
     shared.load::<ParkSlot>(seat, word);
-    Some(record)
+    Some(block)
 }
 
 /// Puts the record of a place into its slot, and frees its lock.
 pub(crate) fn put_back<R: Keeps>(
-    shared: &Shared<Option<R>, View<R, R::Event>, Setup<R>, LockRule<R>>,
-    seat: &mut Seat<Option<R>, View<R, R::Event>>,
+    shared: &Shared<Option<Block<R>>, View<R, R::Event>, Setup<R>, LockRule<R>>,
+    seat: &mut Seat<Option<Block<R>>, View<R, R::Event>>,
     place: usize,
-    back: R,
+    back: Block<R>,
 )
     requires table { seat.old.table_id ≡ shared.now.table_id }
     requires place { (place < shared.now.table_id.slots) × (shared.now.table_id.words ≡ shared.now.table_id.slots * 8 + 8) × (shared.now.table_id.slots < 2 ^ 58) }

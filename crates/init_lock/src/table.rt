@@ -1,14 +1,15 @@
 //! The table of locked records, and one try of a lock.
-ghost use Rattle.std.specs.Prelude.{◌≡◌, ℕ, ◌<◌, ◌≤◌, ◌∷◌, length, Option, Some, None, IfSome, IfNone};
+ghost use Rattle.std.specs.Prelude.{◌≡◌, ℕ, ◌+◌, ◌<◌, ◌≤◌, ◌∷◌, length, MatchBool, Option, Some, None, IfSome, IfNone, OnSome};
 ghost use Rattle.init_lock.specs.Log.{Grew, IsWithin, own_events};
 ghost use Rattle.init_lock.specs.Rule.{element_at};
 ghost use Rattle.init_lock.specs.Known.{look, seen_at, out_of, last_at, IsSamePass, IsSameBut, IsAway, IsAwayBut};
 
+use crate::block::Block;
 use crate::journal::Journal;
 use crate::keeps::Keeps;
 use crate::pass::{Held, Pass};
 use crate::rule::{LockRule, View};
-use crate::seat::{put_back, take_out};
+use crate::seat::{put_back, see, take_out};
 use crate::views::Setup;
 use atomic_table::Table;
 use std::alloc::Global;
@@ -21,7 +22,7 @@ use std::snapshot::Snapshot;
 /// Contracts see the record `TableFacts`: which table it is, how many places it has, and how many passes.
 #[derive(Drop)]
 pub struct InitTable<R: Keeps> {
-    pub(crate) table: Table<Option<R>, View<R, R::Event>, Setup<R>, LockRule<R>, Global>,
+    pub(crate) table: Table<Option<Block<R>>, View<R, R::Event>, Setup<R>, LockRule<R>, Global>,
     pub(crate) places: usize,
     pub(crate) threads: usize,
     // Room for what `finish` gives out, so that it takes no memory.
@@ -44,7 +45,8 @@ impl<R: Keeps> InitTable<R> {
     /// Takes the record of a place if its lock is free: one try of the lock word, with no waiting and no memory.
     ///
     /// The record's events begin with all that the pass had seen at the place, its own events there included, and go on
-    /// with what other passes drew. `None` where another pass has the record, or this one.
+    /// with what other passes drew. `None` where another pass has the record, or this one: that is one more miss of this
+    /// pass.
     ///
     /// This is the taking of the initialization lock (JLS SE 8 12.4.2 step 1, JVMS SE 8 5.5 step 1), tried once.
     pub fn try_take(&self, pass: &mut Pass<R>, place: usize) -> Option<Held<R>>
@@ -53,6 +55,7 @@ impl<R: Keeps> InitTable<R> {
         ensures pass { IsSamePass pass.old pass.new }
         ensures journal { pass.new.journal ≡ pass.old.journal }
         ensures room { pass.new.room ≡ pass.old.room }
+        ensures misses { OnSome result (pass.new.misses ≡ pass.old.misses) }
         ensures place { IfSome result (λ h. h.place ≡ place) }
         ensures taken { IfSome result (λ h. h.taken ≡ h.kept) }
         ensures free { IfSome result (λ h. out_of place pass.old.places ≡ None) }
@@ -66,17 +69,26 @@ impl<R: Keeps> InitTable<R> {
         ensures others { IfSome result (λ h. IsSameBut place pass.old.places pass.new.places) }
         ensures looks { IfSome result (λ h. pass.new.looks ≡ look place (length pass.old.journal) (R.kept h.kept) ∷ pass.old.looks) }
         ensures holding { IsAway pass.old.places → IfSome result (λ h. IsAwayBut place pass.new.places) }
-        ensures none { IfNone result (pass.new ≡ pass.old) }
+        ensures none { IfNone result (pass.new ≡ record pass.old { misses = pass.old.misses + 1 }) }
     {
-        let Some(record) = take_out(&self.table.shared, &mut pass.seat, pass.number, place) else {
+        let Some(block) = take_out(&self.table.shared, &mut pass.seat, pass.number, place) else {
             return None;
         };
-        let taken = Snapshot::of(&record);
+        let taken = Snapshot::of(&block);
         Some(Held {
-            record,
+            block,
             place,
             taken,
         })
+    }
+
+    /// Whether the lock of a place is free, as one load sees it, without a try. It may be taken or given back at once.
+    pub fn is_free(&self, pass: &mut Pass<R>, place: usize) -> bool
+        requires table { pass.old.table ≡ self.now.id }
+        requires place { place < self.now.places }
+        ensures { MatchBool result (pass.new ≡ pass.old) (pass.new ≡ record pass.old { misses = pass.old.misses + 1 }) }
+    {
+        see(&self.table.shared, &mut pass.seat, pass.number, place)
     }
 
     /// Gives a record back and frees its lock, with no memory.
@@ -101,10 +113,10 @@ impl<R: Keeps> InitTable<R> {
         ensures away { IsAwayBut held.place pass.old.places → IsAway pass.new.places }
     {
         let Held {
-            record,
+            block,
             place,
             taken: _,
         } = held;
-        put_back(&self.table.shared, &mut pass.seat, place, record);
+        put_back(&self.table.shared, &mut pass.seat, place, block);
     }
 }

@@ -28,9 +28,10 @@ pub struct Look<E> {
     pub seen: LinkedList<E>,
 }
 
-/// What one pass knows: its number, its journal, the looks that were noted, the records of the beginning, and each place.
+/// What one pass knows: its number, how often it found a lock taken, its journal, the looks that were noted, the records of the beginning, and each place.
 pub struct PassView<R, E> {
     pub pass: usize,
+    pub misses: usize,
     pub journal: LinkedList<Stamped<E>>,
     pub looks: LinkedList<Look<E>>,
     pub opening: LinkedList<R>,

@@ -25,8 +25,8 @@ loop-place-preserved g c =
       t.2 ∙ i.1,
       p.len ∙ (let a = i.2 in omega arith),
       (let a = i.3 in let b = p.capacity in omega arith),
-      ap (λ z. map Some z) p.items ∙ (map_snoc Some c.loop-place.records.items c.in-Some.record ∙ (ap (λ z. z ++ Some c.in-Some.record ∷ []) i.4 ∙ (ap (λ z. take c.loop-place.place (slots_items c.loop-place.closed.slots) ++ z ∷ []) (sym here)
-          ∙ (sym (take_more (slots_items c.loop-place.closed.slots) c.loop-place.place None (at_low (slots_items c.loop-place.closed.slots) c.loop-place.place c.take.result c.take.ensures.value)) ∙ ap (λ z. take (c.loop-place.place + 1) z) (sym t.0))))),
+      ap (λ z. map Some z) p.items ∙ (ap (λ z. map Some (c.loop-place.records.items ++ z ∷ [])) c.into_record.ensures ∙ (map_snoc Some c.loop-place.records.items c.in-Some.block ∙ (ap (λ z. z ++ Some c.in-Some.block ∷ []) i.4 ∙ (ap (λ z. take c.loop-place.place (slots_items c.loop-place.closed.slots) ++ z ∷ []) (sym here)
+          ∙ (sym (take_more (slots_items c.loop-place.closed.slots) c.loop-place.place None (at_low (slots_items c.loop-place.closed.slots) c.loop-place.place c.take.result c.take.ensures.value)) ∙ ap (λ z. take (c.loop-place.place + 1) z) (sym t.0)))))),
       (λ k l. ap (λ z. slice_index_or z k false) t.1 ∙ cleared (slots_filled c.loop-place.closed.slots) c.loop-place.place i.5 k l),
       (λ k l m. subst (λ z. IsTrue z) (sym (ap (λ z. slice_index_or z k false) t.1 ∙ get_or-set_other (slots_filled c.loop-place.closed.slots) c.loop-place.place k false false (λ e. absurd (omega arith)))) (i.6 k (omega arith) m)),
     )

@@ -30,7 +30,7 @@ returns-clause-some g c =
     let a = took_one g.R.Keeps.kept g.R.Keeps.may_draw g.R.Keeps.follows g.R.Keeps.settles g.R.Keeps.follows_on g.R.Keeps.follows_itself c.args.shared.now.key c.args.shared.now.table_id.slots one.pass c.args.seat.now.me c.args.place c.lock_word-word.result (c.args.number + 1) _ _ one.is c.lock_word-word.ensures c.if-found-ne0.false c.compare_exchange-found.ensures.2 in
     let b = swapped g.R.Keeps.kept g.R.Keeps.may_draw g.R.Keeps.follows g.R.Keeps.settles g.R.Keeps.follows_on g.R.Keeps.follows_itself c.args.shared.now.key (took g.R.Keeps.kept c.args.place a.0 Carried one.pass ∷ []) c.args.place (Some a.0) None _ _ _ a.1 c.exchange.ensures.2 c.exchange.ensures.3 in
     let done = parked g.R.Keeps.kept g.R.Keeps.may_draw g.R.Keeps.follows g.R.Keeps.settles g.R.Keeps.follows_on g.R.Keeps.follows_itself c.args.shared.now.key c.args.shared.now.table_id.slots one.pass _ c.args.place c.lock_word-word.result c.load.result a.0 _ b.1 c.lock_word-word.ensures c.load.ensures.2 in
-    let same = said_is a.0 c.in-Some.record (sym b.0 ∙ c.in-Some.is) in (
+    let same = said_is a.0 c.in-Some.block (sym b.0 ∙ c.in-Some.is) in (
       done ∙ (ap (λ z. (map (took g.R.Keeps.kept c.args.place a.0 Held) z.0, [])) (sym one.is) ∙ ap (λ (r : g.row.R.Denot). (map (took g.R.Keeps.kept c.args.place r Held) c.args.seat.now.me.0, [])) same),
       subst (λ (z : g.row.R.Denot × List (PassView g.row.R.Denot g.row.R-Event.Denot)). Each (Found g.R.Keeps.kept g.R.Keeps.may_draw g.R.Keeps.follows c.args.place z.0) z.1) (λ i. (same i, (sym one.is i).0)) (a.2, tt),
     )

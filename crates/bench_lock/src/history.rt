@@ -1,0 +1,53 @@
+//! A record that keeps the numbers drawn on it.
+ghost use Rattle.std.specs.Prelude.{◌≡◌, [], vec_len, IfOk};
+ghost use Rattle.std.specs.List.{AllByRecursion};
+
+use init_lock::Keeps;
+use std::alloc::{AllocError, Global};
+
+/// A record that keeps a list of numbers.
+#[derive(Drop)]
+pub struct History {
+    pub events: Vec<u64>,
+}
+
+impl Keeps for History {
+    type Event = u64;
+
+    ghost use Rattle.std.specs.Prelude.{false};
+
+    ghost kept = { λ r. r.events.items };
+
+    ghost may_draw = { λ by place event. Unit {0} };
+
+    ghost settles = { λ event. false };
+
+    ghost follows = { λ x y. Unit {0} };
+
+    ghost follows_itself = { λ x. tt };
+
+    ghost follows_on = { λ x y z p q. tt };
+}
+
+/// A record that keeps nothing, with room for so many events.
+fn blank_history(alloc: Global, room: usize) -> Result<History, AllocError>
+    ensures { IfOk result (λ r. r.events.items ≡ []) }
+{
+    Ok(History {
+        events: Vec::with_capacity(alloc, room)?,
+    })
+}
+
+/// Four records that keep nothing, each with room for so many events.
+pub fn four_histories(alloc: Global, room: usize) -> Result<Vec<History>, AllocError>
+    ensures four { IfOk result (λ records. vec_len records ≡ 4) }
+    ensures blank { IfOk result (λ records. AllByRecursion (λ r. r.events.items ≡ []) records.items) }
+{
+    let records = vec![in alloc;
+        blank_history(alloc, room)?,
+        blank_history(alloc, room)?,
+        blank_history(alloc, room)?,
+        blank_history(alloc, room)?,
+    ]?;
+    Ok(records)
+}
