@@ -1,9 +1,14 @@
 //! Times of linking, as ratios within one run.
 //!
-//! With the word `all` as its argument, as `rt run -- all`, it links 128, 256, 512 and 1,024 classes, each with as many
-//! members as there are classes, each class below the one before it. What is printed is how long linking takes a
-//! member, beside the same of 128 classes. Without an argument a few classes are linked, and nothing is printed that
-//! hangs on time.
+//! With the word `all` as its argument, as `rt run -- all`, it links three kinds of programs:
+//!
+//! - 128, 256, 512 and 1,024 classes, each with as many members as there are classes, each class below the one before
+//!   it. What is printed is how long linking takes a member, beside the same of 128 classes.
+//! - One class of 1,024 methods that all have one name, beside one whose methods have names of their own.
+//! - 128, 256 and 512 interfaces, each below those before it, of which it names the last 255 at most. What is printed is
+//!   how long linking takes a name of a superinterface, beside the same of 128 interfaces.
+//!
+//! Without an argument a few classes are linked, and nothing is printed that hangs on time.
 #![tactic(auto)]
 
 use descriptors::{BaseType, ClassName, ElementType, FieldType, MethodType};
@@ -105,9 +110,99 @@ fn classes(alloc: Global, count: usize) -> Result<Vec<ClassText>, AllocError> {
     Ok(all)
 }
 
-// How long it takes to link so many classes with as many members each, in nanoseconds.
-fn link_time(rt: &impl Runtime, alloc: Global, count: usize) -> io::Result<u128> {
-    let all = classes(alloc, count)?;
+// So many int parameters: bit by bit those of the number, an int for a 1 and a byte for a 0.
+fn parameters(alloc: Global, number: usize) -> Result<Sequence<FieldType>, AllocError> {
+    let mut types = Sequence::new(alloc);
+    let mut left = number;
+    for _ in 0..10 {
+        let base = if left % 2 == 1 {
+            BaseType::Int
+        } else {
+            BaseType::Byte
+        };
+        types.push(FieldType {
+            dimensions: 0,
+            element: ElementType::Base(base),
+        })?;
+        left /= 2;
+    }
+    Ok(types)
+}
+
+// One class of so many methods without equal descriptors, which all have one name if `equal`.
+fn methods_class(alloc: Global, count: usize, equal: bool) -> Result<Vec<ClassText>, AllocError> {
+    let mut methods = Sequence::new(alloc);
+    for place in 0..count {
+        let mut next = method(alloc, if equal { 0 } else { place })?;
+        let types = parameters(alloc, place)?;
+        if types.as_slice().len() <= 255 {
+            next.method_type = MethodType::new(types, None);
+        }
+        methods.push(next)?;
+    }
+    let parts = ClassParts {
+        kind: ClassKind::Class,
+        access: Access::NONE,
+        name: class_name(alloc, b"C0")?,
+        superclass: superclass(alloc, 0)?,
+        interfaces: Sequence::new(alloc),
+        fields: Sequence::new(alloc),
+        methods,
+    };
+    let mut all = Vec::new(alloc);
+    all.push(class_text(alloc, parts)?)?;
+    Ok(all)
+}
+
+// The names of the last 255 interfaces before the one of that number, or of all.
+fn names_before(alloc: Global, number: usize) -> Result<Sequence<ClassName>, AllocError> {
+    let mut names = Sequence::new(alloc);
+    for before in number.saturating_sub(255)..number {
+        let text = format!(in alloc; "C{before}")?;
+        names.push(class_name(alloc, text.as_bytes())?)?;
+    }
+    Ok(names)
+}
+
+// The interface of that number, below those before it.
+fn interface(alloc: Global, number: usize) -> Result<ClassText, AllocError> {
+    let text = format!(in alloc; "C{number}")?;
+    class_text(
+        alloc,
+        ClassParts {
+            kind: ClassKind::Interface,
+            access: Access {
+                is_abstract: true,
+                ..Access::NONE
+            },
+            name: class_name(alloc, text.as_bytes())?,
+            superclass: superclass(alloc, 0)?,
+            interfaces: names_before(alloc, number)?,
+            fields: Sequence::new(alloc),
+            methods: Sequence::new(alloc),
+        },
+    )
+}
+
+fn interfaces(alloc: Global, count: usize) -> Result<Vec<ClassText>, AllocError> {
+    let mut all = Vec::new(alloc);
+    for number in 0..count {
+        all.push(interface(alloc, number)?)?;
+    }
+    Ok(all)
+}
+
+// How many names of superinterfaces so many interfaces have.
+fn name_count(count: usize) -> u128 {
+    let mut names: u128 = 0;
+    for number in 0..count {
+        names = names.saturating_add(number.min(255) as u128);
+    }
+    names
+}
+
+// How long it takes to link these, in nanoseconds.
+fn link_time(rt: &impl Runtime, alloc: Global, all: Vec<ClassText>) -> io::Result<u128> {
     let start = Instant::now(rt)?;
     let program = link(alloc, all);
     let time = start.elapsed(rt)?.as_nanos();
@@ -131,11 +226,11 @@ fn ratio(
     format!(in alloc; "{}.{}", tenths / 10, tenths % 10)
 }
 
-fn print_ratios(rt: &impl Runtime, alloc: Global) -> io::Result<()> {
-    let unit = link_time(rt, alloc, 128)?;
+fn print_members(rt: &impl Runtime, alloc: Global) -> io::Result<()> {
+    let unit = link_time(rt, alloc, classes(alloc, 128)?)?;
     println!(rt; "linking a member, against that of 128 classes with 128 members each")?;
     for count in [256_usize, 512, 1024] {
-        let time = link_time(rt, alloc, count)?;
+        let time = link_time(rt, alloc, classes(alloc, count)?)?;
         let members = (count as u128).saturating_mul(count as u128);
         let text = ratio(alloc, time, members, unit, 128 * 128)?;
         println!(rt; "{count} classes: {text}")?;
@@ -143,11 +238,39 @@ fn print_ratios(rt: &impl Runtime, alloc: Global) -> io::Result<()> {
     Ok(())
 }
 
+fn print_equal_names(rt: &impl Runtime, alloc: Global) -> io::Result<()> {
+    let unit = link_time(rt, alloc, methods_class(alloc, 1024, false)?)?;
+    let time = link_time(rt, alloc, methods_class(alloc, 1024, true)?)?;
+    let text = ratio(alloc, time, 1, unit, 1)?;
+    println!(rt; "1024 methods of one name, against 1024 names: {text}")
+}
+
+fn print_interfaces(rt: &impl Runtime, alloc: Global) -> io::Result<()> {
+    let unit = link_time(rt, alloc, interfaces(alloc, 128)?)?;
+    println!(rt;
+        "linking a superinterface's name, against that of 128 interfaces, each below all before it"
+    )?;
+    for count in [256_usize, 512] {
+        let time = link_time(rt, alloc, interfaces(alloc, count)?)?;
+        let text = ratio(alloc, time, name_count(count), unit, name_count(128))?;
+        println!(rt; "{count} interfaces: {text}")?;
+    }
+    Ok(())
+}
+
+fn print_ratios(rt: &impl Runtime, alloc: Global) -> io::Result<()> {
+    print_members(rt, alloc)?;
+    print_equal_names(rt, alloc)?;
+    print_interfaces(rt, alloc)
+}
+
 fn main(rt: HostRuntime) -> io::Result<()> {
     match env::args(&rt)?.nth(1) {
         Some(_) => print_ratios(&rt, rt.alloc()),
         None => {
-            link_time(&rt, rt.alloc(), 8)?;
+            link_time(&rt, rt.alloc(), classes(rt.alloc(), 8)?)?;
+            link_time(&rt, rt.alloc(), methods_class(rt.alloc(), 8, true)?)?;
+            link_time(&rt, rt.alloc(), interfaces(rt.alloc(), 8)?)?;
             println!(&rt; "give the word all to see ratios")
         }
     }
