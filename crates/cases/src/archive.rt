@@ -35,21 +35,6 @@ pub(crate) struct Archive {
     pub(crate) parts: Vec<Part>,
 }
 
-/// Why a file is no archive.
-#[derive(Drop)]
-pub(crate) enum ArchiveFault {
-    /// An escape in this line is malformed, or the file isn't UTF-8 (line 0).
-    Escape { line: usize },
-    /// Out of memory.
-    NoMemory,
-}
-
-impl From<AllocError> for ArchiveFault {
-    fn from(_e: AllocError) -> Self {
-        ArchiveFault::NoMemory
-    }
-}
-
 /// The text of a head, and whether it begins a group.
 fn head_of(line: &str) -> Option<(&str, bool)> {
     if let Some(text) = line.strip_prefix("-- ") {
@@ -70,6 +55,18 @@ fn push_bytes(body: &mut Vec<u8>, digits: &str) -> Result<bool, AllocError> {
     Ok(true)
 }
 
+/// Adds a text with the number of the repeat for `#`.
+fn push_copy(
+    alloc: Global,
+    body: &mut Vec<u8>,
+    number: usize,
+    text: &str,
+) -> Result<(), AllocError> {
+    let number = format!(in alloc; "{number}")?;
+    let copy = text.replace(alloc, '#', number.as_str())?;
+    body.extend_from_slice(copy.as_bytes())
+}
+
 /// Adds a text so many times, with the number of the repeat for `#` and a line feed for `¶`.
 fn push_times(
     alloc: Global,
@@ -79,9 +76,7 @@ fn push_times(
 ) -> Result<(), AllocError> {
     let text = text.replace(alloc, '¶', "\n")?;
     for number in 0..count {
-        let number = format!(in alloc; "{number}")?;
-        let copy = text.replace(alloc, '#', number.as_str())?;
-        body.extend_from_slice(copy.as_bytes())?;
+        push_copy(alloc, body, number, text.as_str())?;
     }
     Ok(())
 }
@@ -110,8 +105,8 @@ fn push_piece(alloc: Global, body: &mut Vec<u8>, piece: &str) -> Result<bool, Al
     Ok(true)
 }
 
-/// Adds what a line of a body spells, or answers that an escape is malformed.
-fn push_line(alloc: Global, body: &mut Vec<u8>, line: &str) -> Result<bool, AllocError> {
+/// Adds what the pieces of a line before each `«` and after spell, or answers that an escape is malformed.
+fn push_pieces(alloc: Global, body: &mut Vec<u8>, line: &str) -> Result<bool, AllocError> {
     let mut is_first = true;
     for piece in line.split('«') {
         if is_first {
@@ -121,10 +116,16 @@ fn push_line(alloc: Global, body: &mut Vec<u8>, line: &str) -> Result<bool, Allo
         }
         is_first = false;
     }
+    Ok(true)
+}
+
+/// Adds what a line of a body spells, or answers that an escape is malformed.
+fn push_line(alloc: Global, body: &mut Vec<u8>, line: &str) -> Result<bool, AllocError> {
+    let is_good = push_pieces(alloc, body, line)?;
     if !line.ends_with("«»") {
         body.push(b'\n')?;
     }
-    Ok(true)
+    Ok(is_good)
 }
 
 /// Adds a part with an empty body.
@@ -160,25 +161,51 @@ fn drop_empty_line(parts: &mut Vec<Part>) {
     }
 }
 
-/// The parts of a file.
-pub(crate) fn read_archive(alloc: Global, bytes: &[u8]) -> Result<Archive, ArchiveFault> {
-    let Ok(text) = std::str::from_utf8(bytes) else {
-        return Err(ArchiveFault::Escape { line: 0 });
+/// Adds a line: a head, or a line of the last part's body. Answers whether its escapes are well formed.
+fn push_any(
+    alloc: Global,
+    parts: &mut Vec<Part>,
+    line: &str,
+    number: usize,
+    is_after_empty: bool,
+) -> Result<bool, AllocError> {
+    let Some((head, is_group)) = head_of(line) else {
+        return push_body(alloc, parts, line);
     };
-    let mut parts = Vec::new(alloc);
+    if is_group && is_after_empty {
+        drop_empty_line(parts);
+    }
+    push_part(alloc, parts, head, is_group, number)?;
+    Ok(true)
+}
+
+/// Adds the parts of a text, or answers the number of the first line with a malformed escape.
+fn push_text(
+    alloc: Global,
+    parts: &mut Vec<Part>,
+    text: &str,
+) -> Result<Option<usize>, AllocError> {
     let mut number: usize = 0;
     let mut is_after_empty = false;
     for line in text.split_terminator('\n') {
         number = number.saturating_add(1);
-        if let Some((head, is_group)) = head_of(line) {
-            if is_group && is_after_empty {
-                drop_empty_line(&mut parts);
-            }
-            push_part(alloc, &mut parts, head, is_group, number)?;
-        } else if !push_body(alloc, &mut parts, line)? {
-            return Err(ArchiveFault::Escape { line: number });
+        if !push_any(alloc, parts, line, number, is_after_empty)? {
+            return Ok(Some(number));
         }
         is_after_empty = line.is_empty();
     }
-    Ok(Archive { parts })
+    Ok(None)
+}
+
+/// Adds the parts of a file, or answers the number of the first line with a malformed escape: 0 where the file isn't
+/// UTF-8.
+pub(crate) fn push_parts(
+    alloc: Global,
+    parts: &mut Vec<Part>,
+    bytes: &[u8],
+) -> Result<Option<usize>, AllocError> {
+    match std::str::from_utf8(bytes) {
+        Ok(text) => push_text(alloc, parts, text),
+        Err(_) => Ok(Some(0)),
+    }
 }

@@ -56,6 +56,11 @@ fn read_file(
     Ok(None)
 }
 
+fn push_line(file: &mut String, line: &str) -> Result<(), AllocError> {
+    file.push_str(line)?;
+    file.push('\n')
+}
+
 /// Adds the classes of a program's files, up to the first that has a fault.
 fn read_files(
     alloc: Global,
@@ -71,8 +76,7 @@ fn read_files(
             }
             file.clear();
         }
-        file.push_str(line)?;
-        file.push('\n')?;
+        push_line(&mut file, line)?;
     }
     read_file(alloc, file.as_str(), classes)
 }
@@ -206,6 +210,19 @@ fn judge_parts(
     Ok(())
 }
 
+/// Fails the files of a program, of which this is the first fault.
+fn fails_files(
+    alloc: Global,
+    line: usize,
+    fault: ReadFault,
+    report: &mut Report,
+) -> Result<(), AllocError> {
+    let kind = fault.kind;
+    let fault_line = fault.line;
+    let came = format!(in alloc; "{kind} in line {fault_line} of a file")?;
+    report.fails(line, b"files without a fault", came.as_bytes())
+}
+
 /// Judges what is asked of a program, whose files stand in the first part.
 fn judge_program(
     alloc: Global,
@@ -214,15 +231,11 @@ fn judge_program(
     report: &mut Report,
 ) -> Result<(), AllocError> {
     let mut classes = Vec::new(alloc);
-    let fault = read_files(alloc, shown(files.body.as_slice()), &mut classes)?;
-    if let Some(fault) = fault {
-        let kind = fault.kind;
-        let line = fault.line;
-        let came = format!(in alloc; "{kind} in line {line} of a file")?;
-        return report.fails(files.line, b"files without a fault", came.as_bytes());
+    match read_files(alloc, shown(files.body.as_slice()), &mut classes) {
+        Ok(None) => judge_parts(alloc, &link(alloc, classes), parts, report),
+        Ok(Some(fault)) => fails_files(alloc, files.line, fault, report),
+        Err(error) => Err(error),
     }
-    let linked = link(alloc, classes);
-    judge_parts(alloc, &linked, parts, report)
 }
 
 /// Fails the parts that stand before the first program.

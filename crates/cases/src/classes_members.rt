@@ -178,6 +178,29 @@ pub(crate) fn invoke(instruction: &str) -> Option<Invoke> {
     }
 }
 
+/// The field that `A/own I` names: its class, its name and its type.
+fn field_reference<'a>(
+    alloc: Global,
+    program: &Program,
+    text: &'a str,
+) -> Option<(ClassId, &'a str, FieldType)> {
+    let (front, descriptor) = text.split_once(' ')?;
+    let (class, name) = member(program, front)?;
+    Some((class, name, field_type(alloc, descriptor)?))
+}
+
+/// A field, or an error.
+fn field_or_error(
+    alloc: Global,
+    program: &Program,
+    found: Result<FieldId, BuiltIn>,
+) -> Result<String, AllocError> {
+    match found {
+        Ok(field) => found_field(alloc, program, field),
+        Err(error) => error_text(alloc, error),
+    }
+}
+
 /// To which field `A/own I` resolves.
 fn resolves_field(
     alloc: Global,
@@ -185,19 +208,11 @@ fn resolves_field(
     kind: FieldKind,
     text: &str,
 ) -> Result<Option<String>, AllocError> {
-    let Some((front, descriptor)) = text.split_once(' ') else {
+    let Some((class, name, field_type)) = field_reference(alloc, program, text) else {
         return Ok(None);
     };
-    let Some((class, name)) = member(program, front) else {
-        return Ok(None);
-    };
-    let Some(field_type) = field_type(alloc, descriptor) else {
-        return Ok(None);
-    };
-    match program.resolve_field(class, name.as_bytes(), &field_type, kind) {
-        Ok(field) => Ok(Some(found_field(alloc, program, field)?)),
-        Err(error) => Ok(Some(error_text(alloc, error)?)),
-    }
+    let found = program.resolve_field(class, name.as_bytes(), &field_type, kind);
+    Ok(Some(field_or_error(alloc, program, found)?))
 }
 
 /// To which method a reference resolves.

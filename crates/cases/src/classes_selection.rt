@@ -38,26 +38,42 @@ fn selected(
     }
 }
 
+/// The text of the reference, and the class behind it.
+fn parted<'a>(program: &Program, how: Invoke, asked: &'a str) -> Option<(&'a str, ClassId)> {
+    let (reference, class) = cut(asked, how)?;
+    Some((reference, program.class_named(class.as_bytes())?))
+}
+
+/// Which method an instruction with this reference runs.
+fn selects_by(
+    alloc: Global,
+    program: &Program,
+    how: Invoke,
+    class: ClassId,
+    reference: &MethodReference,
+) -> Result<Option<String>, AllocError> {
+    match call(how, reference.class, class) {
+        Some(call) => {
+            let found = selected(program, how, call, reference);
+            Ok(Some(found_method(alloc, program, found)?))
+        }
+        None => Ok(None),
+    }
+}
+
 fn selects_of(
     alloc: Global,
     program: &Program,
     how: Invoke,
     asked: &str,
 ) -> Result<Option<String>, AllocError> {
-    let Some((reference, class)) = cut(asked, how) else {
+    let Some((text, class)) = parted(program, how, asked) else {
         return Ok(None);
     };
-    let Some(class) = program.class_named(class.as_bytes()) else {
-        return Ok(None);
-    };
-    let Some(reference) = method_reference(alloc, program, reference)? else {
-        return Ok(None);
-    };
-    let Some(call) = call(how, reference.class, class) else {
-        return Ok(None);
-    };
-    let found = selected(program, how, call, &reference);
-    Ok(Some(found_method(alloc, program, found)?))
+    match method_reference(alloc, program, text)? {
+        Some(reference) => selects_by(alloc, program, how, class, &reference),
+        None => Ok(None),
+    }
 }
 
 /// Which method an instruction runs.

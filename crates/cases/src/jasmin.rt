@@ -14,7 +14,7 @@
 
 use crate::archive::{Archive, Part};
 use crate::report::Report;
-use crate::words::{answer_of_word, listing};
+use crate::words::{answer_of_word, is_of_word, listing};
 use jasmin_reader::{ReadFault, read_class};
 use jasmin_text::write_class;
 use std::alloc::{AllocError, Global};
@@ -27,10 +27,10 @@ struct Frame<'a> {
     after: &'a [u8],
 }
 
-/// What stands around the files and around the canonical texts.
+/// What stands around the files, if anything does, and around the canonical texts.
 #[derive(Drop)]
 struct Around<'a> {
-    frames: Vec<Option<Frame<'a>>>,
+    frames: Vec<Frame<'a>>,
     canonical: Option<Frame<'a>>,
 }
 
@@ -126,62 +126,116 @@ fn judge_canonical(
     report.judges(line, wanted, again.as_slice())
 }
 
-/// Judges a case in a frame.
-fn judge_framed(
+/// Judges a case in a frame by its canonical text.
+fn judge_read(
     alloc: Global,
-    case: Case<'_>,
+    case: &Case<'_>,
     frame: Option<Frame<'_>>,
     canonical: Option<Frame<'_>>,
     report: &mut Report,
 ) -> Result<(), AllocError> {
     let file = framed(alloc, frame, case.body)?;
-    if let Some(text) = case.canonical {
-        let wanted = framed(alloc, canonical, text)?;
-        return judge_canonical(alloc, case.line, file.as_slice(), wanted.as_slice(), report);
-    }
+    let wanted = framed(alloc, canonical, case.canonical.unwrap_or(b""))?;
+    judge_canonical(alloc, case.line, file.as_slice(), wanted.as_slice(), report)
+}
+
+/// Judges a case in a frame by the answer that its head demands.
+fn judge_answer(
+    alloc: Global,
+    case: &Case<'_>,
+    frame: Option<Frame<'_>>,
+    report: &mut Report,
+) -> Result<(), AllocError> {
+    let file = framed(alloc, frame, case.body)?;
     let wanted = answer_wanted(alloc, case.head, first_line(frame))?;
     let came = answer(alloc, file.as_slice())?;
     report.judges(case.line, wanted.as_bytes(), came.as_bytes())
 }
 
-/// Judges a case.
-fn judge_case(
+/// Judges a case in a frame.
+fn judge_framed(
     alloc: Global,
-    case: Case<'_>,
+    case: &Case<'_>,
+    frame: Option<Frame<'_>>,
+    canonical: Option<Frame<'_>>,
+    report: &mut Report,
+) -> Result<(), AllocError> {
+    if case.canonical.is_some() {
+        judge_read(alloc, case, frame, canonical, report)
+    } else {
+        judge_answer(alloc, case, frame, report)
+    }
+}
+
+/// Judges a case in each frame.
+fn judge_frames(
+    alloc: Global,
+    case: &Case<'_>,
     around: &Around<'_>,
     report: &mut Report,
 ) -> Result<(), AllocError> {
-    let canonical = around.canonical;
-    let line = without_line_feed(case.body);
-    if case.head == "words" {
-        let came = listing(alloc, line)?;
-        return report.judges(case.line, case.canonical.unwrap_or(b""), came.as_slice());
-    }
-    if let Some(came) = answer_of_word(alloc, case.head, line)? {
-        return report.judges(case.line, case.head.as_bytes(), came.as_bytes());
-    }
-    if case.head == "canonical" {
-        let text = framed(alloc, canonical, case.body)?;
-        return judge_canonical(alloc, case.line, text.as_slice(), text.as_slice(), report);
+    if around.frames.is_empty() {
+        return judge_framed(alloc, case, None, around.canonical, report);
     }
     for frame in around.frames.as_slice() {
-        judge_framed(alloc, case, *frame, canonical, report)?;
+        judge_framed(alloc, case, Some(*frame), around.canonical, report)?;
     }
     Ok(())
+}
+
+/// Judges the words of a line.
+fn judge_words(alloc: Global, case: &Case<'_>, report: &mut Report) -> Result<(), AllocError> {
+    let came = listing(alloc, without_line_feed(case.body))?;
+    report.judges(case.line, case.canonical.unwrap_or(b""), came.as_slice())
+}
+
+/// Judges what a word is.
+fn judge_word(alloc: Global, case: &Case<'_>, report: &mut Report) -> Result<(), AllocError> {
+    let came = answer_of_word(alloc, case.head, without_line_feed(case.body))?;
+    report.judges(case.line, case.head.as_bytes(), came.as_bytes())
+}
+
+/// Judges a canonical text.
+fn judge_text(
+    alloc: Global,
+    case: &Case<'_>,
+    frame: Option<Frame<'_>>,
+    report: &mut Report,
+) -> Result<(), AllocError> {
+    let text = framed(alloc, frame, case.body)?;
+    judge_canonical(alloc, case.line, text.as_slice(), text.as_slice(), report)
+}
+
+/// Judges a case.
+fn judge_case(
+    alloc: Global,
+    case: &Case<'_>,
+    around: &Around<'_>,
+    report: &mut Report,
+) -> Result<(), AllocError> {
+    if case.head == "words" {
+        judge_words(alloc, case, report)
+    } else if case.head == "canonical" {
+        judge_text(alloc, case, around.canonical, report)
+    } else if is_of_word(case.head) {
+        judge_word(alloc, case, report)
+    } else {
+        judge_frames(alloc, case, around, report)
+    }
 }
 
 /// Judges each line of a body as a case.
 fn judge_lines(
     alloc: Global,
-    lines: Case<'_>,
+    lines: &Case<'_>,
     around: &Around<'_>,
     report: &mut Report,
 ) -> Result<(), AllocError> {
-    let mut case = lines;
+    let mut case = *lines;
     for body in lines.body.split_inclusive(|byte| *byte == b'\n') {
         case.line = case.line.saturating_add(1);
         case.body = body;
-        judge_case(alloc, case, around, report)?;
+        judge_case(alloc, &case, around, report)?;
     }
     Ok(())
 }
@@ -189,35 +243,56 @@ fn judge_lines(
 /// Adds a frame, or reports that the body has no dots.
 fn add_frame<'a>(
     part: &'a Part,
-    frames: &mut Vec<Option<Frame<'a>>>,
+    frames: &mut Vec<Frame<'a>>,
     report: &mut Report,
 ) -> Result<(), AllocError> {
-    let frame = frame_of(part.body.as_slice());
-    if frame.is_none() {
-        report.fails(part.line, b"...", part.body.as_slice())?;
+    match frame_of(part.body.as_slice()) {
+        Some(frame) => {
+            frames.push(frame)?;
+            Ok(())
+        }
+        None => report.fails(part.line, b"...", part.body.as_slice()),
     }
-    frames.push(frame)?;
-    Ok(())
 }
 
-/// Takes what stands around cases from a part of this head, and answers whether it is one.
-fn is_around<'a>(
+/// Takes what stands around cases from a part of this head.
+fn surrounds<'a>(
     part: &'a Part,
     head: &str,
     around: &mut Around<'a>,
     report: &mut Report,
-) -> Result<bool, AllocError> {
-    match head {
-        "around" => around.frames.clear(),
-        "and around" => {}
-        "around as" => {
-            around.canonical = frame_of(part.body.as_slice());
-            return Ok(true);
-        }
-        _ => return Ok(false),
+) -> Result<(), AllocError> {
+    if head == "around as" {
+        around.canonical = frame_of(part.body.as_slice());
+        return Ok(());
     }
-    add_frame(part, &mut around.frames, report)?;
-    Ok(true)
+    if head == "around" {
+        around.frames.clear();
+    }
+    add_frame(part, &mut around.frames, report)
+}
+
+/// Judges the case or the cases of a part of this head, with the part after it.
+fn judge_body(
+    alloc: Global,
+    part: &Part,
+    head: &str,
+    next: Option<&Part>,
+    around: &Around<'_>,
+    report: &mut Report,
+) -> Result<(), AllocError> {
+    let each = head.strip_prefix("each: ");
+    let case = Case {
+        head: each.unwrap_or(head),
+        body: part.body.as_slice(),
+        line: part.line,
+        canonical: canonical_of(next),
+    };
+    if each.is_some() {
+        judge_lines(alloc, &case, around, report)
+    } else {
+        judge_case(alloc, &case, around, report)
+    }
 }
 
 /// Judges the case or the cases of a part, with the part after it.
@@ -229,20 +304,14 @@ fn judge_part<'a>(
     report: &mut Report,
 ) -> Result<(), AllocError> {
     let head = from_utf8(part.head.as_slice()).unwrap_or("");
-    if part.is_group || head == "as" || is_around(part, head, around, report)? {
+    if part.is_group {
         return Ok(());
     }
-    let mut case = Case {
-        head,
-        body: part.body.as_slice(),
-        line: part.line,
-        canonical: canonical_of(next),
-    };
-    if let Some(head) = head.strip_prefix("each: ") {
-        case.head = head;
-        return judge_lines(alloc, case, around, report);
+    match head {
+        "as" => Ok(()),
+        "around" | "and around" | "around as" => surrounds(part, head, around, report),
+        _ => judge_body(alloc, part, head, next, around, report),
     }
-    judge_case(alloc, case, around, report)
 }
 
 /// The body of a part `-- as --`.
@@ -254,6 +323,20 @@ fn canonical_of(part: Option<&Part>) -> Option<&[u8]> {
     None
 }
 
+/// Judges the cases of these parts.
+fn judge_parts<'a>(
+    alloc: Global,
+    parts: &'a [Part],
+    around: &mut Around<'a>,
+    report: &mut Report,
+) -> Result<(), AllocError> {
+    for (index, part) in parts.iter().enumerate() {
+        let next = parts.get(index.saturating_add(1));
+        judge_part(alloc, part, next, around, report)?;
+    }
+    Ok(())
+}
+
 /// Judges the cases of a file.
 pub(crate) fn judge(
     alloc: Global,
@@ -261,13 +344,8 @@ pub(crate) fn judge(
     report: &mut Report,
 ) -> Result<(), AllocError> {
     let mut around = Around {
-        frames: vec![in alloc; None]?,
+        frames: Vec::new(alloc),
         canonical: None,
     };
-    let parts = archive.parts.as_slice();
-    for (index, part) in parts.iter().enumerate() {
-        let next = parts.get(index.saturating_add(1));
-        judge_part(alloc, part, next, &mut around, report)?;
-    }
-    Ok(())
+    judge_parts(alloc, archive.parts.as_slice(), &mut around, report)
 }

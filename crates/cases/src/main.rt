@@ -15,12 +15,13 @@ mod classes_fields;
 mod classes_hierarchy;
 mod classes_members;
 mod classes_selection;
+mod descriptor_words;
 mod jasmin;
 mod programs;
 mod report;
 mod words;
 
-use crate::archive::{Archive, ArchiveFault, read_archive};
+use crate::archive::{Archive, push_parts};
 use crate::report::Report;
 use std::alloc::{AllocError, Global};
 use std::io::Write;
@@ -52,13 +53,11 @@ fn judge_bytes(
     bytes: &[u8],
     report: &mut Report,
 ) -> Result<(), AllocError> {
-    match read_archive(alloc, bytes) {
-        Ok(archive) => judge(alloc, file, &archive, report),
-        Err(ArchiveFault::NoMemory) => report.refuses("out of memory"),
-        Err(ArchiveFault::Escape { line }) => {
-            let reason = format!(in alloc; "a bad escape in line {line}")?;
-            report.refuses(reason.as_str())
-        }
+    let mut parts = Vec::new(alloc);
+    match push_parts(alloc, &mut parts, bytes) {
+        Ok(None) => judge(alloc, file, &Archive { parts }, report),
+        Ok(Some(line)) => report.refuses_line(line),
+        Err(_) => report.refuses("out of memory"),
     }
 }
 
@@ -72,21 +71,24 @@ fn judge_file(rt: &HostRuntime, file: &str, report: &mut Report) -> Result<(), A
     report.ends()
 }
 
-/// Judges the files that the command line names, and answers whether all cases passed.
-fn judge_files(rt: &HostRuntime) -> io::Result<bool> {
-    let alloc = rt.alloc();
-    let args: Vec<String> = env::args(rt)?.collect(alloc)?;
-    let mut report = Report::new(alloc);
+/// Judges the files of these names, after the program's own, and answers whether all cases passed.
+fn judge_all(rt: &HostRuntime, args: &[String], report: &mut Report) -> Result<bool, AllocError> {
     for file in args.iter().skip(1) {
-        judge_file(rt, file.as_str(), &mut report)?;
+        judge_file(rt, file.as_str(), report)?;
     }
-    let is_good = report.closes()?;
+    report.closes()
+}
+
+/// Judges the files that the command line names, and answers whether all cases passed.
+fn judge_files(rt: &HostRuntime, report: &mut Report) -> io::Result<bool> {
+    let args: Vec<String> = env::args(rt)?.collect(rt.alloc())?;
+    let is_good = judge_all(rt, args.as_slice(), report)?;
     rt.stdout().write_all(report.text())?;
     Ok(is_good)
 }
 
 fn main(rt: HostRuntime) -> ExitCode {
-    match judge_files(&rt) {
+    match judge_files(&rt, &mut Report::new(rt.alloc())) {
         Ok(true) => ExitCode::from(0),
         _ => ExitCode::from(1),
     }

@@ -27,6 +27,19 @@ fn head_of(part: &Part) -> &str {
     std::str::from_utf8(part.head.as_slice()).unwrap_or("")
 }
 
+/// Makes a file of this number.
+fn put_copy(
+    alloc: Global,
+    number: &str,
+    name: &str,
+    body: &str,
+    files: &mut Texts,
+) -> Result<(), AllocError> {
+    let name = name.replace(alloc, "#", number)?;
+    let body = body.replace(alloc, "#", number)?;
+    files.put(name.as_str(), body.as_bytes())
+}
+
 /// Makes a file for each number below this one.
 fn put_numbered(
     alloc: Global,
@@ -37,9 +50,7 @@ fn put_numbered(
 ) -> Result<(), AllocError> {
     for number in 0..count {
         let number = format!(in alloc; "{number}")?;
-        let name = name.replace(alloc, "#", number.as_str())?;
-        let body = body.replace(alloc, "#", number.as_str())?;
-        files.put(name.as_str(), body.as_bytes())?;
+        put_copy(alloc, number.as_str(), name, body, files)?;
     }
     Ok(())
 }

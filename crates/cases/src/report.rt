@@ -15,13 +15,16 @@ pub(crate) struct Report {
     text: Vec<u8>,
 }
 
-/// Adds a text: after a space where it is one line, else as lines of their own, further in.
-fn push_block(text: &mut Vec<u8>, block: &[u8]) -> Result<(), AllocError> {
-    if !block.contains(&b'\n') {
-        text.push(b' ')?;
-        return text.extend_from_slice(block);
+/// Adds these texts, one after the other.
+pub(crate) fn push_all(text: &mut Vec<u8>, pieces: &[&[u8]]) -> Result<(), AllocError> {
+    for piece in pieces {
+        text.extend_from_slice(piece)?;
     }
-    text.extend_from_slice(b"\n    ")?;
+    Ok(())
+}
+
+/// Adds the lines of a text, further in.
+fn push_lines(text: &mut Vec<u8>, block: &[u8]) -> Result<(), AllocError> {
     for byte in block {
         text.push(*byte)?;
         if *byte == b'\n' {
@@ -30,6 +33,28 @@ fn push_block(text: &mut Vec<u8>, block: &[u8]) -> Result<(), AllocError> {
     }
     text.push(b'\n')?;
     Ok(())
+}
+
+/// Adds a text: after a space where it is one line, else as lines of their own, further in.
+fn push_block(text: &mut Vec<u8>, block: &[u8]) -> Result<(), AllocError> {
+    if !block.contains(&b'\n') {
+        return push_all(text, &[b" ", block]);
+    }
+    text.extend_from_slice(b"\n    ")?;
+    push_lines(text, block)
+}
+
+/// Adds two answers that differ.
+fn push_answers(text: &mut Vec<u8>, wanted: &[u8], came: &[u8]) -> Result<(), AllocError> {
+    push_block(text, wanted)?;
+    text.extend_from_slice(b", came")?;
+    push_block(text, came)?;
+    text.extend_from_slice(b"\n")
+}
+
+/// Adds a reason, as the rest of a line.
+fn push_reason(text: &mut Vec<u8>, reason: &str) -> Result<(), AllocError> {
+    push_all(text, &[b": ", reason.as_bytes(), b"\n"])
 }
 
 impl Report {
@@ -56,8 +81,7 @@ impl Report {
     pub(crate) fn ends(&mut self) -> Result<(), AllocError> {
         let cases = self.cases;
         let count = format!(in self.alloc; ": {cases} cases\n")?;
-        self.text.extend_from_slice(self.file.as_slice())?;
-        self.text.extend_from_slice(count.as_bytes())
+        push_all(&mut self.text, &[self.file.as_slice(), count.as_bytes()])
     }
 
     /// A case passed.
@@ -76,13 +100,8 @@ impl Report {
         self.cases = self.cases.saturating_add(1);
         self.failed = self.failed.saturating_add(1);
         let at = format!(in self.alloc; ":{line}: wanted")?;
-        self.text.extend_from_slice(self.file.as_slice())?;
-        self.text.extend_from_slice(at.as_bytes())?;
-        push_block(&mut self.text, wanted)?;
-        self.text.extend_from_slice(b", came")?;
-        push_block(&mut self.text, came)?;
-        self.text.push(b'\n')?;
-        Ok(())
+        push_all(&mut self.text, &[self.file.as_slice(), at.as_bytes()])?;
+        push_answers(&mut self.text, wanted, came)
     }
 
     /// The case at this line of the file passed where these answers are the same.
@@ -103,10 +122,13 @@ impl Report {
     pub(crate) fn refuses(&mut self, reason: &str) -> Result<(), AllocError> {
         self.failed = self.failed.saturating_add(1);
         self.text.extend_from_slice(self.file.as_slice())?;
-        self.text.extend_from_slice(b": ")?;
-        self.text.extend_from_slice(reason.as_bytes())?;
-        self.text.push(b'\n')?;
-        Ok(())
+        push_reason(&mut self.text, reason)
+    }
+
+    /// The file has a malformed escape in this line.
+    pub(crate) fn refuses_line(&mut self, line: usize) -> Result<(), AllocError> {
+        let reason = format!(in self.alloc; "a bad escape in line {line}")?;
+        self.refuses(reason.as_str())
     }
 
     /// Reports how many cases passed and failed, and answers whether all passed.

@@ -9,8 +9,8 @@ use std::alloc::{AllocError, Global};
 
 /// A program that is compared: its files, what each of their classes needs, as read from JVMS SE 8 5.5 by hand,
 /// and the main classes of two threads. A class is named by the place of its file.
-#[derive(Clone, Copy)]
-pub struct Case {
+#[derive(Clone, Copy, Drop)]
+pub(crate) struct Case {
     pub files: &'static [&'static [u8]],
     pub needs: &'static [&'static [usize]],
     pub mains: [usize; 2],
@@ -141,4 +141,21 @@ pub(crate) fn compare_at(
     next_choices(alloc, program, &case.mains, path, &mut next, &mut made)?;
     push_longer(alloc, path, next.as_slice(), longer)?;
     differences(alloc, program, case, list.as_slice(), made.as_slice())
+}
+
+/// Whether World and the twin judge each event alike after each of at least 200 lists.
+pub(crate) fn agrees(
+    alloc: Global,
+    program: &Program,
+    case: &Case,
+    depth: usize,
+) -> Result<bool, AllocError> {
+    let (lists, differ) = compared(alloc, program, case, depth)?;
+    Ok(lists >= 200 && differ == 0)
+}
+
+/// Whether they judge an event otherwise after one of at most two events.
+pub(crate) fn differs(alloc: Global, program: &Program, case: &Case) -> Result<bool, AllocError> {
+    let (_, differ) = compared(alloc, program, case, 3)?;
+    Ok(differ > 0)
 }

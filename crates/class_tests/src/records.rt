@@ -3,19 +3,30 @@
 ghost use Rattle.std.specs.Prelude.{◌<◌};
 ghost use Rattle.init_core.specs.Numbers.{IsInRange};
 
-use crate::programs::program;
+use crate::programs::{Question, is_so};
+use crate::static_values::{CONSTANTS, FIELDS, constants, within_step_7, writes};
 use hierarchy::{ClassId, Program};
-use init_core::{ClassRecord, Decision, Event, Kind, Label, THREADS};
+use init_core::{CLASS_NUMBERS, ClassRecord, Decision, Event, Kind, Label, THREADS};
 use sequence::Text;
 use std::alloc::{AllocError, Global};
-use std::process::Abort;
 use std::test::Fail;
 
-const SOLO: &[&[u8]] = &[b".class Solo"];
+const FILES: [&[u8]; 3] = [b".class Solo", CONSTANTS, FIELDS];
 
 const CLASS: ClassId = ClassId { number: 0 };
 
 const ERROR: ClassId = ClassId { number: 7 };
+
+/// What is done to a record.
+#[derive(Clone, Copy, Drop)]
+enum Deed {
+    Completes,
+    Fails { by_super: bool },
+    Begins,
+    Constants,
+    WithinStep7,
+    Writes,
+}
 
 fn event(thread: usize, kind: Kind) -> Event
     requires thread { thread < THREADS }
@@ -33,57 +44,52 @@ pub(crate) fn alike(one: &Event, other: &Event) -> Result<bool, AllocError> {
     )
 }
 
-/// Each thread in turn looks at the class, and finds this.
-fn finds(
-    rt: &impl Abort,
+/// Whether each thread in turn that looks at the class finds this.
+pub(crate) fn finds(
     record: &mut ClassRecord,
     looks: &[(usize, Decision)],
-) -> Result<(), Fail> {
+) -> Result<bool, AllocError> {
     for (thread, decision) in looks {
-        assert!(rt; *thread < THREADS);
-        assert_eq!(rt; record.enter(*thread)?, *decision);
+        if *thread >= THREADS || record.enter(*thread)? != *decision {
+            return Ok(false);
+        }
     }
-    Ok(())
+    Ok(true)
 }
 
-const BESIDE_THE_OWNER: [(usize, Decision); 3] = [
+const BESIDE_THE_OWNER: [(usize, Decision); 4] = [
+    (0, Decision::Begins),
     (0, Decision::Recurs),
     (1, Decision::Waits { first: true }),
     (1, Decision::Waits { first: false }),
 ];
 
-fn completes(rt: &impl Abort, record: &mut ClassRecord) -> Result<(), Fail> {
-    assert_eq!(rt; record.label(), Label::Prepared);
-    assert_eq!(rt; record.class(), CLASS);
-    finds(rt, record, &[(0, Decision::Begins)])?;
-    assert_eq!(rt; record.owner(), Some(0));
-    finds(rt, record, &BESIDE_THE_OWNER)?;
-    ends(rt, record)
+/// Whether the record is of the class, and nothing was done yet.
+fn is_prepared(record: &ClassRecord) -> bool {
+    record.label() == Label::Prepared && record.class() == CLASS
 }
 
 /// Its owner completes the class.
-fn ends(rt: &impl Abort, record: &mut ClassRecord) -> Result<(), Fail> {
+fn ends(record: &mut ClassRecord) -> bool {
+    let was_owned = record.owner() == Some(0);
     let Label::InProgress(0) = record.label() else {
-        return Err(Fail::from("not in progress"));
+        return false;
     };
     record.complete(0);
-    assert_eq!(rt; record.label(), Label::Initialized);
-    finds(rt, record, &[(1, Decision::FindsInitialized)])?;
-    assert_eq!(rt; record.owner(), None);
-    assert_eq!(rt; record.failure(), None);
-    Ok(())
+    was_owned && record.label() == Label::Initialized
 }
 
-/// The events of a record.
-pub(crate) fn history(alloc: Global, record: &ClassRecord) -> Result<Vec<Event>, AllocError> {
-    let mut events = Vec::new(alloc);
-    for place in 0..record.len() {
-        events.push(record.event(place)?)?;
+/// Whether these are the events of the record.
+fn has_history(record: &ClassRecord, events: &[Event]) -> Result<bool, AllocError> {
+    for (place, event) in events.iter().enumerate() {
+        if place >= record.len() || !alike(&record.event(place)?, event)? {
+            return Ok(false);
+        }
     }
-    Ok(events)
+    Ok(record.len() == events.len())
 }
 
-fn kept(rt: &impl Abort, record: &ClassRecord) -> Result<(), Fail> {
+fn is_kept(record: &ClassRecord) -> Result<bool, AllocError> {
     let events = [
         event(0, Kind::Begins),
         event(0, Kind::Recurs),
@@ -91,84 +97,116 @@ fn kept(rt: &impl Abort, record: &ClassRecord) -> Result<(), Fail> {
         event(0, Kind::Completes),
         event(1, Kind::FindsInitialized),
     ];
-    assert_eq!(rt; record.len(), events.len());
-    for (place, event) in events.iter().enumerate() {
-        assert!(rt; place < record.len());
-        assert!(rt; alike(&record.event(place)?, event)?);
-    }
-    Ok(())
+    Ok(
+        record.owner().is_none()
+            && record.failure().is_none()
+            && has_history(record, events.as_slice())?,
+    )
 }
 
-fn completes_for_all_threads(
-    rt: &impl Abort,
-    alloc: Global,
-    program: &Program,
-) -> Result<(), Fail> {
-    let mut record = ClassRecord::new(alloc, program, CLASS)?;
-    completes(rt, &mut record)?;
-    kept(rt, &record)
+fn completes(record: &mut ClassRecord) -> Result<bool, AllocError> {
+    Ok(
+        is_prepared(record)
+            && finds(record, &BESIDE_THE_OWNER)?
+            && ends(record)
+            && finds(record, &[(1, Decision::FindsInitialized)])?
+            && is_kept(record)?,
+    )
 }
 
-fn fails(rt: &impl Abort, record: &mut ClassRecord, by_super: bool) -> Result<(), Fail> {
-    finds(rt, record, &[(3, Decision::Begins)])?;
+/// Its owner fails.
+fn is_failed(record: &mut ClassRecord, by_super: bool) -> bool {
     let Label::InProgress(3) = record.label() else {
-        return Err(Fail::from("not in progress"));
+        return false;
     };
     if by_super {
         record.super_failed(3, ERROR);
     } else {
         record.fail(3, ERROR);
     }
-    assert_eq!(rt; record.label(), Label::Erroneous);
-    assert_eq!(rt; record.failure(), Some(ERROR));
-    finds(
-        rt,
-        record,
-        &[(3, Decision::FindsErroneous), (0, Decision::FindsErroneous)],
-    )?;
-    assert_eq!(rt; record.len(), 4);
-    Ok(())
+    record.label() == Label::Erroneous && record.failure() == Some(ERROR)
 }
 
-fn fails_for_all_threads(
-    rt: &impl Abort,
+const ERRONEOUS: [(usize, Decision); 2] = [
+    (3, Decision::FindsErroneous),
+    (0, Decision::FindsErroneous),
+];
+
+fn fails(record: &mut ClassRecord, by_super: bool) -> Result<bool, AllocError> {
+    Ok(
+        finds(record, &[(3, Decision::Begins)])?
+            && is_failed(record, by_super)
+            && finds(record, &ERRONEOUS)?
+            && record.len() == 4,
+    )
+}
+
+/// A class begins in reserved room.
+fn begins(record: &mut ClassRecord) -> Result<bool, AllocError> {
+    record.reserve()?;
+    Ok(record.enter(0)?.kind() == Kind::Begins)
+}
+
+fn does(
     alloc: Global,
     program: &Program,
-    by_super: bool,
-) -> Result<(), Fail> {
-    let mut record = ClassRecord::new(alloc, program, CLASS)?;
-    fails(rt, &mut record, by_super)
+    record: &mut ClassRecord,
+    deed: Deed,
+) -> Result<bool, AllocError> {
+    match deed {
+        Deed::Completes => completes(record),
+        Deed::Fails { by_super } => fails(record, by_super),
+        Deed::Begins => begins(record),
+        Deed::Constants => constants(alloc, program, record),
+        Deed::WithinStep7 => within_step_7(record),
+        Deed::Writes => writes(record),
+    }
 }
 
-fn begins(rt: &impl Abort, record: &mut ClassRecord) -> Result<(), Fail> {
-    record.reserve()?;
-    assert_eq!(rt; record.enter(0)?.kind(), Kind::Begins);
-    Ok(())
+fn is_done(alloc: Global, program: &Program, class: usize, deed: Deed) -> Result<bool, AllocError> {
+    if class >= CLASS_NUMBERS {
+        return Ok(false);
+    }
+    let class = ClassId { number: class };
+    let mut record = ClassRecord::new(alloc, program, class)?;
+    does(alloc, program, &mut record, deed)
 }
 
-fn begins_in_reserved_room(rt: &impl Abort, alloc: Global, program: &Program) -> Result<(), Fail> {
-    let mut record = ClassRecord::new(alloc, program, CLASS)?;
-    begins(rt, &mut record)
-}
+const DEEDS: [(usize, Deed); 7] = [
+    (0, Deed::Completes),
+    (0, Deed::Fails { by_super: false }),
+    (0, Deed::Fails { by_super: true }),
+    (0, Deed::Begins),
+    (1, Deed::Constants),
+    (2, Deed::WithinStep7),
+    (2, Deed::Writes),
+];
 
-fn all(rt: &impl Abort, alloc: Global, program: &Program) -> Result<(), Fail> {
-    completes_for_all_threads(rt, alloc, program)?;
-    fails_for_all_threads(rt, alloc, program, false)?;
-    fails_for_all_threads(rt, alloc, program, true)?;
-    begins_in_reserved_room(rt, alloc, program)
+/// Whether what is done to the record of each class comes out so.
+pub(crate) fn records(alloc: Global, program: &Program) -> Result<bool, AllocError> {
+    for (class, deed) in DEEDS {
+        if !is_done(alloc, program, class, deed)? {
+            return Ok(false);
+        }
+    }
+    Ok(true)
 }
 
 #[test]
-fn records_of_one_class(rt: HostRuntime) -> Result<(), Fail> {
-    let program = program(rt.alloc(), SOLO)?;
-    all(&rt, rt.alloc(), &program)
+fn records_of_classes(rt: HostRuntime) -> Result<(), Fail> {
+    assert!(rt; is_so(rt.alloc(), &FILES, &Question::Records)?);
+    Ok(())
+}
+
+/// Whether the event and its copy are alike.
+fn is_copied(event: &Event) -> Result<bool, AllocError> {
+    alike(&event.clone()?, event)
 }
 
 #[test]
 fn events_are_copied(rt: HostRuntime) -> Result<(), Fail> {
     let printed = Event::print(rt.alloc(), 2, Text::copied(rt.alloc(), b"2\n")?)?;
-    assert!(rt; alike(&printed.clone()?, &printed)?);
-    let failed = event(1, Kind::Fails(ERROR));
-    assert!(rt; alike(&failed.clone()?, &failed)?);
+    assert!(rt; is_copied(&printed)?);
+    assert!(rt; is_copied(&event(1, Kind::Fails(ERROR)))?);
     Ok(())
 }

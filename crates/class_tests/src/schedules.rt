@@ -10,7 +10,7 @@ use init_world::{Turn, World};
 use std::alloc::{AllocError, Global};
 
 /// What a thread does next, where it can.
-#[derive(Clone, Copy, Debug)]
+#[derive(Clone, Copy)]
 pub enum Action {
     Goes,
     Requests(usize),
@@ -18,7 +18,7 @@ pub enum Action {
     Throws,
 }
 
-#[derive(Clone, Copy, Debug)]
+#[derive(Clone, Copy)]
 pub struct Choice {
     pub thread: usize,
     pub action: Action,

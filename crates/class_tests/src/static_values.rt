@@ -2,23 +2,17 @@
 
 ghost use Rattle.std.specs.Prelude.{◌<◌};
 
-use crate::programs::program;
-use crate::records::{alike, history};
+use crate::records::{alike, finds};
 use hierarchy::{ClassId, Program, Value};
 use init_core::{ClassRecord, Decision, Event, FIELD_PLACES, Kind, Label};
-use std::alloc::Global;
-use std::process::Abort;
-use std::test::Fail;
+use std::alloc::{AllocError, Global};
 use trace::write_trace;
 
-const FILES: [&[u8]; 2] = [
-    b".class C\n.field static b B = 300\n.field static z Z = 2\n.field static s Ljava/lang/String; = \"a\"\n.field static n I",
-    b".class D\n.field static k I = 5\n.field static n S",
-];
+/// A class whose static fields have constants, with an instance field between them.
+pub(crate) const CONSTANTS: &[u8] =
+    b".class C\n.field static b B = 300\n.field static z Z = 2\n.field static s Ljava/lang/String; = \"a\"\n.field static n I";
 
-const C: ClassId = ClassId { number: 0 };
-
-const D: ClassId = ClassId { number: 1 };
+pub(crate) const FIELDS: &[u8] = b".class D\n.field static k I = 5\n.field static n S";
 
 const DEFAULTS: [Value; 4] = [Value::Int(0), Value::Int(0), Value::Null, Value::Int(0)];
 
@@ -29,48 +23,45 @@ const NARROWED: [Value; 4] = [
     Value::Int(0),
 ];
 
-fn get(field: usize, value: Value) -> Event
-    requires { field < FIELD_PLACES }
-{
-    Event::new(0, D, Kind::Gets { field, value })
-}
-
-/// Reads a static field, where the thread may.
-fn read(record: &mut ClassRecord, place: usize) -> Result<Value, Fail> {
+/// Whether a read of a static field gives this value.
+fn reads_one(record: &mut ClassRecord, place: usize, value: Value) -> Result<bool, AllocError> {
     if let Label::InProgress(0) = record.label() {
         if place < record.static_fields() {
-            return Ok(record.read_static(0, place)?);
+            return Ok(record.read_static(0, place)? == value);
         }
     }
-    Err(Fail::from("the field can't be read"))
+    Ok(false)
 }
 
 /// Writes a static field, where the thread may.
-fn write(record: &mut ClassRecord, place: usize, value: Value) -> Result<(), Fail> {
+fn write(record: &mut ClassRecord, place: usize, value: Value) -> Result<bool, AllocError> {
     if let Label::InProgress(0) = record.label() {
         if place < record.static_fields() {
             record.write_static(0, place, value)?;
-            return Ok(());
+            return Ok(true);
         }
     }
-    Err(Fail::from("the field can't be written"))
+    Ok(false)
 }
 
-/// Reads the fields in order; each holds its value.
-fn reads(rt: &impl Abort, record: &mut ClassRecord, values: &[Value]) -> Result<(), Fail> {
+/// Reads the fields in order; whether each holds its value.
+fn reads(record: &mut ClassRecord, values: &[Value]) -> Result<bool, AllocError> {
     for (place, value) in values.iter().enumerate() {
-        assert_eq!(rt; read(record, place)?, *value);
+        if !reads_one(record, place, *value)? {
+            return Ok(false);
+        }
     }
-    Ok(())
+    Ok(true)
 }
 
-/// Each field holds its value, and is not read.
-fn holds(rt: &impl Abort, record: &ClassRecord, values: &[Value]) {
-    assert_eq!(rt; record.static_fields(), values.len());
+/// Whether each field holds its value. None is read.
+fn holds(record: &ClassRecord, values: &[Value]) -> bool {
     for (place, value) in values.iter().enumerate() {
-        assert!(rt; place < record.static_fields());
-        assert_eq!(rt; record.value(place), *value);
+        if place >= record.static_fields() || record.value(place) != *value {
+            return false;
+        }
     }
+    record.static_fields() == values.len()
 }
 
 /// What the record's history is as a trace.
@@ -81,53 +72,84 @@ const READS: &[u8] = b"0 t0 step6 C
 4 t0 get C n:I 0
 ";
 
+const BEGINS: [(usize, Decision); 1] = [(0, Decision::Begins)];
+
 /// Constants are narrowed to their field's type.
-fn begins_with_constants(rt: &impl Abort, record: &mut ClassRecord) -> Result<(), Fail> {
-    holds(rt, record, &DEFAULTS);
-    assert_eq!(rt; record.enter(0)?, Decision::Begins);
-    reads(rt, record, &NARROWED)
+fn narrows(record: &mut ClassRecord) -> Result<bool, AllocError> {
+    Ok(holds(record, &DEFAULTS) && finds(record, &BEGINS)? && reads(record, &NARROWED)?)
 }
 
-fn narrowed_constants(rt: &impl Abort, alloc: Global, program: &Program) -> Result<(), Fail> {
-    let mut record = ClassRecord::new(alloc, program, C)?;
-    begins_with_constants(rt, &mut record)?;
-    assert!(rt; write_trace(alloc, program, &history(alloc, &record)?)?.as_slice() == READS);
-    Ok(())
+/// The events of a record.
+fn history(alloc: Global, record: &ClassRecord) -> Result<Vec<Event>, AllocError> {
+    let mut events = Vec::new(alloc);
+    for place in 0..record.len() {
+        events.push(record.event(place)?)?;
+    }
+    Ok(events)
+}
+
+pub(crate) fn constants(
+    alloc: Global,
+    program: &Program,
+    record: &mut ClassRecord,
+) -> Result<bool, AllocError> {
+    if !narrows(record)? {
+        return Ok(false);
+    }
+    Ok(write_trace(alloc, program, &history(alloc, record)?)?.as_slice() == READS)
+}
+
+/// Whether this event of the record is a read of the field by thread 0, with this value.
+fn has_read(
+    record: &ClassRecord,
+    place: usize,
+    field: usize,
+    value: Value,
+) -> Result<bool, AllocError>
+    requires { field < FIELD_PLACES }
+{
+    if place >= record.len() {
+        return Ok(false);
+    }
+    let event = Event::new(0, ClassId { number: 2 }, Kind::Gets { field, value });
+    alike(&record.event(place)?, &event)
+}
+
+/// A look of the owner, and then a read.
+fn recurs(record: &mut ClassRecord, field: usize, value: Value) -> Result<bool, AllocError> {
+    Ok(finds(record, &[(0, Decision::Recurs)])? && reads_one(record, field, value)?)
 }
 
 /// From step 6 on constants are there, before anything that the class needs is done.
-fn reads_within_step_7(rt: &impl Abort, record: &mut ClassRecord) -> Result<(), Fail> {
-    assert_eq!(rt; record.enter(0)?, Decision::Begins);
-    for (place, value) in [Value::Int(5), Value::Int(0)].iter().enumerate() {
-        assert_eq!(rt; record.enter(0)?, Decision::Recurs);
-        assert_eq!(rt; read(record, place)?, *value);
-    }
-    assert!(rt; record.len() == 5);
-    assert!(rt; alike(&record.event(2)?, &get(0, Value::Int(5)))?);
-    assert!(rt; alike(&record.event(4)?, &get(1, Value::Int(0)))?);
-    Ok(())
+pub(crate) fn within_step_7(record: &mut ClassRecord) -> Result<bool, AllocError> {
+    Ok(
+        finds(record, &BEGINS)?
+            && recurs(record, 0, Value::Int(5))?
+            && recurs(record, 1, Value::Int(0))?
+            && record.len() == 5
+            && has_read(record, 2, 0, Value::Int(5))?
+            && has_read(record, 4, 1, Value::Int(0))?,
+    )
+}
+
+/// Writes a field, and reads both.
+fn puts(
+    record: &mut ClassRecord,
+    place: usize,
+    value: Value,
+    values: &[Value],
+) -> Result<bool, AllocError> {
+    Ok(write(record, place, value)? && reads(record, values)?)
 }
 
 /// A field holds what was written last, as the field keeps it.
-fn writes(rt: &impl Abort, record: &mut ClassRecord) -> Result<(), Fail> {
-    assert_eq!(rt; record.enter(0)?, Decision::Begins);
-    write(record, 0, Value::Int(-9))?;
-    write(record, 1, Value::Int(32768))?;
-    reads(rt, record, &[Value::Int(-9), Value::Int(-32768)])?;
-    write(record, 0, Value::Int(8))?;
-    reads(rt, record, &[Value::Int(8), Value::Int(-32768)])?;
-    assert_eq!(rt; record.len(), 8);
-    Ok(())
-}
-
-fn all(rt: &impl Abort, alloc: Global, program: &Program) -> Result<(), Fail> {
-    narrowed_constants(rt, alloc, program)?;
-    reads_within_step_7(rt, &mut ClassRecord::new(alloc, program, D)?)?;
-    writes(rt, &mut ClassRecord::new(alloc, program, D)?)
-}
-
-#[test]
-fn constants_and_writes(rt: HostRuntime) -> Result<(), Fail> {
-    let program = program(rt.alloc(), &FILES)?;
-    all(&rt, rt.alloc(), &program)
+pub(crate) fn writes(record: &mut ClassRecord) -> Result<bool, AllocError> {
+    let kept = Value::Int(-32768);
+    Ok(
+        finds(record, &BEGINS)?
+            && write(record, 0, Value::Int(-9))?
+            && puts(record, 1, Value::Int(32768), &[Value::Int(-9), kept])?
+            && puts(record, 0, Value::Int(8), &[Value::Int(8), kept])?
+            && record.len() == 8,
+    )
 }

@@ -3,12 +3,11 @@
 ghost use Rattle.std.specs.Prelude.{◌<◌};
 ghost use Rattle.init_core.specs.Numbers.{IsInRange};
 
-use crate::programs::program;
+use crate::programs::{Question, is_so};
 use hierarchy::{BuiltIn, ClassId, Program, Value};
 use init_core::{CLASS_NUMBERS, Event, FIELD_PLACES, Kind, THREADS};
 use sequence::Text;
 use std::alloc::{AllocError, Global};
-use std::process::Abort;
 use std::test::Fail;
 use trace::write_trace;
 
@@ -45,8 +44,18 @@ fn event(thread: usize, kind: Kind) -> Event
     Event::new(thread, SOLO, kind)
 }
 
-/// A trace with every step, in which classes fail by this error.
-fn steps(alloc: Global, program: &Program, error: ClassId) -> Result<Vec<u8>, AllocError>
+/// Whether this is the trace of these events.
+fn is_trace(
+    alloc: Global,
+    program: &Program,
+    events: &[Event],
+    text: &[u8],
+) -> Result<bool, AllocError> {
+    Ok(write_trace(alloc, program, events)?.as_slice() == text)
+}
+
+/// Every step, where classes fail by this error.
+fn writes_steps(alloc: Global, program: &Program, error: ClassId) -> Result<bool, AllocError>
     requires { error.number < CLASS_NUMBERS }
 {
     let events = [
@@ -60,15 +69,7 @@ fn steps(alloc: Global, program: &Program, error: ClassId) -> Result<Vec<u8>, Al
         event(1, Kind::SuperFails(error)),
         event(1, Kind::Completes),
     ];
-    write_trace(alloc, program, &events)
-}
-
-fn writes_steps(rt: &impl Abort, alloc: Global, program: &Program) -> Result<(), Fail> {
-    let error = program.built_in(BuiltIn::ExceptionInInitializerError);
-    assert!(rt; error.number < CLASS_NUMBERS);
-    assert!(rt; steps(alloc, program, error)?.as_slice() == STEPS);
-    assert!(rt; write_trace(alloc, program, &[])?.is_empty());
-    Ok(())
+    is_trace(alloc, program, &events, STEPS)
 }
 
 fn gets(thread: usize, field: usize, value: Value) -> Event
@@ -85,30 +86,31 @@ fn puts(thread: usize, field: usize, value: Value) -> Event
     Event::new(thread, C, Kind::Puts { field, value })
 }
 
-/// A trace with reads, a write and a print of this text.
-fn uses(alloc: Global, program: &Program, text: Text) -> Result<Vec<u8>, AllocError> {
+/// Reads, a write and a print of this text.
+fn writes_uses(alloc: Global, program: &Program, text: Text) -> Result<bool, AllocError> {
     let events = [
         gets(0, 0, Value::Int(-44)),
         puts(3, 1, Value::Reference(12)),
         gets(3, 1, Value::Null),
         Event::print(alloc, 1, text)?,
     ];
-    write_trace(alloc, program, &events)
+    is_trace(alloc, program, &events, USES)
 }
 
-fn writes_uses(rt: &impl Abort, alloc: Global, program: &Program) -> Result<(), Fail> {
+/// Whether each event has its text.
+pub(crate) fn traces(alloc: Global, program: &Program) -> Result<bool, AllocError> {
+    let error = program.built_in(BuiltIn::ExceptionInInitializerError);
     let text = Text::copied(alloc, b"a \"b\"\n\x01")?;
-    assert!(rt; uses(alloc, program, text)?.as_slice() == USES);
-    Ok(())
-}
-
-fn writes_all(rt: &impl Abort, alloc: Global, program: &Program) -> Result<(), Fail> {
-    writes_steps(rt, alloc, program)?;
-    writes_uses(rt, alloc, program)
+    Ok(
+        writes_uses(alloc, program, text)?
+            && error.number < CLASS_NUMBERS
+            && writes_steps(alloc, program, error)?
+            && is_trace(alloc, program, &[], b"")?,
+    )
 }
 
 #[test]
 fn writes_each_event(rt: HostRuntime) -> Result<(), Fail> {
-    let program = program(rt.alloc(), &FILES)?;
-    writes_all(&rt, rt.alloc(), &program)
+    assert!(rt; is_so(rt.alloc(), &FILES, &Question::Traces)?);
+    Ok(())
 }

@@ -7,7 +7,7 @@
 use std::alloc::{AllocError, Global};
 
 /// What an event does.
-#[derive(Clone, Copy, Debug, PartialEq, Eq)]
+#[derive(Clone, Copy, PartialEq, Eq)]
 pub enum Act {
     Waits,
     Recurs,
@@ -21,7 +21,7 @@ pub enum Act {
 }
 
 /// An event: its thread and class by number, and what it does.
-#[derive(Clone, Copy, Debug, PartialEq, Eq)]
+#[derive(Clone, Copy, PartialEq, Eq)]
 pub struct Made {
     pub thread: usize,
     pub class: usize,
@@ -29,14 +29,14 @@ pub struct Made {
 }
 
 /// How a procedure completes.
-#[derive(Clone, Copy, Debug, PartialEq, Eq)]
+#[derive(Clone, Copy, PartialEq, Eq)]
 pub enum Completion {
     Normal,
     Abrupt(usize),
 }
 
 /// The procedure for a class is done by the events from here to there.
-#[derive(Clone, Copy, Debug, PartialEq, Eq)]
+#[derive(Clone, Copy, PartialEq, Eq)]
 pub struct Word {
     class: usize,
     from: usize,
@@ -45,7 +45,7 @@ pub struct Word {
 }
 
 /// The events from here to the end begin the procedure for a class.
-#[derive(Clone, Copy, Debug, PartialEq, Eq)]
+#[derive(Clone, Copy, PartialEq, Eq)]
 pub struct Beginning {
     class: usize,
     from: usize,

@@ -2,16 +2,15 @@
 
 ghost use Rattle.std.specs.Prelude.{◌≡◌, IfOk};
 
-use crate::comparing::{Case, compared};
-use crate::programs::program;
+use crate::comparing::Case;
+use crate::programs::{Question, is_so};
 use crate::schedules::{Action, Choice, Run, list_of, replayed};
-use crate::twin::{Act, Made};
+use crate::twin::Act;
 use hierarchy::{ClassId, Program};
 use init_core::{Event, Label};
 use init_world::{World, safety};
 use std::alloc::{AllocError, Global};
 use std::process::Abort;
-use std::test::Fail;
 
 const ONE_CLASS: Case = Case {
     files: &[b".class A"],
@@ -59,52 +58,39 @@ const A_DEFAULT_SEEN_TWICE: Case = Case {
 /// World and the twin agree on each list of fewer events than `depth` that two threads can make, and on each event
 /// that may follow it: so on all beginnings of legal interleavings of `depth` events. There are 200 such lists
 /// at least.
-fn agrees(rt: &impl Abort, alloc: Global, case: &Case, depth: usize) -> Result<(), Fail> {
-    let program = program(alloc, case.files)?;
-    agrees_on(rt, alloc, &program, case, depth)
-}
-
-fn agrees_on(
-    rt: &impl Abort,
-    alloc: Global,
-    program: &Program,
-    case: &Case,
-    depth: usize,
-) -> Result<(), Fail> {
-    let (lists, differ) = compared(alloc, program, case, depth)?;
-    assert!(rt; lists >= 200, "only {lists} lists");
-    assert_eq!(rt; differ, 0);
+fn agrees(rt: &impl Abort, alloc: Global, case: Case, depth: usize) -> Result<(), AllocError> {
+    assert!(rt; is_so(alloc, case.files, &Question::Agrees(case, depth))?);
     Ok(())
 }
 
 #[test]
-fn agrees_on_one_class(rt: HostRuntime) -> Result<(), Fail> {
-    agrees(&rt, rt.alloc(), &ONE_CLASS, 8)
+fn agrees_on_one_class(rt: HostRuntime) -> Result<(), AllocError> {
+    agrees(&rt, rt.alloc(), ONE_CLASS, 8)
 }
 
 #[test]
-fn agrees_on_two_classes(rt: HostRuntime) -> Result<(), Fail> {
-    agrees(&rt, rt.alloc(), &TWO_CLASSES, 7)
+fn agrees_on_two_classes(rt: HostRuntime) -> Result<(), AllocError> {
+    agrees(&rt, rt.alloc(), TWO_CLASSES, 7)
 }
 
 #[test]
-fn agrees_on_a_superclass(rt: HostRuntime) -> Result<(), Fail> {
-    agrees(&rt, rt.alloc(), &A_SUPERCLASS, 7)
+fn agrees_on_a_superclass(rt: HostRuntime) -> Result<(), AllocError> {
+    agrees(&rt, rt.alloc(), A_SUPERCLASS, 7)
 }
 
 #[test]
-fn agrees_on_an_interface_with_a_default(rt: HostRuntime) -> Result<(), Fail> {
-    agrees(&rt, rt.alloc(), &WITH_A_DEFAULT, 7)
+fn agrees_on_an_interface_with_a_default(rt: HostRuntime) -> Result<(), AllocError> {
+    agrees(&rt, rt.alloc(), WITH_A_DEFAULT, 7)
 }
 
 #[test]
-fn agrees_on_an_interface_without_a_default(rt: HostRuntime) -> Result<(), Fail> {
-    agrees(&rt, rt.alloc(), &WITHOUT_A_DEFAULT, 7)
+fn agrees_on_an_interface_without_a_default(rt: HostRuntime) -> Result<(), AllocError> {
+    agrees(&rt, rt.alloc(), WITHOUT_A_DEFAULT, 7)
 }
 
 #[test]
-fn agrees_on_a_default_seen_twice(rt: HostRuntime) -> Result<(), Fail> {
-    agrees(&rt, rt.alloc(), &A_DEFAULT_SEEN_TWICE, 8)
+fn agrees_on_a_default_seen_twice(rt: HostRuntime) -> Result<(), AllocError> {
+    agrees(&rt, rt.alloc(), A_DEFAULT_SEEN_TWICE, 8)
 }
 
 /// B needs A, which the first case leaves out; in the second it needs nothing, and A is told.
@@ -121,18 +107,11 @@ const OTHER_NEEDS: [Case; 2] = [
     },
 ];
 
-/// How many events World and the twin judge otherwise.
-fn differing(alloc: Global, case: &Case) -> Result<usize, Fail> {
-    let program = program(alloc, case.files)?;
-    let (_, differ) = compared(alloc, &program, case, 3)?;
-    Ok(differ)
-}
-
 /// The comparison finds a twin that is told to need too little, and one that needs too much.
 #[test]
-fn notices_other_needs(rt: HostRuntime) -> Result<(), Fail> {
+fn notices_other_needs(rt: HostRuntime) -> Result<(), AllocError> {
     for case in OTHER_NEEDS {
-        assert!(rt; differing(rt.alloc(), &case)? > 0);
+        assert!(rt; is_so(rt.alloc(), case.files, &Question::Differs(case))?);
     }
     Ok(())
 }
@@ -149,24 +128,19 @@ fn choices(alloc: Global, turns: &[(usize, Action)]) -> Result<Vec<Choice>, Allo
     Ok(choices)
 }
 
-/// These are the events: each by its thread, its class, and what it does.
+/// Whether these are the events: each by its thread, its class, and what it does.
 fn are(
-    rt: &impl Abort,
     alloc: Global,
     events: &[Event],
     expected: &[(usize, usize, Act)],
-) -> Result<(), Fail> {
+) -> Result<bool, AllocError> {
     let list = list_of(alloc, events)?;
-    assert_eq!(rt; list.len(), expected.len());
     for (found, (thread, class, act)) in list.iter().zip(expected) {
-        let wanted = Made {
-            thread: *thread,
-            class: *class,
-            act: *act,
-        };
-        assert_eq!(rt; *found, wanted);
+        if found.thread != *thread || found.class != *class || found.act != *act {
+            return Ok(false);
+        }
     }
-    Ok(())
+    Ok(list.len() == expected.len())
 }
 
 const UPWARD: [(usize, Action); 6] = [
@@ -200,15 +174,15 @@ fn run_of(
 }
 
 /// B extends A, and one thread requests B.
-fn upward(rt: &impl Abort, alloc: Global, program: &Program) -> Result<(), Fail> {
+pub(crate) fn superclass_is_first(alloc: Global, program: &Program) -> Result<bool, AllocError> {
     let run = run_of(alloc, program, 1, &UPWARD)?;
-    are(rt, alloc, &run.world.into_events(), &SUPERCLASS_FIRST)
+    are(alloc, &run.world.into_events(), &SUPERCLASS_FIRST)
 }
 
 #[test]
-fn superclass_first(rt: HostRuntime) -> Result<(), Fail> {
-    let program = program(rt.alloc(), A_SUPERCLASS.files)?;
-    upward(&rt, rt.alloc(), &program)
+fn superclass_first(rt: HostRuntime) -> Result<(), AllocError> {
+    assert!(rt; is_so(rt.alloc(), A_SUPERCLASS.files, &Question::SuperclassFirst)?);
+    Ok(())
 }
 
 const BESIDE: [(usize, Action); 5] = [
@@ -227,26 +201,30 @@ const TWO_THREADS_ONE_CLASS: [(usize, usize, Act); 5] = [
     (1, 0, Act::FindsInitialized),
 ];
 
-/// How the class stands behind these turns.
-fn is_initialized(rt: &impl Abort, program: &Program, world: &World)
+/// Whether the class is initialized.
+fn is_initialized(program: &Program, world: &World) -> bool
     requires { program.now ≡ world.now.program }
 {
-    assert!(rt; program.len() == 1);
+    if program.len() != 1 {
+        return false;
+    }
     let record = world.record(ClassId { number: 0 });
-    assert!(rt; record.label() == Label::Initialized);
+    record.label() == Label::Initialized
 }
 
 /// Two threads on one class A, turned in the order 0, 0, 1, 0, 1.
-fn beside(rt: &impl Abort, alloc: Global, program: &Program) -> Result<(), Fail> {
+pub(crate) fn two_threads_end(alloc: Global, program: &Program) -> Result<bool, AllocError> {
     let run = run_of(alloc, program, 0, &BESIDE)?;
-    is_initialized(rt, program, &run.world);
-    are(rt, alloc, &run.world.into_events(), &TWO_THREADS_ONE_CLASS)
+    Ok(
+        is_initialized(program, &run.world)
+            && are(alloc, &run.world.into_events(), &TWO_THREADS_ONE_CLASS)?,
+    )
 }
 
 #[test]
-fn two_threads_one_class(rt: HostRuntime) -> Result<(), Fail> {
-    let program = program(rt.alloc(), ONE_CLASS.files)?;
-    beside(&rt, rt.alloc(), &program)
+fn two_threads_one_class(rt: HostRuntime) -> Result<(), AllocError> {
+    assert!(rt; is_so(rt.alloc(), ONE_CLASS.files, &Question::TwoThreads)?);
+    Ok(())
 }
 
 /// The law is there for all callers.

@@ -35,6 +35,3 @@ pub use laws::{field_text_is_one, method_text_is_one};
 pub use method::MethodType;
 pub use reading::{parse_field, parse_method};
 pub use writing::{write_field, write_method};
-
-#[cfg(test)]
-mod tests;

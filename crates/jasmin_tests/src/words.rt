@@ -5,6 +5,7 @@ use jasmin_words::integer::{push_decimal, push_integer};
 use jasmin_words::name::{MemberName, same};
 use jasmin_words::quote::push_quoted;
 use jasmin_words::token::is_text;
+use std::alloc::{AllocError, Global};
 use std::test::Fail;
 
 #[test]
@@ -17,12 +18,21 @@ fn writes_integers(rt: HostRuntime) -> Result<(), Fail> {
     Ok(())
 }
 
+/// Whether the name has these bytes and equals its copy.
+fn is_kept(name: &MemberName, bytes: &[u8]) -> Result<bool, AllocError> {
+    Ok(*name == name.clone()? && name.as_slice() == bytes)
+}
+
+fn is_name(alloc: Global, bytes: &[u8]) -> Result<bool, AllocError> {
+    match MemberName::parse(alloc, bytes)? {
+        Some(name) => is_kept(&name, bytes),
+        None => Ok(false),
+    }
+}
+
 #[test]
 fn keeps_names(rt: HostRuntime) -> Result<(), Fail> {
-    let name = MemberName::parse(rt.alloc(), b"count")?.ok_or("a name")?;
-    assert!(rt; name.as_slice() == b"count".as_slice());
-    assert!(rt; name == name.clone()?);
-    assert!(rt; MemberName::parse(rt.alloc(), b"a.b")?.is_none());
+    assert!(rt; is_name(rt.alloc(), b"count")? && !is_name(rt.alloc(), b"a.b")?);
     assert!(rt; same(b"default", b"default") && !same(b"default", b"defaults"));
     assert!(rt; is_text(b"caf\xC3\xA9") && !is_text(b"\xC3"));
     Ok(())

@@ -21,11 +21,6 @@ ne-eqb a b h =
     let go : (t : Bool) → eqb a b ≡ t → t ≡ false = λ t. elim t as (λ t. eqb a b ≡ t → t ≡ false) [ true ↦ λ e. absurd (h (eqb-true a b e)) | false ↦ λ e. refl ] in
     go (eqb a b) refl
 
-same-eqb : (a : ℕ) → eqb a a ≡ true
-same-eqb a =
-    let go : (t : Bool) → eqb a a ≡ t → t ≡ true = λ t. elim t as (λ t. eqb a a ≡ t → t ≡ true) [ true ↦ λ e. refl | false ↦ λ e. absurd (eqb-false a a e refl) ] in
-    go (eqb a a) refl
-
 pub marked_set : (marks : List Bool) (p : ℕ) → p < length marks → (n : ℕ) (ps : List ℕ) → IsMarked n marks ps → IsMarked n (slice_set marks p true) (ps ++ p ∷ [])
 marked_set marks p within n ps h = record { len = length-set marks p true ∙ h.len; each = each }
   where

@@ -18,9 +18,6 @@ cond_at P false x y p q = q refl
 
 -- ---- as bytes
 
-lettered : (b e : ℕ) (t bs : List ℕ) → eqb e 117 ≡ false → escape e ≡ Some b → IsQuoted t bs → IsQuoted (92 ∷ e ∷ t) (b ∷ bs)
-lettered b e t bs n h q = escaped n h q
-
 glyph_value : (d : ℕ) → d < 16 → digit_value (digit_char d) ≡ d
 glyph_value d h = grind arith
 

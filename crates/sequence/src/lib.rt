@@ -132,30 +132,3 @@ impl Eq for Sequence<u8> {
 
     ghost laws = { Prim.search (comparing, rules) };
 }
-
-#[cfg(test)]
-mod tests {
-    use super::*;
-    use std::test::Fail;
-
-    #[test]
-    fn keeps_elements_in_order(rt: HostRuntime) -> Result<(), Fail> {
-        let mut numbers = Sequence::new(rt.alloc());
-        assert!(rt; numbers.is_empty());
-        numbers.push(3)?;
-        numbers.push(5)?;
-        assert_eq!(rt; numbers.len(), 2);
-        assert!(rt; numbers.as_slice() == [3, 5].as_slice());
-        let again = Sequence::from_vec(numbers.into_vec());
-        assert!(rt; again.as_slice() == [3, 5].as_slice());
-        Ok(())
-    }
-
-    #[test]
-    fn compares_bytes(rt: HostRuntime) -> Result<(), Fail> {
-        let text = Text::copied(rt.alloc(), b"java/lang/Object")?;
-        assert!(rt; text == text.clone()?);
-        assert!(rt; text != Text::copied(rt.alloc(), b"java/lang/System")?);
-        Ok(())
-    }
-}

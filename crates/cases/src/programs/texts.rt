@@ -2,6 +2,7 @@
 
 ghost use Rattle.std.specs.Prelude.{◌≤◌, vec_len, IfOk};
 
+use crate::report::push_all;
 use cli::{Named, NamedFault};
 use std::alloc::{AllocError, Global};
 use std::collections::BTreeMap;
@@ -32,11 +33,15 @@ impl Texts {
         Ok(())
     }
 
+    fn put_below(&mut self, word: &str, name: &str, text: &[u8]) -> Result<(), AllocError> {
+        let name = format!(in self.alloc; "{word} {name}")?;
+        self.put(name.as_str(), text)
+    }
+
     /// Adds all texts of others, with this word before their names.
     pub(crate) fn put_all(&mut self, word: &str, others: &Texts) -> Result<(), AllocError> {
         for (name, text) in others.by_name.iter() {
-            let name = format!(in self.alloc; "{word} {name}")?;
-            self.put(name.as_str(), text.as_slice())?;
+            self.put_below(word, name.as_str(), text.as_slice())?;
         }
         Ok(())
     }
@@ -52,10 +57,8 @@ impl Texts {
     pub(crate) fn write_others(&self, others: &Texts, out: &mut Vec<u8>) -> Result<(), AllocError> {
         for (name, text) in self.by_name.iter() {
             if !others.holds(name.as_str(), text.as_slice()) {
-                out.extend_from_slice(b"-- ")?;
-                out.extend_from_slice(name.as_bytes())?;
-                out.extend_from_slice(b" --\n")?;
-                out.extend_from_slice(text.as_slice())?;
+                let pieces = [b"-- ", name.as_bytes(), b" --\n", text.as_slice()];
+                push_all(out, &pieces)?;
             }
         }
         Ok(())

@@ -1,0 +1,34 @@
+//! Lists that own their memory.
+
+use sequence::{Sequence, Text};
+use std::alloc::{AllocError, Global};
+use std::test::Fail;
+
+fn pushes(numbers: &mut Sequence<u8>) -> Result<bool, AllocError> {
+    let was_empty = numbers.is_empty();
+    numbers.push(3)?;
+    numbers.push(5)?;
+    Ok(was_empty && numbers.len() == 2 && numbers.as_slice() == [3, 5].as_slice())
+}
+
+#[test]
+fn elements_are_in_order(rt: HostRuntime) -> Result<(), Fail> {
+    let mut numbers = Sequence::new(rt.alloc());
+    assert!(rt; pushes(&mut numbers)?);
+    let again = Sequence::from_vec(numbers.into_vec());
+    assert!(rt; again.as_slice() == [3, 5].as_slice());
+    Ok(())
+}
+
+/// Whether the text equals its copy, and no other.
+fn is_itself(text: &Text, other: &Text) -> Result<bool, AllocError> {
+    Ok(*text == text.clone()? && *text != *other)
+}
+
+#[test]
+fn bytes_are_compared(rt: HostRuntime) -> Result<(), Fail> {
+    let text = Text::copied(rt.alloc(), b"java/lang/Object")?;
+    let other = Text::copied(rt.alloc(), b"java/lang/System")?;
+    assert!(rt; is_itself(&text, &other)?);
+    Ok(())
+}
