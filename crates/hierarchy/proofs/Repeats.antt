@@ -6,7 +6,6 @@ use Rattle.std.proofs.lemmas.Bool.Decides.{Decides-and, Decides-like}
 use Rattle.std.proofs.lemmas.List.{take-append-drop}
 use Rattle.std.proofs.Math.Seq.{take-suc}
 use Rattle.std.specs.Bool.{one_answer}
-use Rattle.descriptors.specs.Same.{same_field, same_method}
 use Rattle.descriptors.specs.SameLaws.{name_decides, field_decides, method_decides}
 use Rattle.descriptors.specs.Reading.{field_of_text, method_of_text}
 use Rattle.descriptors.specs.Spelling.{field_spelling, method_spelling}
