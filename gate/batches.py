@@ -27,22 +27,22 @@ class Edits:
         self.harmless = harmless
         self.others = 0
 
-    def try_some(self):
-        """Tries edits until none is left to begin with. Several threads may call it."""
-        while True:
-            try:
-                batch = self.left.popleft()
-            except IndexError:
-                return
-            refused = self.refused_in(batch) if batch[0][1] else {}
-            if any(edit == self.harmless for edit, _ in batch):
-                self.others = 0 if self.harmless in refused else len(refused)
-            for edit, function in batch:
-                if edit in refused:
-                    label = f"must-fail {self.crate.name}/{os.path.basename(edit)}"
-                    self.found[edit] = True, f"{label}: refused, as it must be: fn {function}: not proved"
-                else:
-                    self.found[edit] = self.alone(edit)
+    def try_one(self):
+        """Tries one batch, and answers whether there was one. Several threads may call it."""
+        try:
+            batch = self.left.popleft()
+        except IndexError:
+            return False
+        refused = self.refused_in(batch) if batch[0][1] else {}
+        if any(edit == self.harmless for edit, _ in batch):
+            self.others = 0 if self.harmless in refused else len(refused)
+        for edit, function in batch:
+            if edit in refused:
+                label = f"must-fail {self.crate.name}/{os.path.basename(edit)}"
+                self.found[edit] = True, f"{label}: refused, as it must be: fn {function}: not proved"
+            else:
+                self.found[edit] = self.alone(edit)
+        return True
 
     def beside_harmless(self):
         """How many edits were refused beside the harmless one, where that one came out as not refused; else 0."""

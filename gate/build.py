@@ -13,6 +13,7 @@ import time
 sys.dont_write_bytecode = True
 
 import kit
+import lanes
 
 ROOT = os.path.dirname(os.path.dirname(os.path.realpath(__file__)))
 FAILED = 70
@@ -70,8 +71,8 @@ def along_the_graph():
     tasks = {}
     for it in crates:
         waits = [(below.name, "proof") for below in it.below()]
-        tasks[it.name, "proof"] = waits, kit.weight(rt, it), rt.need(it), lambda given, jobs, it=it: build(it, jobs)
-    rt.in_lanes(tasks)
+        tasks[it.name, "proof"] = waits, kit.weight(rt, it), lambda given, jobs, it=it: build(it, jobs)
+    lanes.run(tasks, *kit.lanes(rt), kit.memory_for)
     return held
 
 

@@ -28,6 +28,22 @@ def load():
 
 
 def weight(rt, crate):
-    """The lines of a crate: its proof takes about so long."""
+    """The lines of a crate, and some of those that it stands on: its proof takes about so long."""
+    below = sum(lines_of(rt, it) for it in crate.below())
+    return lines_of(rt, crate) + below // 10
+
+
+def lines_of(rt, crate):
     files = rt.rtlib.files_of(crate.folder)
     return sum(rt.rtlib.text_of(it).count("\n") for it in files if it.endswith((".rt", ".antt")))
+
+
+def memory_for(jobs):
+    """The bytes that a check with so many jobs takes at most; measured."""
+    return 1_000_000_000 + jobs * 1_500_000_000
+
+
+def lanes(rt):
+    """How many processors there are to use, and how much memory."""
+    fixed = os.environ.get("RT_JOBS", "")
+    return int(fixed) if fixed.isdigit() and int(fixed) else rt.processors(), 0.85 * rt.free()

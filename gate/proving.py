@@ -15,6 +15,7 @@ import time
 
 import batches
 import kit
+import lanes
 from tally import say
 
 
@@ -129,17 +130,18 @@ class Gate:
         return found
 
     def in_lanes(self, tasks):
-        """Has a crate's tests wait for its proof, whose work they take, and tries its edits by several tasks."""
+        """Has a crate's tests and edits wait for its proof, whose work they take, and tries its edits by several tasks."""
         made = {}
-        for key, (waits, lines, needs, call) in tasks.items():
+        for key, (waits, lines, _, call) in tasks.items():
             crate = self.crates[key[0]]
-            if key[1] == "proof":
-                made[key] = waits, kit.weight(self.rt, crate), needs, self.timed("proofs", key, call)
+            proof = crate.name, "proof"
+            if key == proof:
+                made[key] = waits, kit.weight(self.rt, crate), self.timed("proofs", key, call)
             elif key[1] == "tests":
-                made[key] = [*waits, (key[0], "proof")], lines, needs, self.timed("tests", key, call)
+                made[key] = [*waits, proof], lines, self.timed("tests", key, call)
             else:
-                made.update(self.edit_tasks(crate, waits, lines, needs))
-        given = self.original["in_lanes"](made)
+                made.update(self.edit_tasks(crate, waits, lines))
+        given = lanes.run(made, *kit.lanes(self.rt), kit.memory_for)
         for crate in self.crates.values():
             self.count(crate, given)
         return given
@@ -152,34 +154,31 @@ class Gate:
             finally:
                 took = time.time() - start
                 self.tally.add(kind, seconds=took * jobs)
-                if took > 1:
+                if took > 1 and kind != "edits":
                     say(f"{' '.join(map(str, key))}: {took:.0f} s{f', {jobs} jobs' if jobs > 1 else ''}")
         return called
 
-    def edit_tasks(self, crate, waits, lines, needs):
+    def edit_tasks(self, crate, waits, lines):
         good, bad = self.rt.edits_of(crate)
         shares, made = [], {}
-
-        def is_well(given):
-            return given[crate.name, "proof"] and given[crate.name, "tests"]
+        proof = crate.name, "proof"
 
         def share(given, jobs):
-            if is_well(given):
-                self.edits_to_try(crate).try_some()
+            return lanes.AGAIN if given[proof] and self.edits_to_try(crate).try_one() else None
 
         for at in range(self.rt.processors() if good and not self.known[crate.name] else 0):
             key = crate.name, "edits", at
-            made[key] = waits, lines, min(needs, 2_500_000_000), self.timed("edits", key, share)
+            made[key] = [proof], lines, self.timed("edits", key, share)
             shares.append(key)
 
         def gather(given, jobs):
-            if not good or not is_well(given):
+            if not good or not given[proof] or not given[crate.name, "tests"]:
                 return bad, good, []
             if self.known[crate.name]:
                 return bad, good, [(True, f"must-fail {crate.name}/{os.path.basename(it)}: refused in an earlier run") for it in good]
             return bad, good, [self.edits[crate.name].found[it] for it in good]
 
-        made[crate.name, "edits"] = [*waits, *shares], 0, 0, gather
+        made[crate.name, "edits"] = [*waits, *shares], 0, gather
         return made
 
     def edits_to_try(self, crate):
@@ -220,8 +219,10 @@ class Gate:
         return passes
 
     def put_back(self, root, aside, was_killed=False):
-        """Keeps what this run found of each crate that passed whole, before the kit's script clears its folder."""
+        """Keeps what this run found of each crate that passed whole, before the kit's script clears its folder; nothing where the
+        run was stopped on its way."""
+        is_stopped = sys.exc_info()[0] is not None
         for name, crate in self.crates.items():
-            if self.passes[name] and not self.known[name] and os.path.isdir(f"{crate.folder}/out"):
+            if not is_stopped and self.passes[name] and not self.known[name] and os.path.isdir(f"{crate.folder}/out"):
                 self.store.keep(crate, self.keys[name])
         self.original["put_back"](root, aside, was_killed)
