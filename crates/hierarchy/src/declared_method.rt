@@ -36,8 +36,8 @@ pub(crate) enum Counted {
     Each,
     /// Those that aren't static.
     Instance,
-    /// Those that are neither private nor static.
-    Shared,
+    /// Those that a class inherits, from a superinterface too: neither private nor static (JLS SE 8 8.4.8).
+    Inherited,
 }
 
 impl Counted {
@@ -47,7 +47,7 @@ impl Counted {
         match self {
             Counted::Each => true,
             Counted::Instance => !access.is_static,
-            Counted::Shared => !access.private && !access.is_static,
+            Counted::Inherited => !access.private && !access.is_static,
         }
     }
 }
