@@ -14,7 +14,7 @@ ghost use Rattle.hierarchy.specs.declared.fault.LinkFaultKind.TheVariants as bec
 use crate::assembly::linked_classes;
 use crate::class::Class;
 use crate::fault::{LinkFault, LinkFaultKind};
-use crate::members::first_repeating;
+use crate::member_places::{MemberSearch, search_members};
 use crate::naming::{first_repeated, first_reserved, kinds};
 use crate::program::Program;
 use crate::quoted::first_beyond_heap;
@@ -106,15 +106,16 @@ fn tables_of(alloc: Global, classes: &[Class]) -> Result<Tables, FaultAt>
         }
         Err(_) => return Err(FaultAt::NO_MEMORY),
     };
-    let Ok(repeated) = first_repeating(alloc, classes) else {
-        return Err(FaultAt::NO_MEMORY);
+    let members = match search_members(alloc, classes) {
+        Ok(MemberSearch::Places(all)) => all,
+        Ok(MemberSearch::Repeated(place)) => {
+            return Err(FaultAt {
+                kind: LinkFaultKind::RepeatedMember,
+                place,
+            });
+        }
+        Err(_) => return Err(FaultAt::NO_MEMORY),
     };
-    if let Some(place) = repeated {
-        return Err(FaultAt {
-            kind: LinkFaultKind::RepeatedMember,
-            place,
-        });
-    }
     let mut quoted = Texts::new(alloc);
     let Ok(beyond) = first_beyond_heap(alloc, classes, &mut quoted) else {
         return Err(FaultAt::NO_MEMORY);
@@ -125,7 +126,7 @@ fn tables_of(alloc: Global, classes: &[Class]) -> Result<Tables, FaultAt>
             place,
         });
     }
-    match tables_with(alloc, classes, supertypes, quoted) {
+    match tables_with(alloc, classes, supertypes, members, quoted) {
         Ok(tables) => Ok(tables),
         Err(_) => Err(FaultAt::NO_MEMORY),
     }
