@@ -1,5 +1,5 @@
 -- Where the members of each class are found.
-use Rattle.std.specs.Prelude.{◌≡◌, ℕ, ◌+◌, true, false, List, [], ◌∷◌, ◌++◌, Option, Some, None, zero, suc, length, position, slice_get}
+use Rattle.std.specs.Prelude.{◌≡◌, ℕ, true, false, List, [], ◌∷◌, ◌++◌, Option, Some, None, zero, suc, length, position, slice_get}
 use Rattle.hierarchy.specs.declared.class.Class.{Class}
 use Rattle.hierarchy.specs.declared.member_places.MemberPlaces.{MemberPlaces}
 use Rattle.hierarchy.specs.declared.member_places.MemberSearch.{MemberSearch}

@@ -3,7 +3,7 @@ use Rattle.std.proofs.lemmas.Grind.{common_steps}
 use Rattle.std.proofs.lemmas.Option.{gets}
 use Rattle.std.proofs.lemmas.Fn.{always_returns_same}
 use Rattle.hierarchy.specs.Methods.{is_method, method_at}
-use Rattle.hierarchy.specs.MemberOrder.{type_numbers, method_key, key_of_method, key_at, key_cmp}
+use Rattle.hierarchy.specs.MemberOrder.{method_key, key_of_method, key_at, key_cmp}
 use Rattle.hierarchy.proofs.MemberOrder.{method_tells}
 use Rattle.hierarchy.proofs.MemberPlaces.{searchable, found_first, found_none, not_beyond}
 use Rattle.hierarchy.proofs.declared_method.method_among.Goals as goal

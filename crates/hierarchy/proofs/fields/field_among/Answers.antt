@@ -3,7 +3,7 @@ use Rattle.std.proofs.lemmas.Grind.{common_steps}
 use Rattle.std.proofs.lemmas.Option.{gets}
 use Rattle.std.proofs.lemmas.Fn.{always_returns_same}
 use Rattle.hierarchy.specs.Fields.{is_field, field_at}
-use Rattle.hierarchy.specs.MemberOrder.{type_numbers, field_key, key_of_field, key_at, key_cmp}
+use Rattle.hierarchy.specs.MemberOrder.{field_key, key_of_field, key_at, key_cmp}
 use Rattle.hierarchy.proofs.MemberOrder.{field_tells}
 use Rattle.hierarchy.proofs.MemberPlaces.{searchable, found_first, found_none, not_beyond}
 use Rattle.hierarchy.proofs.fields.field_among.Goals as goal

@@ -1,4 +1,4 @@
-use Rattle.std.proofs.Common.{◌∙◌, List, refl, sym, ap, subst, slice_get, take}
+use Rattle.std.proofs.Common.{◌∙◌, List, refl, sym, ap, subst}
 use Rattle.std.specs.List.{list_any}
 use Rattle.std.proofs.lemmas.List.{take_all}
 use Rattle.std.proofs.lemmas.Option.{slice_get_read}
