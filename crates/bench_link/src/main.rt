@@ -4,7 +4,8 @@
 //!
 //! - 128, 256, 512 and 1,024 classes, each with as many members as there are classes, each class below the one before
 //!   it. What is printed is how long linking takes a member, beside the same of 128 classes.
-//! - One class of 1,024 methods that all have one name, beside one whose methods have names of their own.
+//! - One class of 1,024 methods that all have one name, beside one whose methods have names of their own: how long it
+//!   takes to link them, and to resolve each of them once.
 //! - 128, 256 and 512 interfaces, each below those before it, of which it names the last 255 at most. What is printed is
 //!   how long linking takes a name of a superinterface, beside the same of 128 interfaces.
 //!
@@ -12,7 +13,7 @@
 #![tactic(auto)]
 
 use descriptors::{BaseType, ClassName, ElementType, FieldType, MethodType};
-use hierarchy::link;
+use hierarchy::{ClassId, Invoke, Program, link};
 use jasmin_text::{Access, ClassKind, ClassParts, ClassText, Field, Method};
 use jasmin_words::name::MemberName;
 use sequence::Sequence;
@@ -238,11 +239,51 @@ fn print_members(rt: &impl Runtime, alloc: Global) -> io::Result<()> {
     Ok(())
 }
 
+// How many of the methods of the first class are found by their names and descriptors.
+fn found_methods(program: &Program) -> usize {
+    let first = ClassId { number: 0 };
+    let Some(class) = program.class(first) else {
+        return 0;
+    };
+    let mut found = 0_usize;
+    for method in class.methods.as_slice() {
+        let name = method.name.as_slice();
+        if program
+            .resolve_method(Invoke::Virtual, first, name, &method.method_type)
+            .is_ok()
+        {
+            found = found.saturating_add(1);
+        }
+    }
+    found
+}
+
+// How long it takes to resolve each method of the first class 16 times, in nanoseconds.
+fn look_up_time(rt: &impl Runtime, alloc: Global, all: Vec<ClassText>) -> io::Result<u128> {
+    let Ok(program) = link(alloc, all) else {
+        return Err(io::Error::from(AllocError));
+    };
+    let start = Instant::now(rt)?;
+    let mut found = 0_usize;
+    for _ in 0..16 {
+        found = found.saturating_add(found_methods(&program));
+    }
+    let time = start.elapsed(rt)?.as_nanos();
+    if found == 0 {
+        return Err(io::Error::from(AllocError));
+    }
+    Ok(time)
+}
+
 fn print_equal_names(rt: &impl Runtime, alloc: Global) -> io::Result<()> {
     let unit = link_time(rt, alloc, methods_class(alloc, 1024, false)?)?;
     let time = link_time(rt, alloc, methods_class(alloc, 1024, true)?)?;
     let text = ratio(alloc, time, 1, unit, 1)?;
-    println!(rt; "1024 methods of one name, against 1024 names: {text}")
+    println!(rt; "linking 1024 methods of one name, against 1024 names: {text}")?;
+    let unit = look_up_time(rt, alloc, methods_class(alloc, 1024, false)?)?;
+    let time = look_up_time(rt, alloc, methods_class(alloc, 1024, true)?)?;
+    let text = ratio(alloc, time, 1, unit, 1)?;
+    println!(rt; "resolving 1024 methods of one name, against 1024 names: {text}")
 }
 
 fn print_interfaces(rt: &impl Runtime, alloc: Global) -> io::Result<()> {
@@ -270,6 +311,7 @@ fn main(rt: HostRuntime) -> io::Result<()> {
         None => {
             link_time(&rt, rt.alloc(), classes(rt.alloc(), 8)?)?;
             link_time(&rt, rt.alloc(), methods_class(rt.alloc(), 8, true)?)?;
+            look_up_time(&rt, rt.alloc(), methods_class(rt.alloc(), 8, true)?)?;
             link_time(&rt, rt.alloc(), interfaces(rt.alloc(), 8)?)?;
             println!(&rt; "give the word all to see ratios")
         }

@@ -22,7 +22,7 @@ use Rattle.hierarchy.specs.OwnNames.{fields_in, methods_in, HasOwnFields, HasOwn
 use Rattle.hierarchy.proofs.Positions.{Some_same, any-at, none_found, position_by_steps}
 
 -- of two members that aren't the same, by their places
-not_repeated : {X : Type 0} (same : X → X → Bool) (xs : List X) (i j : ℕ) (x y : X) → repeats same xs ≡ false → slice_get xs i ≡ Some x → slice_get xs j ≡ Some y → i < j → same x y ≡ false
+pub not_repeated : {X : Type 0} (same : X → X → Bool) (xs : List X) (i j : ℕ) (x y : X) → repeats same xs ≡ false → slice_get xs i ≡ Some x → slice_get xs j ≡ Some y → i < j → same x y ≡ false
 not_repeated same [] i j x y r e f l = absurd cc
 not_repeated same (z ∷ zs) i zero x y r e f l = absurd (omega (arith, l))
 not_repeated same (z ∷ zs) zero (suc j) x y r e f l =

@@ -11,14 +11,14 @@ pub mod Enumerations
 pub mod FieldOrders
 pub mod FirstGiven
 pub mod InRange
-pub mod KeySets
 pub mod Linked
+pub mod MemberOrder
 pub mod MemberPlaces
 pub mod Named
 pub mod ObjectCells
+pub mod PlaceTables
 pub mod Positions
 pub mod ProvedByLinking
-pub mod Repeats
 pub mod Resolved
 pub mod Searches
 pub mod Subtypes

@@ -1,15 +1,16 @@
 -- The passes put together.
-use Rattle.std.proofs.Common.{◌≡◌, ℕ, ◌<◌, ◌⊎◌, inl, inr, true, false, Some, Result, Ok, Err, List, [], ◌∷◌, length, slice_get, refl, sym, ap, ◌∙◌, arith}
-use Rattle.std.specs.Prelude.{IfErr, ◌==◌}
+use Rattle.std.proofs.Common.{◌≡◌, ℕ, ◌<◌, ◌⊎◌, inl, inr, true, false, Some, Result, Ok, Err, List, [], ◌∷◌, length, slice_get, refl, sym, ap, ◌∙◌, subst, arith}
+use Rattle.std.specs.Prelude.{IfErr, ◌==◌, position}
 use Rattle.std.proofs.lemmas.Bool.{eqb-true}
 use Rattle.jasmin_text.specs.declared.class_text.ClassParts.{ClassParts}
 use Rattle.jasmin_text.specs.declared.class_text.ClassKind.{ClassKind}
 use Rattle.hierarchy.specs.declared.class.Class.{Class}
 use Rattle.hierarchy.specs.declared.fault.LinkFault.{LinkFault}
 use Rattle.hierarchy.specs.declared.fault.LinkFaultKind.{LinkFaultKind}
-use Rattle.hierarchy.specs.declared.fault.LinkFaultKind.TheVariants.{NoMemory}
+use Rattle.hierarchy.specs.declared.fault.LinkFaultKind.TheVariants.{RepeatedMember, NoMemory}
 use Rattle.hierarchy.specs.Linking.{names_of, kinds_of, classes_from, classes_of, fault}
-use Rattle.hierarchy.specs.FirstFault.{HasNames, IsNameFault, IsClassFault, IsFirstFault, of_names, of_supertypes, of_classes, IsMemory, name_in_text, name_in_class}
+use Rattle.hierarchy.specs.Members.{repeats_member}
+use Rattle.hierarchy.specs.FirstFault.{HasNames, HasNoCycle, repeats, IsNameFault, IsClassFault, IsFirstFault, of_names, of_supertypes, of_classes, IsMemory, name_in_text, name_in_class}
 
 pub err_map : {X E : Type 0} (P Q : E → Type 0) (r : Result X E) → ((e : E) → P e → Q e) → IfErr r P → IfErr r Q
 err_map P Q (Ok x) f h = tt
@@ -31,6 +32,10 @@ pub classes_fault : (texts : List ClassParts) (classes : List Class) (f : LinkFa
     IsMemory f ⊎ ((i : ℕ) × IsClassFault classes f.kind i × (name_in_class (slice_get classes i) ≡ Some f.class)) → IsMemory f ⊎ IsFirstFault texts f
 classes_fault texts classes f good e (inl m) = inl m
 classes_fault texts classes f good e (inr h) = inr (of_classes good e h.1 h.2)
+
+pub members_fault : (classes : List Class) (k : LinkFaultKind) (i : ℕ) → HasNoCycle classes → (k ≡ NoMemory) ⊎ (k ≡ RepeatedMember) × (position repeats_member classes ≡ Some i) → (k ≡ NoMemory) ⊎ IsClassFault classes k i
+members_fault classes k i none (inl m) = inl m
+members_fault classes k i none (inr h) = inr (subst (λ (z : LinkFaultKind). IsClassFault classes z i) (sym h.0) (repeats none h.1))
 
 pub none_there : {X : Type 0} (xs : List X) (n : ℕ) → length xs ≡ n → (n == 0) ≡ true → xs ≡ []
 none_there [] n l e = refl

@@ -53,6 +53,13 @@ none_found q k (y ∷ ys) zero x n e =
 none_found q k (y ∷ ys) (suc i) x n e =
     elim (cases_Bool (q y)) [ inl t ↦ let s = rw t at n in absurd cc | inr f ↦ none_found q (k + 1) ys i x (rw f at n) e ]
 
+-- where none passes none is found
+pub none_at : {X : Type 0} (q : X → Bool) (k : ℕ) (xs : List X) → list_any q xs ≡ false → position_from q k xs ≡ None
+none_at q k [] e = refl
+none_at q k (x ∷ xs) e =
+    let p = or_parts (q x) (list_any q xs) e in
+    rw p.0 (none_at q (k + 1) xs p.1)
+
 pub position_by_steps : {X : Type 0} (q : X → Bool) (xs : List X) → position q xs ≡ position_from q 0 xs
 position_by_steps q xs = position_from-zero q xs
 

@@ -9,7 +9,8 @@ pub mod Hierarchy
 pub mod LinkedProgram
 pub mod LinkedTexts
 pub mod Linking
-pub mod MemberNames
+pub mod MemberOrder
+pub mod MemberPlaces
 pub mod Members
 pub mod MethodResolution
 pub mod Methods

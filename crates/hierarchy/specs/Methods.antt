@@ -13,7 +13,7 @@ use Rattle.hierarchy.specs.declared.built_in.BuiltIn.{BuiltIn}
 use Rattle.hierarchy.specs.declared.built_in_method.BuiltInMethod.{BuiltInMethod}
 use Rattle.hierarchy.specs.declared.declared_method.MethodId.TheVariants as method_id
 use Rattle.hierarchy.specs.declared.declared_method.Counted.{Counted}
-use Rattle.hierarchy.specs.declared.declared_method.Counted.TheVariants.{Each, Instance, Shared}
+use Rattle.hierarchy.specs.declared.declared_method.Counted.TheVariants.{Each, Instance, Inherited}
 use Rattle.hierarchy.specs.declared.declared_method.DeclaredMethod.{DeclaredMethod}
 use Rattle.hierarchy.specs.BuiltIn.{built_ins}
 use Rattle.hierarchy.specs.BuiltInMethods.{built_in_method}
@@ -55,7 +55,7 @@ declared_method p name type c = method_in c name type (class_at p c) (slice_get 
 abbrev pub counts : Counted → Access → Bool
 counts Each a = true
 counts Instance a = not a.is_static
-counts Shared a = not a.private && not a.is_static
+counts Inherited a = not a.private && not a.is_static
 
 abbrev pub if_counted : Counted → Option DeclaredMethod → Option DeclaredMethod
 if_counted counted None = None
@@ -79,7 +79,7 @@ all_superinterfaces classes c = distinct (flat_map (enumeration_of_all classes) 
 
 -- the first superinterface method that is neither private nor static
 abbrev pub first_superinterface_method : LinkedProgram → List ℕ → Signature → ClassId → Option DeclaredMethod
-first_superinterface_method p name type c = first_given (counted_method p Shared name type) (all_superinterfaces p.classes c)
+first_superinterface_method p name type c = first_given (counted_method p Inherited name type) (all_superinterfaces p.classes c)
 
 -- whether j is a subinterface of i, directly or indirectly
 abbrev pub is_subinterface : LinkedProgram → ClassId → ClassId → Bool
@@ -87,11 +87,11 @@ is_subinterface p j i = is_among i (superinterfaces p.classes j)
 
 -- whether a subinterface of i among these declares such a method, neither private nor static
 abbrev pub is_overridden : LinkedProgram → List ℕ → Signature → List ClassId → ClassId → Bool
-is_overridden p name type is i = list_any (λ j. is_subinterface p j i && is_some (counted_method p Shared name type j)) is
+is_overridden p name type is i = list_any (λ j. is_subinterface p j i && is_some (counted_method p Inherited name type j)) is
 
 -- what i declares that is neither private nor static and that no subinterface among these overrides
 abbrev pub specific_method : LinkedProgram → List ℕ → Signature → List ClassId → ClassId → Option DeclaredMethod
-specific_method p name type is i = if is_overridden p name type is i then None else counted_method p Shared name type i
+specific_method p name type is i = if is_overridden p name type is i then None else counted_method p Inherited name type i
 
 -- the maximally specific superinterface methods of c of that name and descriptor
 abbrev pub maximally_specific : LinkedProgram → List ℕ → Signature → ClassId → List DeclaredMethod

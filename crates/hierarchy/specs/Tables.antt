@@ -1,5 +1,5 @@
 -- What a program keeps beside its classes.
-use Rattle.std.specs.Prelude.{◌≡◌, ◌≤◌, List, length, map}
+use Rattle.std.specs.Prelude.{◌≡◌, ◌≤◌, List, length}
 use Rattle.hierarchy.specs.declared.class.Class.{Class}
 use Rattle.hierarchy.specs.declared.tables.Tables.{Tables}
 use Rattle.hierarchy.specs.ClassLists.{distinct}
@@ -7,7 +7,7 @@ use Rattle.hierarchy.specs.Searched.{HasSupertypes}
 use Rattle.hierarchy.specs.Superinterfaces.{IsTable, superinterfaces}
 use Rattle.hierarchy.specs.Fields.{field_order}
 use Rattle.hierarchy.specs.Methods.{all_superinterfaces}
-use Rattle.hierarchy.specs.MemberNames.{member_names}
+use Rattle.hierarchy.specs.MemberPlaces.{HavePlaces}
 use Rattle.hierarchy.specs.Quoted.{quoted_texts, cells_of}
 
 -- the tables are those of these classes
@@ -18,4 +18,4 @@ pub record AreTables (classes : List Class) (t : Tables) : Type 0 where
   pub inherited : IsTable (all_superinterfaces classes) (length classes) t.inherited.items
   pub quoted : t.quoted ≡ quoted_texts classes
   pub cells : cells_of classes ≤ 1000000
-  pub members : t.members.items ≡ map member_names classes
+  pub members : HavePlaces classes t.members.items

@@ -44,10 +44,16 @@ impl ClassSet {
         }
     }
 
+    /// Each class is there once.
+    pub(crate) fn is_distinct(&self)
+        ensures { IsDistinct same_class self.now }
+    {
+        let _ = &self.ids;
+    }
+
     /// The classes in order.
     pub(crate) fn as_slice(&self) -> &[ClassId]
-        ensures classes { result.now ≡ self.now }
-        ensures once { IsDistinct same_class self.now }
+        ensures { result.now ≡ self.now }
     {
         self.ids.as_slice()
     }

@@ -1,15 +1,15 @@
 //! Methods as their classes declare them.
 
 ghost use Rattle.std.specs.Prelude.{◌≡◌};
-ghost use Rattle.hierarchy.specs.MemberNames.{method_names};
+ghost use Rattle.hierarchy.specs.MemberOrder.{key_of_method, AreSortedPlaces};
 ghost use Rattle.hierarchy.specs.BuiltInMethods.{built_in_method as built_in_method_of};
-ghost use Rattle.hierarchy.specs.Methods.{is_method as has_method, method_from, of_built_in, declared_method, counts as counts_as, if_counted, counted_method};
+ghost use Rattle.hierarchy.specs.Methods.{method_from, of_built_in, declared_method, counts as counts_as, if_counted, counted_method};
 
 use crate::built_in::BuiltIn;
 use crate::built_in_method::{BuiltInMethod, built_in_method};
 use crate::class::ClassId;
+use crate::member_order::compare_method_at;
 use crate::program::Program;
-use crate::texts::Texts;
 use descriptors::MethodType;
 use jasmin_text::{Access, Method};
 
@@ -36,8 +36,8 @@ pub(crate) enum Counted {
     Each,
     /// Those that aren't static.
     Instance,
-    /// Those that are neither private nor static.
-    Shared,
+    /// Those that a class inherits, from a superinterface too: neither private nor static (JLS SE 8 8.4.8).
+    Inherited,
 }
 
 impl Counted {
@@ -47,7 +47,7 @@ impl Counted {
         match self {
             Counted::Each => true,
             Counted::Instance => !access.is_static,
-            Counted::Shared => !access.private && !access.is_static,
+            Counted::Inherited => !access.private && !access.is_static,
         }
     }
 }
@@ -58,40 +58,34 @@ pub(crate) const PUBLIC: Access = Access {
     ..Access::NONE
 };
 
-/// Whether a method has that name and descriptor.
-fn is_method(name: &[u8], method_type: &MethodType, method: &Method) -> bool
-    ensures { result ≡ has_method name.now method_type.now method.now }
-{
-    method.name.as_slice() == name && method.method_type == *method_type
-}
-
-/// The method of that name and descriptor among those of a file's class, from the first of the name on.
+/// The method of that name and descriptor among those of a file's class.
 fn method_among(
     class: ClassId,
     methods: &[Method],
-    names: &Texts,
+    places: &[usize],
     name: &[u8],
     method_type: &MethodType,
 ) -> Option<DeclaredMethod>
-    requires names { names.now ≡ method_names methods.now }
+    requires places { AreSortedPlaces key_of_method methods.now places.now }
     ensures { result ≡ method_from class 0 name.now method_type.now methods.now }
 {
-    let Some(first) = names.place(name) else {
+    let searched = places.binary_search_by(|place| compare_method_at(
+        methods,
+        *place,
+        name,
+        method_type,
+    ));
+    let Ok(found) = searched else {
         return None;
     };
-    let mut place = first;
-    let mut rest = methods.split_at(first).1;
-    while let [method, after @ ..] = rest {
-        if is_method(name, method_type, method) {
-            return Some(DeclaredMethod {
-                id: MethodId::Declared(class, place),
-                access: method.access,
-            });
-        }
-        place += 1;
-        rest = after;
-    }
-    None
+    let place = places[found];
+    let Some(method) = methods.get(place) else {
+        return None;
+    };
+    Some(DeclaredMethod {
+        id: MethodId::Declared(class, place),
+        access: method.access,
+    })
 }
 
 /// The method of that name and descriptor that a built-in class declares.
@@ -125,7 +119,7 @@ impl Program {
             Some(class) => method_among(
                 id,
                 class.methods.as_slice(),
-                &self.member_names(id).methods,
+                &self.member_places(id).methods,
                 name,
                 method_type,
             ),

@@ -2,13 +2,13 @@
 
 ghost use Rattle.std.specs.Prelude.{◌≡◌, ◌≤◌, length};
 ghost use Rattle.hierarchy.specs.Ancestry.{first_given, superclasses};
-ghost use Rattle.hierarchy.specs.MemberNames.{field_names};
-ghost use Rattle.hierarchy.specs.Fields.{field_order, is_field as has_field, field_from, is_class_type, is_out, built_in_field, declared_field, is_of_kind, resolved_field};
+ghost use Rattle.hierarchy.specs.MemberOrder.{key_of_field, AreSortedPlaces};
+ghost use Rattle.hierarchy.specs.Fields.{field_order, field_from, is_class_type, is_out, built_in_field, declared_field, is_of_kind, resolved_field};
 
 use crate::built_in::BuiltIn;
 use crate::class::ClassId;
+use crate::member_order::compare_field_at;
 use crate::program::Program;
-use crate::texts::Texts;
 use descriptors::{ElementType, FieldType};
 use jasmin_text::Field;
 
@@ -37,40 +37,31 @@ pub(crate) struct DeclaredField {
     pub(crate) is_static: bool,
 }
 
-/// Whether a field has that name and descriptor.
-fn is_field(name: &[u8], field_type: &FieldType, field: &Field) -> bool
-    ensures { result ≡ has_field name.now field_type.now field.now }
-{
-    field.name.as_slice() == name && field.field_type == *field_type
-}
-
-/// The field of that name and descriptor among those of a file's class, from the first of the name on.
+/// The field of that name and descriptor among those of a file's class.
 fn field_among(
     class: ClassId,
     fields: &[Field],
-    names: &Texts,
+    places: &[usize],
     name: &[u8],
     field_type: &FieldType,
 ) -> Option<DeclaredField>
-    requires names { names.now ≡ field_names fields.now }
+    requires places { AreSortedPlaces key_of_field fields.now places.now }
     ensures { result ≡ field_from class 0 name.now field_type.now fields.now }
 {
-    let Some(first) = names.place(name) else {
+    let searched = places.binary_search_by(|place| compare_field_at(
+        fields, *place, name, field_type,
+    ));
+    let Ok(found) = searched else {
         return None;
     };
-    let mut place = first;
-    let mut rest = fields.split_at(first).1;
-    while let [field, after @ ..] = rest {
-        if is_field(name, field_type, field) {
-            return Some(DeclaredField {
-                id: FieldId::Declared(class, place),
-                is_static: field.access.is_static,
-            });
-        }
-        place += 1;
-        rest = after;
-    }
-    None
+    let place = places[found];
+    let Some(field) = fields.get(place) else {
+        return None;
+    };
+    Some(DeclaredField {
+        id: FieldId::Declared(class, place),
+        is_static: field.access.is_static,
+    })
 }
 
 /// Whether a type is the class of that internal name.
@@ -138,7 +129,7 @@ impl Program {
             Some(class) => field_among(
                 id,
                 class.fields.as_slice(),
-                &self.member_names(id).fields,
+                &self.member_places(id).fields,
                 name,
                 field_type,
             ),

@@ -6,7 +6,7 @@
 //! by it.
 //!
 //! Contracts see a program as one value, the list of its linked classes. In every program each way up the
-//! hierarchy ends, which [`Program::len`] tells. What linking found out beside the classes, as the supertypes
+//! hierarchy ends, which [`Program::is_linked`] tells. What linking found out beside the classes, as the supertypes
 //! and the superinterfaces of each, is kept in the program and is no part of that value: so no call goes up the
 //! hierarchy by more than one way, that of the superclasses, and what is resolved later can be kept there too.
 //!
@@ -27,12 +27,11 @@ pub mod declared_method;
 pub mod fault;
 mod field_order;
 pub mod fields;
-mod keys;
 pub mod laws;
 pub mod linking;
 mod lookup;
-mod member_names;
-mod members;
+mod member_order;
+mod member_places;
 pub mod methods;
 mod naming;
 pub mod objects;

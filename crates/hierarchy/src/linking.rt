@@ -1,11 +1,13 @@
 //! Class texts linked to a program.
 
-ghost use Rattle.std.specs.Prelude.{◌≡◌, ◌⊎◌, ℕ, ◌+◌, ◌<◌, ◌≤◌, Some, None, Ok, Err, IfOk, IfErr, length, slice_get, vec_len};
+ghost use Rattle.std.specs.Prelude.{◌≡◌, ◌⊎◌, ℕ, ◌+◌, ◌<◌, ◌≤◌, Some, None, Ok, Err, IfOk, IfErr, length, position, slice_get, vec_len};
 ghost use Rattle.std.specs.List.{All};
 ghost use Rattle.jasmin_text.specs.Spellable.{IsSpellable};
 ghost use Rattle.hierarchy.specs.LinkedProgram.{linked, class_names};
 ghost use Rattle.hierarchy.specs.Hierarchy.{IsAcyclic, IsInRange};
 ghost use Rattle.hierarchy.specs.LinkedTexts.{IsResolved};
+ghost use Rattle.hierarchy.specs.Members.{repeats_member};
+ghost use Rattle.hierarchy.specs.MemberPlaces.{HavePlaces};
 ghost use Rattle.hierarchy.specs.Tables.{AreTables};
 ghost use Rattle.hierarchy.specs.Linking.{names_of, kinds_of, classes_of, classes_from, IsFirst, IsRepeated};
 ghost use Rattle.hierarchy.specs.FirstFault.{HasNames, IsNameFault, HasNoCycle, HasDistinctMembers, FitsHeap, IsClassFault, IsFirstFault, LinksTo, IsMemory, name_in_text, name_in_class};
@@ -14,7 +16,7 @@ ghost use Rattle.hierarchy.specs.declared.fault.LinkFaultKind.TheVariants as bec
 use crate::assembly::linked_classes;
 use crate::class::Class;
 use crate::fault::{LinkFault, LinkFaultKind};
-use crate::members::first_repeating;
+use crate::member_places::{MemberPlaces, MemberSearch, search_members};
 use crate::naming::{first_repeated, first_reserved, kinds};
 use crate::program::Program;
 use crate::quoted::first_beyond_heap;
@@ -84,6 +86,24 @@ fn directory_of(alloc: Global, texts: &[ClassParts]) -> Result<Directory, FaultA
     }
 }
 
+/// The places of the members of classes that declare none twice.
+fn members_of(alloc: Global, classes: &[Class]) -> Result<Vec<MemberPlaces>, FaultAt>
+    requires { 0 < length classes.now }
+    ensures places { IfOk result (λ members. HavePlaces classes.now members.items) }
+    ensures distinct { IfOk result (λ members. HasDistinctMembers classes.now) }
+    ensures within { IfErr result (λ at. at.place < length classes.now) }
+    ensures fault { IfErr result (λ at. (at.kind ≡ because.NoMemory) ⊎ (at.kind ≡ because.RepeatedMember) × (position repeats_member classes.now ≡ Some at.place)) }
+{
+    match search_members(alloc, classes) {
+        Ok(MemberSearch::Places(members)) => Ok(members),
+        Ok(MemberSearch::Repeated(place)) => Err(FaultAt {
+            kind: LinkFaultKind::RepeatedMember,
+            place,
+        }),
+        Err(_) => Err(FaultAt::NO_MEMORY),
+    }
+}
+
 /// What is kept beside classes that are without a fault.
 fn tables_of(alloc: Global, classes: &[Class]) -> Result<Tables, FaultAt>
     requires some { 0 < length classes.now }
@@ -106,15 +126,10 @@ fn tables_of(alloc: Global, classes: &[Class]) -> Result<Tables, FaultAt>
         }
         Err(_) => return Err(FaultAt::NO_MEMORY),
     };
-    let Ok(repeated) = first_repeating(alloc, classes) else {
-        return Err(FaultAt::NO_MEMORY);
+    let members = match members_of(alloc, classes) {
+        Ok(members) => members,
+        Err(at) => return Err(at),
     };
-    if let Some(place) = repeated {
-        return Err(FaultAt {
-            kind: LinkFaultKind::RepeatedMember,
-            place,
-        });
-    }
     let mut quoted = Texts::new(alloc);
     let Ok(beyond) = first_beyond_heap(alloc, classes, &mut quoted) else {
         return Err(FaultAt::NO_MEMORY);
@@ -125,7 +140,7 @@ fn tables_of(alloc: Global, classes: &[Class]) -> Result<Tables, FaultAt>
             place,
         });
     }
-    match tables_with(alloc, classes, supertypes, quoted) {
+    match tables_with(alloc, classes, supertypes, members, quoted) {
         Ok(tables) => Ok(tables),
         Err(_) => Err(FaultAt::NO_MEMORY),
     }

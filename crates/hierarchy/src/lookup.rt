@@ -53,7 +53,7 @@ impl Program {
         let mut rest = self.all_superinterfaces(id);
         while let [interface, after @ ..] = rest {
             if let Some(method) = self.counted_method(
-                Counted::Shared,
+                Counted::Inherited,
                 name,
                 method_type,
                 *interface,
@@ -79,7 +79,7 @@ impl Program {
         while let [interface, after @ ..] = rest {
             if self.is_subinterface(*interface, id)
                 && self
-                    .counted_method(Counted::Shared, name, method_type, *interface)
+                    .counted_method(Counted::Inherited, name, method_type, *interface)
                     .is_some()
             {
                 return true;
@@ -99,7 +99,7 @@ impl Program {
     ) -> Option<DeclaredMethod>
         ensures { result ≡ specific_method self.now name.now method_type.now interfaces.now id }
     {
-        match self.counted_method(Counted::Shared, name, method_type, id) {
+        match self.counted_method(Counted::Inherited, name, method_type, id) {
             Some(method) => {
                 if self.is_overridden(name, method_type, interfaces, id) {
                     None

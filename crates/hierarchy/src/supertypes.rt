@@ -63,7 +63,7 @@ fn supertypes(alloc: Global, classes: &[Class], id: ClassId) -> Result<ClassSet,
         add_supers(classes, next, &mut found)?;
     }
     // No two are equal, so there are at most as many as classes, and none is left.
-    let _found = found.as_slice();
+    found.is_distinct();
     Ok(found)
 }
 

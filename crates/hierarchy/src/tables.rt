@@ -7,19 +7,20 @@ ghost use Rattle.hierarchy.specs.Hierarchy.{IsAcyclic};
 ghost use Rattle.hierarchy.specs.Methods.{all_superinterfaces as inherited_of};
 ghost use Rattle.hierarchy.specs.Superinterfaces.{IsTable, superinterfaces as superinterfaces_of};
 ghost use Rattle.hierarchy.specs.Searched.{HasSupertypes};
+ghost use Rattle.hierarchy.specs.MemberPlaces.{HavePlaces};
 ghost use Rattle.hierarchy.specs.Tables.{AreTables};
 ghost use Rattle.hierarchy.specs.Quoted.{quoted_texts, cells_of};
 
 use crate::class::Class;
 use crate::class_set::ClassSet;
 use crate::field_order::field_orders;
-use crate::member_names::{MemberNames, all_member_names};
+use crate::member_places::MemberPlaces;
 use crate::order::{all_inherited, all_superinterfaces};
 use crate::texts::Texts;
 use std::alloc::{AllocError, Global};
 
-/// What a program keeps beside its classes: of each class in file order, lists of classes and of its
-/// members' names; and of all classes the quoted texts.
+/// What a program keeps beside its classes: of each class in file order, lists of classes and the
+/// places of its members; and of all classes the quoted texts.
 #[derive(Debug, Drop)]
 pub(crate) struct Tables {
     /// All supertypes.
@@ -30,8 +31,8 @@ pub(crate) struct Tables {
     pub(crate) field_orders: Vec<ClassSet>,
     /// All superinterfaces, direct and indirect, in the order in which methods are looked up.
     pub(crate) inherited: Vec<ClassSet>,
-    /// The names of the members.
-    pub(crate) members: Vec<MemberNames>,
+    /// The places of the members, in the order in which they are searched.
+    pub(crate) members: Vec<MemberPlaces>,
     /// The quoted texts of all classes, in order.
     pub(crate) quoted: Texts,
 }
@@ -75,21 +76,22 @@ fn orders_of(alloc: Global, classes: &[Class]) -> Result<Orders, AllocError>
     })
 }
 
-/// The tables of classes whose supertypes and quoted texts are found.
+/// The tables of classes whose supertypes, members and quoted texts are found.
 pub(crate) fn tables_with(
     alloc: Global,
     classes: &[Class],
     supertypes: Vec<ClassSet>,
+    members: Vec<MemberPlaces>,
     quoted: Texts,
 ) -> Result<Tables, AllocError>
     requires few { length classes.now ≤ 1024 }
     requires acyclic { IsAcyclic classes.now }
     requires supertypes { HasSupertypes classes.now (length classes.now) supertypes.items }
+    requires members { HavePlaces classes.now members.items }
     requires quoted { quoted ≡ quoted_texts classes.now }
     requires cells { cells_of classes.now ≤ 1000000 }
     ensures { IfOk result (λ made. AreTables classes.now made) }
 {
-    let members = all_member_names(alloc, classes)?;
     let Orders {
         superinterfaces,
         field_orders,

@@ -123,10 +123,16 @@ impl ClassState {
         self.failure
     }
 
+    /// A class has at most as many static fields as there are places for them.
+    pub(crate) fn has_field_places(&self)
+        ensures { length self.now.fields ≤ FIELD_PLACES }
+    {
+        let _ = &self.bank;
+    }
+
     /// How many static fields the class has.
     pub fn static_fields(&self) -> usize
-        ensures count { result ≡ length self.now.fields }
-        ensures within { result ≤ FIELD_PLACES }
+        ensures { result ≡ length self.now.fields }
     {
         self.bank.len()
     }

@@ -1,33 +1,35 @@
-use Rattle.std.proofs.Common.{◌≡◌, ◌∙◌, false, Some, ap, sym, length, arith}
-use Rattle.std.specs.Prelude.{map}
-use Rattle.std.specs.Option.{is_some}
-use Rattle.std.specs.Str.{bytes_eq}
-use Rattle.hierarchy.specs.Methods.{is_method, method_at, method_from}
-use Rattle.hierarchy.specs.Members.{method_name}
-use Rattle.hierarchy.specs.Texts.{has_text, place_of_text, distinct_texts}
-use Rattle.hierarchy.proofs.MemberPlaces.{method_named, named_before, named_nowhere, named_within, passed_over, none_passes}
+use Rattle.std.proofs.Common.{sym, rules, arith, slice_index_or}
+use Rattle.std.proofs.lemmas.Grind.{common_steps}
+use Rattle.std.proofs.lemmas.Option.{gets}
+use Rattle.std.proofs.lemmas.Fn.{always_returns_same}
+use Rattle.hierarchy.specs.Methods.{is_method, method_at}
+use Rattle.hierarchy.specs.MemberOrder.{method_key, key_of_method, key_at, key_cmp}
+use Rattle.hierarchy.proofs.MemberOrder.{method_tells}
+use Rattle.hierarchy.proofs.MemberPlaces.{searchable, found_first, found_none, not_beyond}
 use Rattle.hierarchy.proofs.declared_method.method_among.Goals as goal
 
 pub returns-in_default : goal.returns-in_default
 returns-in_default c =
+    let xs = c.args.methods.now in
+    let places = c.args.places.now in
     let name = c.args.name.now in
     let type = c.args.method_type.now in
-    let none : has_text name (distinct_texts (map method_name c.args.methods.now)) ≡ false = ap (has_text name) (sym c.requires.names) ∙ sym c.place.ensures.found ∙ ap is_some c.in_default.is in
-    sym (none_passes (is_method name type) (method_at c.args.class) (λ x. bytes_eq name x.name) (method_named name type) 0 c.args.methods.now (named_nowhere method_name name c.args.methods.now none))
+    let wanted = method_key name type in
+    let search_of = c.in_default.ensures.position (λ k. key_cmp (key_at key_of_method xs k) wanted) (always_returns_same _ _ _ (λ a r f h. search rules)) in
+    sym (found_none key_of_method xs places c.requires.places wanted (is_method name type) (method_tells name type) (method_at c.args.class) _ (search_of (searchable key_of_method xs places c.requires.places wanted (is_method name type) (method_tells name type))))
 
-pub split_at-requires : goal.split_at-requires
-split_at-requires c = omega (arith, c.in-Some.ensures.within, ap length c.requires.names, named_within method_name c.args.methods.now)
+pub returns-in_default-get : goal.returns-in_default-get
+returns-in_default-get c =
+    let xs = c.args.methods.now in
+    let wanted = method_key c.args.name.now c.args.method_type.now in
+    let found = c.in-Ok.ensures.position (λ k. key_cmp (key_at key_of_method xs k) wanted) (always_returns_same _ _ _ (λ a r f h. search rules)) 0 in
+    absurd (not_beyond key_of_method xs (slice_index_or c.args.places.now c.in-Ok.found 0) c.args.name.now _ (grind (arith, common_steps, gets)) found)
 
-pub loop-rest-init : goal.loop-rest-init
-loop-rest-init c =
+pub returns : goal.returns
+returns c =
+    let xs = c.args.methods.now in
     let name = c.args.name.now in
     let type = c.args.method_type.now in
-    let first = c.in-Some.first in
-    let within = named_within method_name c.args.methods.now in
-    let at : place_of_text name (distinct_texts (map method_name c.args.methods.now)) ≡ Some first = ap (place_of_text name) (sym c.requires.names) ∙ sym c.place.ensures.place ∙ c.in-Some.is in
-    record {
-      found = ap (λ r. method_from c.args.class first name type r) c.split_at.ensures.back ∙
-          passed_over (is_method name type) (method_at c.args.class) (λ x. bytes_eq name x.name) (method_named name type) 0 first first c.args.methods.now (omega arith) (omega (arith, c.in-Some.ensures.within, ap length c.requires.names, within))
-          (named_before method_name name c.args.methods.now first at);
-      place = omega (arith, c.split_at.ensures.back_len, c.in-Some.ensures.within, ap length c.requires.names, within);
-    }
+    let wanted = method_key name type in
+    let found = c.in-Ok.ensures.position (λ k. key_cmp (key_at key_of_method xs k) wanted) (always_returns_same _ _ _ (λ a r f h. search rules)) 0 in
+    sym (found_first key_of_method xs c.args.places.now c.requires.places wanted (is_method name type) (method_tells name type) (method_at c.args.class) (slice_index_or c.args.places.now c.in-Ok.found 0) c.in-Some.method.now (grind (arith, common_steps, gets)) found)

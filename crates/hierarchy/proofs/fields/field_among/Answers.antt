@@ -1,33 +1,35 @@
-use Rattle.std.proofs.Common.{◌≡◌, ◌∙◌, false, Some, ap, sym, length, arith}
-use Rattle.std.specs.Prelude.{map}
-use Rattle.std.specs.Option.{is_some}
-use Rattle.std.specs.Str.{bytes_eq}
-use Rattle.hierarchy.specs.Fields.{is_field, field_at, field_from}
-use Rattle.hierarchy.specs.Members.{field_name}
-use Rattle.hierarchy.specs.Texts.{has_text, place_of_text, distinct_texts}
-use Rattle.hierarchy.proofs.MemberPlaces.{field_named, named_before, named_nowhere, named_within, passed_over, none_passes}
+use Rattle.std.proofs.Common.{sym, rules, arith, slice_index_or}
+use Rattle.std.proofs.lemmas.Grind.{common_steps}
+use Rattle.std.proofs.lemmas.Option.{gets}
+use Rattle.std.proofs.lemmas.Fn.{always_returns_same}
+use Rattle.hierarchy.specs.Fields.{is_field, field_at}
+use Rattle.hierarchy.specs.MemberOrder.{field_key, key_of_field, key_at, key_cmp}
+use Rattle.hierarchy.proofs.MemberOrder.{field_tells}
+use Rattle.hierarchy.proofs.MemberPlaces.{searchable, found_first, found_none, not_beyond}
 use Rattle.hierarchy.proofs.fields.field_among.Goals as goal
 
 pub returns-in_default : goal.returns-in_default
 returns-in_default c =
+    let xs = c.args.fields.now in
+    let places = c.args.places.now in
     let name = c.args.name.now in
     let type = c.args.field_type.now in
-    let none : has_text name (distinct_texts (map field_name c.args.fields.now)) ≡ false = ap (has_text name) (sym c.requires.names) ∙ sym c.place.ensures.found ∙ ap is_some c.in_default.is in
-    sym (none_passes (is_field name type) (field_at c.args.class) (λ x. bytes_eq name x.name) (field_named name type) 0 c.args.fields.now (named_nowhere field_name name c.args.fields.now none))
+    let wanted = field_key name type in
+    let search_of = c.in_default.ensures.position (λ k. key_cmp (key_at key_of_field xs k) wanted) (always_returns_same _ _ _ (λ a r f h. search rules)) in
+    sym (found_none key_of_field xs places c.requires.places wanted (is_field name type) (field_tells name type) (field_at c.args.class) _ (search_of (searchable key_of_field xs places c.requires.places wanted (is_field name type) (field_tells name type))))
 
-pub split_at-requires : goal.split_at-requires
-split_at-requires c = omega (arith, c.in-Some.ensures.within, ap length c.requires.names, named_within field_name c.args.fields.now)
+pub returns-in_default-get : goal.returns-in_default-get
+returns-in_default-get c =
+    let xs = c.args.fields.now in
+    let wanted = field_key c.args.name.now c.args.field_type.now in
+    let found = c.in-Ok.ensures.position (λ k. key_cmp (key_at key_of_field xs k) wanted) (always_returns_same _ _ _ (λ a r f h. search rules)) 0 in
+    absurd (not_beyond key_of_field xs (slice_index_or c.args.places.now c.in-Ok.found 0) c.args.name.now _ (grind (arith, common_steps, gets)) found)
 
-pub loop-rest-init : goal.loop-rest-init
-loop-rest-init c =
+pub returns : goal.returns
+returns c =
+    let xs = c.args.fields.now in
     let name = c.args.name.now in
     let type = c.args.field_type.now in
-    let first = c.in-Some.first in
-    let within = named_within field_name c.args.fields.now in
-    let at : place_of_text name (distinct_texts (map field_name c.args.fields.now)) ≡ Some first = ap (place_of_text name) (sym c.requires.names) ∙ sym c.place.ensures.place ∙ c.in-Some.is in
-    record {
-      found = ap (λ r. field_from c.args.class first name type r) c.split_at.ensures.back ∙
-          passed_over (is_field name type) (field_at c.args.class) (λ x. bytes_eq name x.name) (field_named name type) 0 first first c.args.fields.now (omega arith) (omega (arith, c.in-Some.ensures.within, ap length c.requires.names, within))
-          (named_before field_name name c.args.fields.now first at);
-      place = omega (arith, c.split_at.ensures.back_len, c.in-Some.ensures.within, ap length c.requires.names, within);
-    }
+    let wanted = field_key name type in
+    let found = c.in-Ok.ensures.position (λ k. key_cmp (key_at key_of_field xs k) wanted) (always_returns_same _ _ _ (λ a r f h. search rules)) 0 in
+    sym (found_first key_of_field xs c.args.places.now c.requires.places wanted (is_field name type) (field_tells name type) (field_at c.args.class) (slice_index_or c.args.places.now c.in-Ok.found 0) c.in-Some.field.now (grind (arith, common_steps, gets)) found)

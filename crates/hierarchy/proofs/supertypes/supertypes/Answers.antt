@@ -15,7 +15,7 @@ pub returns : goal.returns
 returns c =
     searches_all c.args.classes.now c.args.id c.loop-place.found c.loop-place.place c.loop-place.invariant
     (elim c.loop-place-test.branch [
-      | else-loop-place-test w ↦ searched_through c.args.classes.now c.args.id c.loop-place.found c.loop-place.place c.requires.in_range c.loop-place.invariant w.loop-place-test.false c.as_slice-found.ensures.once
+      | else-loop-place-test w ↦ searched_through c.args.classes.now c.args.id c.loop-place.found c.loop-place.place c.requires.in_range c.loop-place.invariant w.loop-place-test.false c.is_distinct.ensures
       | then-loop-place-test+in_default w ↦ length-get_none _ c.loop-place.place (sym w.in_default.is ∙ w.at.ensures)
     ])
-    c.as_slice-found.ensures.once
+    c.is_distinct.ensures
