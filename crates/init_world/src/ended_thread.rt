@@ -10,7 +10,7 @@ ghost use Rattle.init_world.specs.WorldState.{thread_at, placed};
 
 use crate::world::{Turn, World};
 use hierarchy::ClassId;
-use init_core::{Event, Kind, Outcome};
+use init_core::{Event, Kind, Next, Outcome};
 use std::alloc::AllocError;
 
 impl World {
@@ -22,6 +22,23 @@ impl World {
     {
         let ended = &self.procedures[thread];
         ended.ending_error()
+    }
+
+    /// Whether the machine may end the thread here: [`World::give_up`] may be called. Takes no memory.
+    pub fn may_give_up(&self, thread: usize) -> bool
+        requires { thread < length self.now.threads }
+        ensures frames { result ≡ true → MayEndThread (thread_at self.now thread).frames }
+        ensures goes_on { result ≡ true → ending_error (thread_at self.now thread) ≡ None }
+        ensures no { MayEndThread (thread_at self.now thread).frames → ending_error (thread_at self.now thread) ≡ None → result ≡ true }
+    {
+        let open = &self.procedures[thread];
+        if open.ending_error().is_some() {
+            return false;
+        }
+        match open.next() {
+            Next::Look(_) => true,
+            _ => open.is_running(),
+        }
     }
 
     /// The machine ends a thread by this error, an InternalError or OutOfMemoryError: at a request that has no answer of steps
