@@ -5,7 +5,7 @@ use crate::comparing::{Case, agrees, differs};
 use crate::procedures::procedures;
 use crate::records::records;
 use crate::traces::traces;
-use crate::worlds::{superclass_is_first, two_threads_end};
+use crate::worlds::{a_thread_ends, a_waiter_ends, superclass_is_first, two_threads_end};
 use hierarchy::{Program, link};
 use jasmin_reader::read_class;
 use jasmin_text::ClassText;
@@ -28,6 +28,10 @@ pub(crate) enum Question {
     SuperclassFirst,
     /// Two threads end with one class.
     TwoThreads,
+    /// The machine ends a thread in a body.
+    ThreadEnds,
+    /// The machine ends a thread that waits.
+    WaiterEnds,
 }
 
 /// Whether the program's answer is as the question says.
@@ -40,6 +44,8 @@ fn answers(alloc: Global, program: &Program, question: &Question) -> Result<bool
         Question::Differs(case) => differs(alloc, program, case),
         Question::SuperclassFirst => superclass_is_first(alloc, program),
         Question::TwoThreads => two_threads_end(alloc, program),
+        Question::ThreadEnds => a_thread_ends(alloc, program),
+        Question::WaiterEnds => a_waiter_ends(alloc, program),
     }
 }
 

@@ -16,6 +16,7 @@ pub enum Action {
     Requests(usize),
     Returns,
     Throws,
+    GivesUp,
 }
 
 #[derive(Clone, Copy)]
@@ -62,7 +63,10 @@ pub(crate) fn requests(
     ensures program { world.new.program ≡ world.old.program }
     ensures threads { length world.new.threads ≡ length world.old.threads }
 {
-    if class >= program.len() || !world.may_request(thread) {
+    if class >= program.len()
+        || !world.may_request(thread)
+        || world.ending_error(thread).is_some()
+    {
         return Ok(false);
     }
     world.request(thread, ClassId { number: class })?;
@@ -80,7 +84,7 @@ pub(crate) fn returns(
     ensures program { world.new.program ≡ world.old.program }
     ensures threads { length world.new.threads ≡ length world.old.threads }
 {
-    if !world.is_running(thread) {
+    if !world.is_running(thread) || world.ending_error(thread).is_some() {
         return Ok(false);
     }
     world.body_ended(thread, None);
@@ -98,10 +102,29 @@ pub(crate) fn throws(
     ensures program { world.new.program ≡ world.old.program }
     ensures threads { length world.new.threads ≡ length world.old.threads }
 {
-    if !world.is_running(thread) {
+    if !world.is_running(thread) || world.ending_error(thread).is_some() {
         return Ok(false);
     }
     world.body_ended(thread, Some(program.built_in(BuiltIn::Error)));
+    goes(alloc, program, world, thread)
+}
+
+/// The machine ends the thread by an InternalError.
+pub(crate) fn gives_up(
+    alloc: Global,
+    program: &Program,
+    world: &mut World,
+    thread: usize,
+) -> Result<bool, AllocError>
+    requires program { program.now ≡ world.old.program }
+    requires thread { thread < length world.old.threads }
+    ensures program { world.new.program ≡ world.old.program }
+    ensures threads { length world.new.threads ≡ length world.old.threads }
+{
+    if !world.may_give_up(thread) {
+        return Ok(false);
+    }
+    world.give_up(thread, program.built_in(BuiltIn::InternalError));
     goes(alloc, program, world, thread)
 }
 
@@ -171,6 +194,7 @@ pub(crate) fn makes(
         }
         Action::Returns => returns(alloc, program, &mut run.world, thread)?,
         Action::Throws => throws(alloc, program, &mut run.world, thread)?,
+        Action::GivesUp => gives_up(alloc, program, &mut run.world, thread)?,
     };
     notes_return(alloc, program, run, thread)?;
     Ok(made)

@@ -6,9 +6,9 @@ use crate::comparing::Case;
 use crate::programs::{Question, is_so};
 use crate::schedules::{Action, Choice, Run, list_of, replayed};
 use crate::twin::Act;
-use hierarchy::{ClassId, Program};
+use hierarchy::{BuiltIn, ClassId, Program};
 use init_core::{Event, Label};
-use init_world::{World, safety};
+use init_world::{Turn, World, safety};
 use std::alloc::{AllocError, Global};
 use std::process::Abort;
 
@@ -224,6 +224,84 @@ pub(crate) fn two_threads_end(alloc: Global, program: &Program) -> Result<bool, 
 #[test]
 fn two_threads_one_class(rt: HostRuntime) -> Result<(), AllocError> {
     assert!(rt; is_so(rt.alloc(), ONE_CLASS.files, &Question::TwoThreads)?);
+    Ok(())
+}
+
+/// What two threads did, and what the next turn of thread 0 answers.
+fn ended_as(
+    alloc: Global,
+    program: &Program,
+    turns: &[(usize, Action)],
+    expected: &[(usize, usize, Act)],
+    error: ClassId,
+) -> Result<bool, AllocError> {
+    let mut run = replayed(alloc, program, &[1, 0], &choices(alloc, turns)?)?;
+    if !run.world.has_begun(0) {
+        return Ok(false);
+    }
+    let turn = run.world.turn(alloc, program, 0)?;
+    Ok(turn == Turn::Ended(error) && are(alloc, &run.world.into_events(), expected)?)
+}
+
+const IN_A_SUPERCLASS: [(usize, Action); 5] = [
+    (0, Action::Requests(1)),
+    (0, Action::Goes),
+    (0, Action::Goes),
+    (0, Action::GivesUp),
+    (0, Action::Goes),
+];
+
+/// Thread 0 requests B, which extends A, and the machine ends it in the body of A.
+pub(crate) fn a_thread_ends(alloc: Global, program: &Program) -> Result<bool, AllocError> {
+    let error = program.built_in(BuiltIn::InternalError);
+    let expected = [
+        (0, 1, Act::Begins),
+        (0, 0, Act::Begins),
+        (0, 0, Act::Runs),
+        (0, 0, Act::Fails(error.number)),
+        (0, 1, Act::SuperFails(error.number)),
+    ];
+    ended_as(alloc, program, &IN_A_SUPERCLASS, &expected, error)
+}
+
+#[test]
+fn the_machine_ends_a_thread(rt: HostRuntime) -> Result<(), AllocError> {
+    assert!(rt; is_so(rt.alloc(), A_SUPERCLASS.files, &Question::ThreadEnds)?);
+    Ok(())
+}
+
+const EACH_IN_THE_OTHER: [(usize, Action); 9] = [
+    (0, Action::Requests(1)),
+    (1, Action::Requests(0)),
+    (0, Action::Goes),
+    (1, Action::Goes),
+    (0, Action::Requests(0)),
+    (1, Action::Requests(1)),
+    (0, Action::GivesUp),
+    (1, Action::Goes),
+    (1, Action::Returns),
+];
+
+/// The bodies of two classes request each other, in two threads, and the machine ends thread 0, which waits.
+pub(crate) fn a_waiter_ends(alloc: Global, program: &Program) -> Result<bool, AllocError> {
+    let error = program.built_in(BuiltIn::InternalError);
+    let expected = [
+        (0, 1, Act::Begins),
+        (1, 0, Act::Begins),
+        (0, 1, Act::Runs),
+        (1, 0, Act::Runs),
+        (0, 0, Act::Waits),
+        (1, 1, Act::Waits),
+        (0, 1, Act::Fails(error.number)),
+        (1, 1, Act::FindsErroneous),
+        (1, 0, Act::Completes),
+    ];
+    ended_as(alloc, program, &EACH_IN_THE_OTHER, &expected, error)
+}
+
+#[test]
+fn the_machine_ends_a_waiter(rt: HostRuntime) -> Result<(), AllocError> {
+    assert!(rt; is_so(rt.alloc(), TWO_CLASSES.files, &Question::WaiterEnds)?);
     Ok(())
 }
 

@@ -20,7 +20,9 @@ use Rattle.init_core.specs.Label.{label_of}
 use Rattle.init_core.specs.Lawful.{IsInProgressByOther}
 use Rattle.init_core.specs.Leads.{frame, standing}
 use Rattle.init_core.specs.Standing.{Standing}
-use Rattle.init_core.specs.Advance.{Advances, step_2, still_step_2, step_3, step_4, step_5, step_6, ends_class, gives_up_look, MayStandFor, knows_all, Fits, LeavesAt, IsAtEnd, after_needs, after_word, next_of, is_waiting}
+use Rattle.init_core.specs.declared.procedure.Answer.{Answer}
+use Rattle.init_core.specs.ProcedureWord.{GoesOn, IsMachineError}
+use Rattle.init_core.specs.Advance.{leaves_body, after_body, is_running, MayEndThread, thread_ended, Advances, step_2, still_step_2, step_3, step_4, step_5, step_6, ends_class, gives_up_look, MayStandFor, knows_all, Fits, LeavesAt, IsAtEnd, after_needs, after_word, next_of, is_waiting}
 
 at_end : {p : LinkedProgram} {t : ℕ} {s u m : Standing} {made : List Event} → Advances p t u answer.Ended made m → MayStandFor s u → IsAtEnd s.frames
 at_end ends_class knows_all = tt
@@ -101,3 +103,45 @@ pub waits_so : (t : ℕ) {h g : List Event} {d : Decision} {first is waited : Bo
 waits_so t {h = h} {g = g} same ok e waiting was =
     let other : IsInProgressByOther t (label_of g) = rw e at ok in
     sym (waiting (subst (λ (l : List Event). IsInProgressByOther t (label_of l)) same other)) ∙ (ap (λ (l : List Event). waits t l) (sym same) ∙ was)
+
+-- the machine ends the thread in a body
+pub body_is_stopped : (s m : Standing) (e : ClassId) → is_running s.frames ≡ true → Inner s m (λ c fs. after_body c fs (Ended e)) → m ≡ thread_ended s e
+body_is_stopped s m e q is = by s.frames q is where
+  at : (b : ClassId) (phase : Phase) (fs : List Frame) → is_running (frame b phase ∷ fs) ≡ true → m ≡ after_body b fs (Ended e) → m ≡ thread_ended (standing (frame b phase ∷ fs) s.last) e
+  at b (Running true) fs q is = is
+  at b (Running false) fs q is = cc
+  at b (Looking waited) fs q is = cc
+  at b (Needing rest) fs q is = cc
+  at b (EndingBy k by_machine) fs q is = cc
+
+  by : (frames : List Frame) → is_running frames ≡ true → ((f : Frame) (fs : List Frame) → frames ≡ f ∷ fs → m ≡ after_body f.class fs (Ended e)) → m ≡ thread_ended (standing frames s.last) e
+  by [] q is = cc
+  by (f ∷ fs) q is = at f.class f.phase fs q (is f fs refl)
+
+-- or at a request
+pub request_is_stopped : (s m : Standing) (e : ClassId) → MayEndThread s.frames → is_running s.frames ≡ false → Inner s m (λ c fs. after_word fs c (Ended e)) → m ≡ thread_ended s e
+request_is_stopped s m e may q is = by s.frames may q is where
+  at : (b : ClassId) (phase : Phase) (fs : List Frame) → MayEndThread (frame b phase ∷ fs) → is_running (frame b phase ∷ fs) ≡ false → m ≡ after_word fs b (Ended e) → m ≡ thread_ended (standing (frame b phase ∷ fs) s.last) e
+  at b (Looking waited) fs may q is = is
+  at b (Running true) fs may q is = cc
+  at b (Running false) fs may q is = absurd may
+  at b (Needing rest) fs may q is = absurd may
+  at b (EndingBy k by_machine) fs may q is = absurd may
+
+  by : (frames : List Frame) → MayEndThread frames → is_running frames ≡ false → ((f : Frame) (fs : List Frame) → frames ≡ f ∷ fs → m ≡ after_word fs f.class (Ended e)) → m ≡ thread_ended (standing frames s.last) e
+  by [] may q is = absurd may
+  by (f ∷ fs) may q is = at f.class f.phase fs may q (is f fs refl)
+
+-- that is an answer
+pub ends_thread : (p : LinkedProgram) (t : ℕ) (s : Standing) (e : ClassId) → MayEndThread s.frames → GoesOn s.last → IsMachineError p e → (a : Answer) × Advances p t s a [] (thread_ended s e)
+ends_thread p t s e may on machine = by s.frames may where
+  at : (b : ClassId) (phase : Phase) (fs : List Frame) → MayEndThread (frame b phase ∷ fs) → (a : Answer) × Advances p t (standing (frame b phase ∷ fs) s.last) a [] (thread_ended (standing (frame b phase ∷ fs) s.last) e)
+  at b (Looking waited) fs may = (answer.GaveUp e false, gives_up_look machine)
+  at b (Running true) fs may = (answer.BodyEnded (Ended e), leaves_body (rw on machine))
+  at b (Running false) fs may = absurd may
+  at b (Needing rest) fs may = absurd may
+  at b (EndingBy k by_machine) fs may = absurd may
+
+  by : (frames : List Frame) → MayEndThread frames → (a : Answer) × Advances p t (standing frames s.last) a [] (thread_ended (standing frames s.last) e)
+  by [] may = absurd may
+  by (f ∷ fs) may = at f.class f.phase fs may

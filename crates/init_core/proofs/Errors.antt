@@ -1,10 +1,10 @@
 -- The throwables in words are throwables of the program, so their numbers are in range.
-use Rattle.std.proofs.Common.{◌≡◌, ℕ, ◌+◌, ◌<◌, ◌≤◌, ◌⊎◌, inl, inr, List, Option, Some, None, Bool, true, false, ◌∷◌, length, refl, subst, sym, arith}
+use Rattle.std.proofs.Common.{ℕ, ◌+◌, ◌<◌, ◌≤◌, inl, inr, List, Option, Some, None, Bool, true, false, ◌∷◌, length, refl, subst, sym, arith}
 use Rattle.std.proofs.lemmas.Option.{slice_get_within}
 use Rattle.hierarchy.specs.declared.class.ClassId.{ClassId}
 use Rattle.hierarchy.specs.declared.built_in.BuiltIn.{BuiltIn}
 use Rattle.hierarchy.specs.declared.built_in.BuiltIn.TheVariants.{NoClassDefFoundError, LinkageError, VirtualMachineError, InternalError, OutOfMemoryError, Error, Throwable}
-use Rattle.hierarchy.specs.LinkedProgram.{LinkedProgram, built_in, class_at}
+use Rattle.hierarchy.specs.LinkedProgram.{LinkedProgram, built_in}
 use Rattle.hierarchy.specs.Subclasses.{Extends, in_file, is_built_in, IsSubclass, itself, below, IsError, IsThrowable}
 use Rattle.hierarchy.proofs.BuiltIns.{number-small}
 use Rattle.init_core.specs.declared.event.Event.{Event}

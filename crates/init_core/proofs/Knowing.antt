@@ -200,7 +200,7 @@ word_begun : (fs : List Frame) (c : ClassId) (r : Outcome) → AreOuter fs → b
 word_begun [] c r o = refl
 word_begun (f ∷ fs) c r o = in_begun f.phase f.class fs c r o.0 ∙ sym (outer_begun f.phase f.class (begun_classes fs) o.0)
 
-needs_error : (b : ClassId) (rest : List ClassId) (fs : List Frame) → ending_error (after_needs b rest fs) ≡ None
+pub needs_error : (b : ClassId) (rest : List ClassId) (fs : List Frame) → ending_error (after_needs b rest fs) ≡ None
 needs_error b [] fs = refl
 needs_error b (d ∷ rest) fs = refl
 
@@ -213,7 +213,7 @@ in_error (Running false) b fs c r o = absurd o
 in_error (Looking w) b fs c r o = absurd o
 in_error (EndingBy k e) b fs c r o = absurd o
 
-word_error : (fs : List Frame) (c : ClassId) (r : Outcome) → AreOuter fs → ending_error (after_word fs c r) ≡ ended_by r
+pub word_error : (fs : List Frame) (c : ClassId) (r : Outcome) → AreOuter fs → ending_error (after_word fs c r) ≡ ended_by r
 word_error [] c r o = refl
 word_error (f ∷ fs) c r o = in_error f.phase f.class fs c r o.0
 
@@ -230,7 +230,7 @@ in_calm d (Running false) b fs c r o = absurd o
 in_calm d (Looking w) b fs c r o = absurd o
 in_calm d (EndingBy k e) b fs c r o = absurd o
 
-word_calm : (d : ClassId) (fs : List Frame) (c : ClassId) (r : Outcome) → AreOuter fs → is_waiting d (after_word fs c r).frames ≡ false
+pub word_calm : (d : ClassId) (fs : List Frame) (c : ClassId) (r : Outcome) → AreOuter fs → is_waiting d (after_word fs c r).frames ≡ false
 word_calm d [] c r o = refl
 word_calm d (f ∷ fs) c r o = in_calm d f.phase f.class fs c r o.0
 
@@ -250,7 +250,7 @@ request_calm d (f ∷ fs) body = at f.class f.phase body where
   at b (Needing rest) body = absurd body
   at b (EndingBy k m) body = absurd body
 
-request_error : (frames : List Frame) (last : Option Completed) → MayRequest frames → GoesOn last → ending_error (standing frames last) ≡ None
+pub request_error : (frames : List Frame) (last : Option Completed) → MayRequest frames → GoesOn last → ending_error (standing frames last) ≡ None
 request_error [] last body on = on
 request_error (f ∷ fs) last body on = at f.class f.phase body where
   at : (b : ClassId) (phase : Phase) → MayRequest (frame b phase ∷ fs) → ending_error_in phase last ≡ None

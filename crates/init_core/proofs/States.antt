@@ -23,7 +23,7 @@ use Rattle.init_core.specs.Label.{label_of, label_by, is_failure, is_completion,
 use Rattle.init_core.specs.Lawful.{Allows, Holds}
 use Rattle.init_core.specs.Numbers.{IsInRange, IsEventOf}
 use Rattle.init_core.proofs.Labels.{label_after, failure_after}
-use Rattle.init_core.proofs.Values.{held_kept, held_begun, held_put, lawful_more}
+use Rattle.init_core.proofs.Values.{still_held, held_begun, held_put, lawful_more}
 
 waits_more_from : (b : Bool) (t : ℕ) (h : List Event) (e : Event) → waits_from b t (h ++ e ∷ []) ≡ (if e.thread == t then is_wait e.kind else waits_from b t h)
 waits_more_from b t [] e = refl
@@ -40,16 +40,16 @@ all_more c (x ∷ h) e a q = (a.0, all_more c h e a.1 q)
 values_after : (s : State) (h : List Event) (t : ℕ) (k : Kind) → IsStateOf s h → Allows s.label t k → Holds s.fields h k → AreHeld s.fields (next_values s.fields s.values k) (h ++ event t s.class k ∷ [])
 values_after s h t kind.Begins g a holds = held_begun s.fields s.values h t s.class g.lawful.labels (sym g.label ∙ a) g.values
 values_after s h t (kind.Puts place value) g a holds = held_put s.fields s.values h t s.class place value holds g.values
-values_after s h t kind.Waits g a holds = held_kept s.fields s.values h (event t s.class kind.Waits) tt g.values
-values_after s h t kind.Recurs g a holds = held_kept s.fields s.values h (event t s.class kind.Recurs) tt g.values
-values_after s h t kind.FindsInitialized g a holds = held_kept s.fields s.values h (event t s.class kind.FindsInitialized) tt g.values
-values_after s h t kind.FindsErroneous g a holds = held_kept s.fields s.values h (event t s.class kind.FindsErroneous) tt g.values
-values_after s h t (kind.SuperFails e) g a holds = held_kept s.fields s.values h (event t s.class (kind.SuperFails e)) tt g.values
-values_after s h t kind.Runs g a holds = held_kept s.fields s.values h (event t s.class kind.Runs) tt g.values
-values_after s h t kind.Completes g a holds = held_kept s.fields s.values h (event t s.class kind.Completes) tt g.values
-values_after s h t (kind.Fails e) g a holds = held_kept s.fields s.values h (event t s.class (kind.Fails e)) tt g.values
-values_after s h t (kind.Gets place value) g a holds = held_kept s.fields s.values h (event t s.class (kind.Gets place value)) tt g.values
-values_after s h t (kind.Prints text) g a holds = held_kept s.fields s.values h (event t s.class (kind.Prints text)) tt g.values
+values_after s h t kind.Waits g a holds = still_held s.fields s.values h (event t s.class kind.Waits) tt g.values
+values_after s h t kind.Recurs g a holds = still_held s.fields s.values h (event t s.class kind.Recurs) tt g.values
+values_after s h t kind.FindsInitialized g a holds = still_held s.fields s.values h (event t s.class kind.FindsInitialized) tt g.values
+values_after s h t kind.FindsErroneous g a holds = still_held s.fields s.values h (event t s.class kind.FindsErroneous) tt g.values
+values_after s h t (kind.SuperFails e) g a holds = still_held s.fields s.values h (event t s.class (kind.SuperFails e)) tt g.values
+values_after s h t kind.Runs g a holds = still_held s.fields s.values h (event t s.class kind.Runs) tt g.values
+values_after s h t kind.Completes g a holds = still_held s.fields s.values h (event t s.class kind.Completes) tt g.values
+values_after s h t (kind.Fails e) g a holds = still_held s.fields s.values h (event t s.class (kind.Fails e)) tt g.values
+values_after s h t (kind.Gets place value) g a holds = still_held s.fields s.values h (event t s.class (kind.Gets place value)) tt g.values
+values_after s h t (kind.Prints text) g a holds = still_held s.fields s.values h (event t s.class (kind.Prints text)) tt g.values
 
 waiting_after : (s : State) (h : List Event) (t u : ℕ) (k : Kind) → IsStateOf s h → t < THREADS → u < THREADS → slice_index_or (slice_set s.waiting t (is_wait k)) u false ≡ waits u (h ++ event t s.class k ∷ [])
 waiting_after s h t u k g within below = at (eqb_tells t u)
@@ -90,9 +90,9 @@ owner_few c h t a q = at (find is_failure h) (find is_completion h) (find is_beg
     at None None (Some x) y z = let same : x.thread ≡ t = cc in rw (← same) (found_few c h x a y)
     at None None None y z = absurd cc
 
-fewer_kept : {X : Type 0} (q : X → Bool) (xs : List X) → length (filter q xs) ≤ length xs
-fewer_kept q [] = omega arith
-fewer_kept q (x ∷ xs) = at (q x) refl (fewer_kept q xs)
+fewer_filtered : {X : Type 0} (q : X → Bool) (xs : List X) → length (filter q xs) ≤ length xs
+fewer_filtered q [] = omega arith
+fewer_filtered q (x ∷ xs) = at (q x) refl (fewer_filtered q xs)
   where
     at : (b : Bool) → q x ≡ b → length (filter q xs) ≤ length xs → length (filter q (x ∷ xs)) ≤ length (x ∷ xs)
     at true e h = rw e (omega (arith, h))
@@ -103,7 +103,7 @@ few_static p linked c = at (class_at p c) refl
   where
     at : (o : Option Class) → class_at p c ≡ o → length (static_fields_in (class_at p c)) ≤ 1024
     at None e = rw e (omega arith)
-    at (Some class) e = rw e (let few : length class.fields ≤ 1024 = few_own p linked c class e in let fewer : length (filter is_static_field class.fields) ≤ length class.fields = fewer_kept is_static_field class.fields in omega (arith, few, fewer))
+    at (Some class) e = rw e (let few : length class.fields ≤ 1024 = few_own p linked c class e in let fewer : length (filter is_static_field class.fields) ≤ length class.fields = fewer_filtered is_static_field class.fields in omega (arith, few, fewer))
 
 -- a class has few static fields
 pub few_statics : (p : LinkedProgram) → IsLinked p → (c : ClassId) → length (statics_of p c) ≤ FIELD_PLACES

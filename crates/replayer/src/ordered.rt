@@ -36,7 +36,7 @@ fn run_alone(alloc: Global, program: &Program, main: ClassId) -> Result<World, A
             Turn::Event => (),
             Turn::Body(_) => world.body_ended(0, None),
             Turn::Normal => return Ok(world),
-            Turn::Waits | Turn::Abrupt(_) => unreachable!(),
+            Turn::Waits | Turn::Abrupt(_) | Turn::Ended(_) => unreachable!(),
         }
     }
 }

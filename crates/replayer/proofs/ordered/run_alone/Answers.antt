@@ -19,6 +19,10 @@ pub body_ended-requires-clause-body : goal.body_ended-requires-clause-body
 body_ended-requires-clause-body c =
     ((lone_turn c.args.program.now c.args.main c.turns.world c.turn.new.self c.in_ok-turn.field-0 c.requires.acyclic c.turns.invariant c.in_ok-turn.ensures.turn).body c.in-Body.field-0 c.in-Body.is).0
 
+pub body_ended-requires-clause-goes_on : goal.body_ended-requires-clause-goes_on
+body_ended-requires-clause-goes_on c =
+    ((lone_turn c.args.program.now c.args.main c.turns.world c.turn.new.self c.in_ok-turn.field-0 c.requires.acyclic c.turns.invariant c.in_ok-turn.ensures.turn).body c.in-Body.field-0 c.in-Body.is).2
+
 pub turns-smaller : goal.turns-smaller
 turns-smaller c =
     let turned = lone_turn c.args.program.now c.args.main c.turns.world c.turn.new.self c.in_ok-turn.field-0 c.requires.acyclic c.turns.invariant c.in_ok-turn.ensures.turn in
@@ -49,5 +53,8 @@ unreachable-requires c =
     let turned = lone_turn c.args.program.now c.args.main c.turns.world c.turn.new.self c.in_ok-turn.field-0 c.requires.acyclic c.turns.invariant c.in_ok-turn.ensures.turn in
     elim c.in-Waits.is [
       | inl waits ↦ subst (λ a. IsCalmTurn c.args.program.now a) waits turned.calm
-      | inr abrupt ↦ subst (λ a. IsCalmTurn c.args.program.now a) abrupt.1 turned.calm
+      | inr other ↦ elim other [
+        | inl abrupt ↦ subst (λ a. IsCalmTurn c.args.program.now a) abrupt.1 turned.calm
+        | inr ended ↦ subst (λ a. IsCalmTurn c.args.program.now a) ended.1 turned.calm
+      ]
     ]
