@@ -1,3 +1,2 @@
 pub mod PlainSteps
-pub mod EmptyBodies
 pub mod OrderedRun

@@ -7,7 +7,7 @@ use Rattle.init_core.specs.ProcedureWord.{ProcedureWord}
 use Rattle.init_core.specs.declared.frames.Outcome.TheVariants.{Normal}
 use Rattle.trace.specs.declared.report.Report.{Report}
 use Rattle.trace.specs.declared.report.ThreadOutcome.TheVariants as outcomes
-use Rattle.replayer.specs.EmptyBodies.{HaveEmptyBodies}
+use Rattle.trace.specs.EmptyBodies.{HaveEmptyBodies}
 use Rattle.replayer.specs.PlainSteps.{ArePlainSteps}
 
 -- The report is of the run of the main class alone: of a legal interleaving, the procedure for that class completed normally,

@@ -6,7 +6,7 @@ ghost use Rattle.hierarchy.specs.Hierarchy.{IsAcyclic};
 ghost use Rattle.init_core.specs.Interleaving.{of_thread, labels_of as all_labels};
 ghost use Rattle.init_core.specs.ProcedureWord.{ProcedureWord};
 ghost use Rattle.init_core.specs.declared.frames.Outcome.TheVariants.{Normal};
-ghost use Rattle.replayer.specs.EmptyBodies.{HaveEmptyBodies};
+ghost use Rattle.trace.specs.EmptyBodies.{HaveEmptyBodies};
 ghost use Rattle.replayer.specs.PlainSteps.{ArePlainSteps};
 ghost use Rattle.replayer.specs.OrderedRun.{IsRunOf};
 

@@ -1,0 +1,265 @@
+-- What all threads gave back, and the run that it makes.
+use Rattle.std.proofs.Common.{◌≡◌, ℕ, suc, ◌+◌, ◌<◌, ◌≤◌, ◌⊎◌, inl, inr, ⊎_elim, List, [], ◌∷◌, ◌++◌, Some, Bool, true, false, eqb, cond, map, length, refl, sym, subst, ap, ◌∙◌, arith}
+use Rattle.std.specs.Prelude.{slice_index_or, slice_get}
+use Rattle.std.specs.List.{AllByRecursion}
+use Rattle.std.proofs.lemmas.Option.{slice_get_within, slice_get_cases}
+use Rattle.hierarchy.specs.LinkedProgram.{LinkedProgram, id}
+use Rattle.hierarchy.specs.declared.class.ClassId.{ClassId}
+use Rattle.statics.specs.Statics.{statics_of}
+use Rattle.init_core.specs.declared.event.Event.{Event}
+use Rattle.init_core.specs.declared.frames.Outcome.{Outcome}
+use Rattle.init_core.specs.declared.frames.Outcome.TheVariants.{Normal, Abrupt, Ended}
+use Rattle.init_core.specs.Lawful.{IsLawful}
+use Rattle.init_core.specs.ProcedureWord.{ProcedureWord, ThreadWord, threw, was_ended}
+use Rattle.init_core.specs.ProgramEvents.{IsProgramEvent}
+use Rattle.init_core.specs.Interleaving.{of_thread}
+use Rattle.init_core.proofs.Mains.{thread_word}
+use Rattle.init_lock.specs.Log.{journal_of, AllAllowed}
+use Rattle.init_lock.specs.Merging.{AreJournals}
+use Rattle.init_lock.specs.Rule.{element_at}
+use Rattle.init_lock.specs.Known.{PassFacts, TableFacts, Written, IsNewPass, IsAway}
+use Rattle.init_lock.specs.Closing.{numbers, written, HasJournals, FollowsAll}
+use Rattle.trace.specs.declared.report.Limits.{Limits}
+use Rattle.trace.specs.declared.report.ThreadOutcome.{ThreadOutcome}
+use Rattle.trace.specs.EmptyBodies.{HaveEmptyBodies}
+use Rattle.guest_threads.specs.declared.guarded.Guarded.{Guarded}
+use Rattle.guest_threads.specs.declared.work.Worked.{Worked}
+use Rattle.guest_threads.specs.Drawing.{MayDraw, Follows, merged}
+use Rattle.guest_threads.specs.ThreadRuns.{IsThreadRun, AreOutcomes}
+use Rattle.guest_threads.specs.Working.{ArePrepared, IsTableOf, Works, MayWork, IsDone, Did, drawn}
+use Rattle.guest_threads.proofs.Merged.{Log, Fair, journal_is, no_others, own_thread}
+use Rattle.guest_threads.proofs.Headline.{AreLawful, HaveWords}
+use Rattle.guest_threads.proofs.Finding.{element_some}
+
+-- something of each pair
+abbrev pub Pairs : {A B : Type 0} → (A → B → Type 0) → List A → List B → Type 0
+Pairs P [] [] = Unit {0}
+Pairs P (x ∷ xs) (y ∷ ys) = P x y × Pairs P xs ys
+Pairs P xs ys = ⊥
+
+pub pairs : {J R : Type 0} (Q : J → R → Type 0) (js : List J) (rs : List R) → length rs ≡ length js → ((i : ℕ) (d : J) (e : R) → i < length js → Q (slice_index_or js i d) (slice_index_or rs i e)) → Pairs Q js rs
+pairs Q [] [] e each = tt
+pairs Q [] (r ∷ rs) e each = absurd (omega arith)
+pairs Q (j ∷ js) [] e each = absurd (omega arith)
+pairs Q (j ∷ js) (r ∷ rs) e each = (each 0 j r (omega arith), pairs Q js rs (omega arith) (λ i d x l. each (suc i) d x (omega arith)))
+
+module _ {J R : Type 0} where
+  seconds : (Q : J → R → Type 0) (S : R → Type 0) → ((j : J) (r : R) → Q j r → S r) → (js : List J) (rs : List R) → Pairs Q js rs → AllByRecursion S rs
+  seconds Q S go [] [] p = tt
+  seconds Q S go [] (r ∷ rs) p = absurd p
+  seconds Q S go (j ∷ js) [] p = absurd p
+  seconds Q S go (j ∷ js) (r ∷ rs) p = (go j r p.0, seconds Q S go js rs p.1)
+
+  same_numbers : (f : J → ℕ) (g : R → ℕ) (Q : J → R → Type 0) → ((j : J) (r : R) → Q j r → g r ≡ f j) → (js : List J) (rs : List R) → Pairs Q js rs → map g rs ≡ map f js
+  same_numbers f g Q go [] [] p = refl
+  same_numbers f g Q go [] (r ∷ rs) p = absurd p
+  same_numbers f g Q go (j ∷ js) [] p = absurd p
+  same_numbers f g Q go (j ∷ js) (r ∷ rs) p = let a = go j r p.0 in let b = same_numbers f g Q go js rs p.1 in cc
+
+all_map : {A B : Type 0} (f : A → B) (P : B → Type 0) (xs : List A) → AllByRecursion (λ x. P (f x)) xs → AllByRecursion P (map f xs)
+all_map f P [] a = tt
+all_map f P (x ∷ xs) a = (a.0, all_map f P xs a.1)
+
+map_map : {A B C : Type 0} (f : A → B) (g : B → C) (xs : List A) → map g (map f xs) ≡ map (λ x. g (f x)) xs
+map_map f g [] = refl
+map_map f g (x ∷ xs) = ap (λ (z : _). g (f x) ∷ z) (map_map f g xs)
+
+all_at : {A : Type 0} (P : A → Type 0) (xs : List A) (t : ℕ) (x : A) → AllByRecursion P xs → slice_get xs t ≡ Some x → P x
+all_at P [] t x a e = cc
+all_at P (y ∷ xs) Prim.Native.Nat.zero x a e = let q : y ≡ x = cc in subst P q a.0
+all_at P (y ∷ xs) (suc t) x a e = all_at P xs t x a.1 e
+
+get_map : {A B : Type 0} (f : A → B) (xs : List A) (t : ℕ) (x : A) → slice_get xs t ≡ Some x → slice_get (map f xs) t ≡ Some (f x)
+get_map f [] t x e = cc
+get_map f (y ∷ xs) Prim.Native.Nat.zero x e = let q : y ≡ x = cc in ap (λ (z : _). Some (f z)) q
+get_map f (y ∷ xs) (suc t) x e = get_map f xs t x e
+
+-- the one of a number
+numbered : {A : Type 0} (num : A → ℕ) (i n t : ℕ) (xs : List A) → map num xs ≡ numbers i n → t < n → (x : A) × (slice_get xs t ≡ Some x) × (num x ≡ i + t)
+numbered num i Prim.Native.Nat.zero t xs e l = absurd (omega arith)
+numbered num i (suc n) t [] e l = cc
+numbered num i (suc n) Prim.Native.Nat.zero (x ∷ xs) e l = (x, refl, (let q : num x ≡ i = cc in let z : i ≡ i + 0 = omega arith in q ∙ z))
+numbered num i (suc n) (suc t) (x ∷ xs) e l = let rest : map num xs ≡ numbers (suc i) n = cc in let r = numbered num (suc i) n t xs rest (omega arith) in (r.0, r.1, (let z : suc i + t ≡ i + suc t = omega arith in r.2 ∙ z))
+
+-- ---- the records of the beginning
+
+element_push : (rs : List Guarded) (x r : Guarded) (n : ℕ) → element_at n (rs ++ x ∷ []) ≡ Some r → (element_at n rs ≡ Some r) ⊎ ((n ≡ length rs) × (x ≡ r))
+element_push [] x r Prim.Native.Nat.zero e = inr (refl, (let q : x ≡ r = cc in q))
+element_push [] x r (suc n) e = cc
+element_push (y ∷ rs) x r Prim.Native.Nat.zero e = inl e
+element_push (y ∷ rs) x r (suc n) e = ⊎_elim (λ a. inl a) (λ b. inr (ap suc b.0, b.1)) (element_push rs x r n e)
+
+pub prepared_push : (p : LinkedProgram) (rs : List Guarded) (x : Guarded) (k : ℕ) → ArePrepared p rs → k ≡ length rs → x.record.class ≡ id k → x.record.fields ≡ statics_of p (id k) → x.record.events ≡ [] → ArePrepared p (rs ++ x ∷ [])
+prepared_push p rs x k a e class fields none n r q = ⊎_elim (λ b. a n r b)
+    (λ b. let is : n ≡ k = b.0 ∙ sym e in subst (λ (y : Guarded). (y.record.class ≡ id n) × (y.record.fields ≡ statics_of p (id n)) × (y.record.events ≡ [])) b.1
+    (class ∙ ap id (sym is), fields ∙ ap (λ (j : ℕ). statics_of p (id j)) (sym is), none))
+    (element_push rs x r n q)
+
+pub none_kept : (p : LinkedProgram) (rs : List Guarded) → ArePrepared p rs → AllByRecursion (λ r. r.record.events ≡ []) rs
+none_kept p rs a = by_place rs (λ n r e. (a n r e).2) where
+  by_place : (rs : List Guarded) → ((n : ℕ) (r : Guarded) → element_at n rs ≡ Some r → r.record.events ≡ []) → AllByRecursion (λ r. r.record.events ≡ []) rs
+  by_place [] a = tt
+  by_place (r ∷ rs) a = (a 0 r refl, by_place rs (λ n x e. a (suc n) x e))
+
+-- ---- new passes
+
+pub new_passes : (p : LinkedProgram) (table : TableFacts) (rs : List Guarded) (ps : List (PassFacts Guarded Event)) (i n : ℕ) → IsTableOf p table → ArePrepared p rs → length rs ≡ length p.classes → i + n ≤ table.threads → map (λ x. x.number) ps ≡ numbers i n → AllByRecursion (IsNewPass table.id rs) ps → AllByRecursion (MayWork p table) ps
+new_passes p table rs [] i n places a many l e f = tt
+new_passes p table rs (x ∷ ps) i Prim.Native.Nat.zero places a many l e f = cc
+new_passes p table rs (x ∷ ps) i (suc n) places a many l e f =
+    let is : x.number ≡ i = cc in
+    let rest : map (λ (y : PassFacts Guarded Event). y.number) ps ≡ numbers (suc i) n = cc in (
+      record {
+        works = record { places = places; of_table = f.0.table; number = refl; within = omega arith; away = f.0.away; prepared = subst (ArePrepared p) (sym f.0.opening) a; whole = (let z = ap length f.0.opening in omega arith) };
+        none = f.0.journal;
+        unseen = f.0.seen;
+      },
+      new_passes p table rs ps (suc i) n places a many (omega arith) rest f.1,
+    )
+
+-- ---- what came back
+
+run_word : (p : LinkedProgram) (t : ℕ) (m : ClassId) (xs : List Event) (r : Outcome) → ProcedureWord p t m xs r → ThreadWord p t m xs
+run_word p t m xs Normal x = thread_word p t m x
+run_word p t m xs (Abrupt e) x = threw x
+run_word p t m xs (Ended e) x = was_ended x
+
+-- a fact about each event of each thread is one about all events
+all_left : (Q : Event → Type 0) (b : Bool) (x : Event) (xs : List Event) → AllByRecursion Q (cond b (x ∷ xs) xs) → AllByRecursion Q xs
+all_left Q true x xs a = a.1
+all_left Q false x xs a = a
+
+all_merged : (Q : Event → Type 0) (threads places : ℕ) (log : Log) → Fair threads places log → ((t : ℕ) → AllByRecursion Q (of_thread t (merged log))) → AllByRecursion Q (merged log)
+all_merged Q threads places [] f a = tt
+all_merged Q threads places (e ∷ es) f a = (
+  (let own : AllByRecursion Q (e.event ∷ of_thread e.event.thread (merged es)) = subst (AllByRecursion Q) (own_thread e.event (merged es)) (a e.event.thread) in own.0),
+  all_merged Q threads places es f.3 (λ t. all_left Q (eqb e.event.thread t) e.event (of_thread t (merged es)) (a t)),
+)
+
+main_of : (mains : List ClassId) (t : ℕ) → t < length mains → (m : ClassId) × (slice_get mains t ≡ Some m)
+main_of mains t l = ⊎_elim (λ x. (x.0, x.2)) (λ x. absurd (let y = x.0 in omega arith)) (slice_get_cases mains t).1
+
+below_or : (n m : ℕ) → (n < m) ⊎ (m ≤ n)
+below_or n Prim.Native.Nat.zero = inr (omega arith)
+below_or Prim.Native.Nat.zero (suc m) = inl (omega arith)
+below_or (suc n) (suc m) = ⊎_elim (λ l. inl (omega arith)) (λ l. inr (omega arith)) (below_or n m)
+
+by_threads : (threads places : ℕ) (log : Log) → Fair threads places log → AllByRecursion (λ e. e.by < threads) log
+by_threads threads places [] f = tt
+by_threads threads places (e ∷ es) f = (f.0, by_threads threads places es f.3)
+
+length_map : {A B : Type 0} (f : A → B) (xs : List A) → length (map f xs) ≡ length xs
+length_map f [] = refl
+length_map f (x ∷ xs) = ap suc (length_map f xs)
+
+length_numbers : (i n : ℕ) → length (numbers i n) ≡ n
+length_numbers i Prim.Native.Nat.zero = refl
+length_numbers i (suc n) = ap suc (length_numbers (suc i) n)
+
+module _ (p : LinkedProgram) (table : TableFacts) (limits : Limits) (mains : List ClassId) (js : List (PassFacts Guarded Event)) (ds : List Worked) (did_each : Pairs (Did p table limits mains) js ds) (new_numbers : map (λ x. x.number) js ≡ numbers 0 (length mains)) where
+  done_numbers : map (λ (w : Worked). w.pass.number) ds ≡ numbers 0 (length mains)
+  done_numbers = same_numbers (λ (x : PassFacts Guarded Event). x.number) (λ (w : Worked). w.pass.number) (Did p table limits mains) (λ j r y. y.number) js ds did_each ∙ new_numbers
+
+  pub pass_numbers : map (λ (x : PassFacts Guarded Event). x.number) (map (λ (w : Worked). w.pass) ds) ≡ numbers 0 (length mains)
+  pass_numbers = map_map (λ (w : Worked). w.pass) (λ (x : PassFacts Guarded Event). x.number) ds ∙ done_numbers
+
+  done_count : length ds ≡ length mains
+  done_count = sym (length_map (λ (w : Worked). w.pass.number) ds) ∙ (ap length done_numbers ∙ length_numbers 0 (length mains))
+
+  pub outcome_count : length (map (λ (w : Worked). w.outcome) ds) ≡ length mains
+  outcome_count = length_map (λ (w : Worked). w.outcome) ds ∙ done_count
+
+  pub pass_tables : AllByRecursion (λ (x : PassFacts Guarded Event). x.table ≡ table.id) (map (λ (w : Worked). w.pass) ds)
+  pass_tables = all_map (λ (w : Worked). w.pass) (λ (x : PassFacts Guarded Event). x.table ≡ table.id) ds (seconds (Did p table limits mains) (λ (w : Worked). w.pass.table ≡ table.id) (λ j r y. y.works.of_table) js ds did_each)
+
+  pub pass_away : AllByRecursion (λ (x : PassFacts Guarded Event). IsAway x.places) (map (λ (w : Worked). w.pass) ds)
+  pass_away = all_map (λ (w : Worked). w.pass) (λ (x : PassFacts Guarded Event). IsAway x.places) ds (seconds (Did p table limits mains) (λ (w : Worked). IsAway w.pass.places) (λ j r y. y.works.away) js ds did_each)
+
+  all_works : AllByRecursion (λ (w : Worked). Works p table w.pass.number w.pass) ds
+  all_works = seconds (Did p table limits mains) (λ (w : Worked). Works p table w.pass.number w.pass) (λ j r y. y.works) js ds did_each
+
+  all_done : AllByRecursion (λ (w : Worked). (m : ClassId) → slice_get mains w.pass.number ≡ Some m → IsDone p table limits m w) ds
+  all_done = seconds (Did p table limits mains) (λ (w : Worked). (m : ClassId) → slice_get mains w.pass.number ≡ Some m → IsDone p table limits m w) (λ j r y. y.done) js ds did_each
+
+  module _ (log : Log) (rs : List Guarded) (journals_of : HasJournals log (map (λ (w : Worked). w.pass) ds)) (follows : AllByRecursion (FollowsAll (λ (x y : Guarded). Follows x.record y.record) rs) (map (λ (w : Worked). w.pass) ds)) where
+    -- what thread t did
+    record ThreadDone (t : ℕ) (m : ClassId) : Type 0 where
+      outcome : ThreadOutcome
+      at : slice_get (map (λ (w : Worked). w.outcome) ds) t ≡ Some outcome
+      run : IsThreadRun p limits t m (drawn (journal_of t 0 log)) outcome
+      bodies : HaveEmptyBodies (drawn (journal_of t 0 log))
+      events : AllByRecursion (λ e. IsProgramEvent p table.threads e) (drawn (journal_of t 0 log))
+
+    thread_done : (t : ℕ) (m : ClassId) → slice_get mains t ≡ Some m → ThreadDone t m
+    thread_done t m q =
+        let x = numbered (λ (w : Worked). w.pass.number) 0 (length mains) t ds done_numbers (slice_get_within mains t m q) in
+        let w : Worked = x.0 in
+        let is : w.pass.number ≡ t = let z : 0 + t ≡ t = omega arith in x.2 ∙ z in
+        let done : IsDone p table limits m w = all_at (λ (v : Worked). (k : ClassId) → slice_get mains v.pass.number ≡ Some k → IsDone p table limits k v) ds t w all_done x.1 m (ap (slice_get mains) is ∙ q) in
+        let journal : w.pass.journal ≡ journal_of w.pass.number 0 log = all_at (λ (y : PassFacts Guarded Event). y.journal ≡ journal_of y.number 0 log) (map (λ (v : Worked). v.pass) ds) t w.pass journals_of (get_map (λ (v : Worked). v.pass) ds t w x.1) in
+        let own : drawn w.pass.journal ≡ drawn (journal_of t 0 log) = ap drawn journal ∙ ap (λ (k : ℕ). drawn (journal_of k 0 log)) is in
+        record {
+          outcome = w.outcome;
+          at = get_map (λ (v : Worked). v.outcome) ds t w x.1;
+          run = subst (λ (k : ℕ). IsThreadRun p limits k m (drawn (journal_of t 0 log)) w.outcome) is (subst (λ (es : List Event). IsThreadRun p limits w.pass.number m es w.outcome) own done.run);
+          bodies = subst HaveEmptyBodies own done.bodies;
+          events = subst (λ (es : List Event). AllByRecursion (λ e. IsProgramEvent p table.threads e) es) own done.events;
+        }
+
+    pub words : HaveWords p mains log
+    words t m q = let d = thread_done t m q in run_word p t m (drawn (journal_of t 0 log)) d.run.result d.run.word
+
+    pub outcomes_are : (places : ℕ) → AllAllowed (length mains) places MayDraw log → AreOutcomes p mains limits (merged log) (map (λ (w : Worked). w.outcome) ds)
+    outcomes_are places f t m q = let d = thread_done t m q in (d.outcome, d.at, subst (λ (xs : List Event). IsThreadRun p limits t m xs d.outcome) (sym (journal_is (length mains) places t 0 log f)) d.run)
+
+    -- a fact about what each thread did, and about nothing
+    of_each : (places : ℕ) → AllAllowed (length mains) places MayDraw log → (Q : List Event → Type 0) → Q [] → ((t : ℕ) (m : ClassId) → slice_get mains t ≡ Some m → Q (drawn (journal_of t 0 log))) → (t : ℕ) → Q (of_thread t (merged log))
+    of_each places f Q none each t = ⊎_elim
+        (λ l. let m = main_of mains t l in subst Q (sym (journal_is (length mains) places t 0 log f)) (each t m.0 m.1))
+        (λ l. subst Q (sym (no_others (length mains) places t log f l)) none)
+        (below_or t (length mains))
+
+    pub bodies_are : (places : ℕ) → AllAllowed (length mains) places MayDraw log → (t : ℕ) → HaveEmptyBodies (of_thread t (merged log))
+    bodies_are places f t = of_each places f HaveEmptyBodies tt (λ u m q. (thread_done u m q).bodies) t
+
+    pub events_are : (places : ℕ) → AllAllowed (length mains) places MayDraw log → AllByRecursion (λ e. IsProgramEvent p table.threads e) (merged log)
+    events_are places f = all_merged (λ e. IsProgramEvent p table.threads e) (length mains) places log f (of_each places f (λ es. AllByRecursion (λ e. IsProgramEvent p table.threads e) es) tt (λ u m q. (thread_done u m q).events))
+
+    -- the first pass tells of which class each record is
+    fields_are : 0 < length mains → length rs ≡ length p.classes → (n : ℕ) (r : Guarded) → element_at n rs ≡ Some r → n < length rs → r.record.fields ≡ statics_of p (id n)
+    fields_are some many n r q l =
+        let x = numbered (λ (w : Worked). w.pass.number) 0 (length mains) 0 ds done_numbers some in
+        let w : Worked = x.0 in
+        let works : Works p table w.pass.number w.pass = all_at (λ (v : Worked). Works p table v.pass.number v.pass) ds 0 w all_works x.1 in
+        let f : FollowsAll (λ (x y : Guarded). Follows x.record y.record) rs w.pass = all_at (FollowsAll (λ (x y : Guarded). Follows x.record y.record) rs) (map (λ (v : Worked). v.pass) ds) 0 w.pass follows (get_map (λ (v : Worked). v.pass) ds 0 w x.1) in
+        let first = element_some n w.pass.opening (let a = works.whole in omega arith) in
+        (f.opening n first.0 r first.1 q).0.1 ∙ (works.prepared n first.0 first.1).1
+
+    pub lawful_are : 0 < length mains → length rs ≡ length p.classes → AllByRecursion (λ (r : Guarded). IsLawful r.record.fields r.record.events) rs → AreLawful p 0 rs
+    lawful_are some many a = by_place 0 rs a (λ n r q l. let z : 0 + n ≡ n = omega arith in fields_are some many n r q l ∙ ap (λ (k : ℕ). statics_of p (id k)) (sym z)) where
+      by_place : (i : ℕ) (xs : List Guarded) → AllByRecursion (λ (r : Guarded). IsLawful r.record.fields r.record.events) xs → ((n : ℕ) (r : Guarded) → element_at n xs ≡ Some r → n < length xs → r.record.fields ≡ statics_of p (id (i + n))) → AreLawful p i xs
+      by_place i [] a f = tt
+      by_place i (x ∷ xs) a f = (
+        let z : i + 0 ≡ i = omega arith in subst (λ (k : ℕ). IsLawful (statics_of p (id k)) x.record.events) z (subst (λ (fs : _). IsLawful fs x.record.events) (f 0 x refl (omega arith)) a.0),
+        by_place (suc i) xs a.1 (λ n r q l. let z : i + suc n ≡ suc i + n = omega arith in f (suc n) r q (omega arith) ∙ ap (λ (k : ℕ). statics_of p (id k)) z),
+      )
+
+    journals_from : (i n : ℕ) (xs : List (PassFacts Guarded Event)) → map (λ (x : PassFacts Guarded Event). x.number) xs ≡ numbers i n → AllByRecursion (λ (y : PassFacts Guarded Event). y.journal ≡ journal_of y.number 0 log) xs → (k : ℕ) (other : Written Event) → k < length (map written xs) → (slice_index_or (map written xs) k other).events ≡ journal_of (i + k) 0 log
+    journals_from i n [] e a k other l = absurd (omega (arith, l))
+    journals_from i Prim.Native.Nat.zero (x ∷ xs) e a k other l = cc
+    journals_from i (suc n) (x ∷ xs) e a Prim.Native.Nat.zero other l =
+        let is : x.number ≡ i = cc in
+        let z : i ≡ i + 0 = omega arith in
+        a.0 ∙ ap (λ (b : ℕ). journal_of b 0 log) (is ∙ z)
+    journals_from i (suc n) (x ∷ xs) e a (suc k) other l =
+        let rest : map (λ (y : PassFacts Guarded Event). y.number) xs ≡ numbers (suc i) n = cc in
+        let z : suc i + k ≡ i + suc k = omega arith in
+        journals_from (suc i) n xs rest a.1 k other (omega arith) ∙ ap (λ (b : ℕ). journal_of b 0 log) z
+
+    pub journals_are : (places : ℕ) → AllAllowed (length mains) places MayDraw log → (ws : List (Written Event)) → ws ≡ map written (map (λ (w : Worked). w.pass) ds) → AreJournals log ws
+    journals_are places f ws e =
+        let all : length mains ≡ length (map written (map (λ (w : Worked). w.pass) ds)) = sym (length_map written (map (λ (w : Worked). w.pass) ds) ∙ (length_map (λ (w : Worked). w.pass) ds ∙ done_count)) in
+        subst (AreJournals log) (sym e) (record {
+          all = subst (λ (n : ℕ). AllByRecursion (λ e. e.by < n) log) all (by_threads (length mains) places log f);
+          each = λ n other l. let z : 0 + n ≡ n = omega arith in journals_from 0 (length mains) (map (λ (w : Worked). w.pass) ds) pass_numbers journals_of n other l ∙ ap (λ (b : ℕ). journal_of b 0 log) z;
+        })

@@ -1,0 +1,11 @@
+pub mod Inside
+pub mod Merged
+pub mod FieldValues
+pub mod Ended
+pub mod Headline
+pub mod EmptySteps
+pub mod Finding
+pub mod Asking
+pub mod Passing
+pub mod Telling
+pub mod Joining

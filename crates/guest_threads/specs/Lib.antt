@@ -1,0 +1,4 @@
+pub mod Drawing
+pub mod Following
+pub mod ThreadRuns
+pub mod Working

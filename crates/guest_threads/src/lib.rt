@@ -1,0 +1,27 @@
+//! Threads of the machine, each a host thread, that initialize classes at once.
+//!
+//! Enter by [`run_threads`]: it takes main classes, starts a host thread for each, and answers what all of them did.
+//! Each thread does the procedure for its main class, with all that it needs (JLS SE 8 12.4.2), and all bodies are empty.
+//! The records of the classes lie in a table of locks ([`init_lock`]), each a [`Guarded`] under the initialization lock of
+//! its class.
+//!
+//! A thread takes a record, looks at it and tells its procedure ([`init_core::Procedure::look_at`]), draws the stamp of the
+//! event while it has the record, and gives the record back. Step 9 is drawn without a lock. What a thread knows is its
+//! own events and what it saw of each class at its last visit: other threads move no class that is in progress by it, so
+//! that suffices for all of its steps. When all threads have ended, their journals are merged in the order of the stamps.
+//! That the merged list is a legal interleaving follows from three facts: each journal is a word, each record is lawful,
+//! and a step 9 stands between the step 6 and the ending of its class in the journal of one thread.
+//!
+//! The definition of what a run makes stands in `specs/ThreadRuns.antt`.
+#![tactic(auto)]
+
+pub mod gate;
+pub mod guarded;
+pub mod run;
+mod steps;
+mod take;
+pub mod work;
+
+pub use gate::{Gate, NoGate};
+pub use guarded::Guarded;
+pub use run::{RunFault, run_threads};

@@ -1,0 +1,76 @@
+//! A class's record, taken from its lock and given back.
+
+ghost use Rattle.std.specs.Prelude.{◌≡◌, ◌≢◌, ◌+◌, ◌<◌, ◌++◌, ◌∷◌, [], Some, IfOk, OnErr};
+ghost use Rattle.init_lock.specs.Known.{seen_at, out_of, IsAwayBut};
+ghost use Rattle.init_core.specs.ProcedureWord.{IsOfFiles};
+ghost use Rattle.guest_threads.specs.Drawing.{MayDraw, Follows};
+ghost use Rattle.guest_threads.specs.Working.{Works, Took, GaveBack, IsUnmoved, drawn};
+
+use crate::guarded::Guarded;
+use hierarchy::{ClassId, Program};
+use init_core::Event;
+use init_lock::{GaveUp, Held, InitTable, Pass};
+use std::sync::Wait;
+
+/// Takes the record of a class from its initialization lock (JLS SE 8 12.4.2 step 1), with so many tries; 0 is without
+/// limit.
+pub(crate) fn take_record<W: Wait>(
+    rt: &W,
+    program: &Program,
+    table: &InitTable<Guarded>,
+    pass: &mut Pass<Guarded>,
+    class: ClassId,
+    patience: u64,
+) -> Result<Held<Guarded>, GaveUp>
+    requires works { Works program.now table.now pass.old.number pass.old }
+    requires class { IsOfFiles program.now class }
+    ensures took { IfOk result (λ h. Took program.now class pass.old pass.new h) }
+    ensures patient { OnErr result (patience ≢ 0) }
+    ensures gave_up { OnErr result (IsUnmoved pass.old pass.new) }
+    ensures room { OnErr result (pass.new.room ≡ pass.old.room) }
+{
+    let taken = table.take(rt, pass, class.number, patience);
+    let mut held = taken?;
+    held.kept().record.is_lawful();
+    Ok(held)
+}
+
+/// Draws the event that a record was given, and gives the record back.
+pub(crate) fn give_back_with(
+    table: &InitTable<Guarded>,
+    pass: &mut Pass<Guarded>,
+    mut held: Held<Guarded>,
+    event: Event,
+)
+    requires table { pass.old.table ≡ table.now.id }
+    requires room { 0 < pass.old.room }
+    requires allowed { MayDraw pass.old.number (Some held.place) event }
+    requires out { out_of held.place pass.old.places ≡ Some held.taken }
+    requires keeps { held.kept.record.events ≡ seen_at held.place pass.old.places ++ event ∷ [] }
+    requires follows { Follows held.taken.record held.kept.record }
+    requires alone { IsAwayBut held.place pass.old.places }
+    ensures back { GaveBack held.place held.kept.record.events pass.old pass.new }
+    ensures journal { drawn pass.new.journal ≡ drawn pass.old.journal ++ event ∷ [] }
+    ensures room { pass.new.room + 1 ≡ pass.old.room }
+{
+    table.draw_held(pass, &mut held, event);
+    table.give_back(pass, held);
+}
+
+/// Gives a record back as it was found.
+pub(crate) fn give_back_untouched(
+    table: &InitTable<Guarded>,
+    pass: &mut Pass<Guarded>,
+    held: Held<Guarded>,
+)
+    requires table { pass.old.table ≡ table.now.id }
+    requires out { out_of held.place pass.old.places ≡ Some held.taken }
+    requires keeps { held.kept.record.events ≡ seen_at held.place pass.old.places }
+    requires follows { Follows held.taken.record held.kept.record }
+    requires alone { IsAwayBut held.place pass.old.places }
+    ensures back { GaveBack held.place held.kept.record.events pass.old pass.new }
+    ensures journal { pass.new.journal ≡ pass.old.journal }
+    ensures room { pass.new.room ≡ pass.old.room }
+{
+    table.give_back(pass, held);
+}
