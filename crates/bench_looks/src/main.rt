@@ -3,7 +3,9 @@
 //! A class is initialized by one thread. While it does so, another looks in vain, which finds each time that it waits
 //! already; the first looks again (step 3 of JLS SE 8 12.4.2), and reads and writes a static field. With the word
 //! `all` as its argument, as `rt run -- all`, 125,000 to 1,000,000 of each are made on a record each, and what is printed is
-//! how long they take beside the fewest, the least of five times each: 2, 4 and 8 where no call's time grows with what came before.
+//! how long they take, the least of five times each: looks in vain beside the fewest of them, 2, 4 and 8 where no call's
+//! time grows with what came before; the others, which add an event of 24 bytes each, beside as many pushes of
+//! 24 bytes on a list, the same number for each count where no call's time grows with what came before.
 //! Without an argument a few are made, and nothing is printed that hangs on time.
 #![tactic(auto)]
 
@@ -100,19 +102,31 @@ fn time_of(
     Ok(start.elapsed(rt)?.as_nanos())
 }
 
-// The least of five such times.
-fn least_time(
+// How long so many pushes of 24 bytes on a list take, in nanoseconds.
+fn time_of_pushes(rt: &impl Runtime, alloc: Global, count: usize) -> io::Result<u128> {
+    let mut list = Vec::new(alloc);
+    let start = Instant::now(rt)?;
+    for number in 0..count {
+        list.push([number, number, number])?;
+    }
+    Ok(start.elapsed(rt)?.as_nanos())
+}
+
+// The least of five times of this work, and of as many pushes.
+fn least_times(
     rt: &impl Runtime,
     alloc: Global,
     program: &Program,
     work: Work,
     count: usize,
-) -> io::Result<u128> {
+) -> io::Result<(u128, u128)> {
     let mut least = time_of(rt, alloc, program, work, count)?;
+    let mut pushes = time_of_pushes(rt, alloc, count)?;
     for _ in 0..4 {
         least = least.min(time_of(rt, alloc, program, work, count)?);
+        pushes = pushes.min(time_of_pushes(rt, alloc, count)?);
     }
-    Ok(least)
+    Ok((least, pushes))
 }
 
 // How often one time holds another, with one decimal.
@@ -121,28 +135,36 @@ fn ratio(alloc: Global, time: u128, unit: u128) -> Result<String, AllocError> {
     format!(in alloc; "{}.{}", tenths / 10, tenths % 10)
 }
 
-fn print_ratios(
+fn print_in_vain(rt: &impl Runtime, alloc: Global, program: &Program) -> io::Result<()> {
+    let (unit, _) = least_times(rt, alloc, program, Work::LooksInVain, 125_000)?;
+    for count in [250_000_usize, 500_000, 1_000_000] {
+        let (time, _) = least_times(rt, alloc, program, Work::LooksInVain, count)?;
+        let text = ratio(alloc, time, unit)?;
+        println!(rt; "{count} looks in vain, against 125000 of them: {text}")?;
+    }
+    Ok(())
+}
+
+fn print_beside_pushes(
     rt: &impl Runtime,
     alloc: Global,
     program: &Program,
     name: &str,
     work: Work,
 ) -> io::Result<()> {
-    let unit = least_time(rt, alloc, program, work, 125_000)?;
-    for count in [250_000_usize, 500_000, 1_000_000] {
-        let time = least_time(rt, alloc, program, work, count)?;
-        let text = ratio(alloc, time, unit)?;
-        println!(rt; "{count} {name}: {text}")?;
+    for count in [125_000_usize, 250_000, 500_000, 1_000_000] {
+        let (time, pushes) = least_times(rt, alloc, program, work, count)?;
+        let text = ratio(alloc, time, pushes)?;
+        println!(rt; "{count} {name}, against as many pushes: {text}")?;
     }
     Ok(())
 }
 
 fn print_all(rt: &impl Runtime, alloc: Global, program: &Program) -> io::Result<()> {
-    println!(rt; "at one class, against 125000 of the same")?;
-    print_ratios(rt, alloc, program, "looks in vain", Work::LooksInVain)?;
-    print_ratios(rt, alloc, program, "looks", Work::Looks)?;
-    print_ratios(rt, alloc, program, "reads", Work::Reads)?;
-    print_ratios(rt, alloc, program, "writes", Work::Writes)
+    print_in_vain(rt, alloc, program)?;
+    print_beside_pushes(rt, alloc, program, "looks", Work::Looks)?;
+    print_beside_pushes(rt, alloc, program, "reads", Work::Reads)?;
+    print_beside_pushes(rt, alloc, program, "writes", Work::Writes)
 }
 
 fn main(rt: HostRuntime) -> io::Result<()> {

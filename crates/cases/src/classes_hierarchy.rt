@@ -1,7 +1,7 @@
 //! The numbers, supertypes, needs and quoted texts of a program's classes.
 
 use crate::classes_members::class_name;
-use hierarchy::{BuiltIn, ClassId, Program};
+use hierarchy::{BUILT_IN_COUNT, BuiltIn, ClassId, Program};
 use init_order::needs;
 use std::alloc::{AllocError, Global};
 
@@ -57,7 +57,7 @@ pub(crate) fn numbers(
 
 /// The built-in class of that name without a package.
 fn built_in(alloc: Global, asked: &str) -> Result<Option<BuiltIn>, AllocError> {
-    for place in 0..32 {
+    for place in 0..BUILT_IN_COUNT {
         if let Some(class) = BuiltIn::at(place) {
             let name = format!(in alloc; "{class:?}")?;
             if name.as_str() == asked {

@@ -30,13 +30,14 @@ use std::{env, fs, io};
 
 /// Judges the cases of a file.
 fn judge(
-    alloc: Global,
+    rt: &HostRuntime,
     file: &str,
     archive: &Archive,
     report: &mut Report,
 ) -> Result<(), AllocError> {
+    let alloc = rt.alloc();
     if file.ends_with(".txtar") {
-        programs::judge(alloc, archive, report)
+        programs::judge(rt, alloc, archive, report)
     } else if file.contains("classes/") {
         classes::judge(alloc, archive, report)
     } else if file.contains("jasmin/") {
@@ -48,14 +49,15 @@ fn judge(
 
 /// Judges the cases of a file with these bytes.
 fn judge_bytes(
-    alloc: Global,
+    rt: &HostRuntime,
     file: &str,
     bytes: &[u8],
     report: &mut Report,
 ) -> Result<(), AllocError> {
+    let alloc = rt.alloc();
     let mut parts = Vec::new(alloc);
     match push_parts(alloc, &mut parts, bytes) {
-        Ok(None) => judge(alloc, file, &Archive { parts }, report),
+        Ok(None) => judge(rt, file, &Archive { parts }, report),
         Ok(Some(line)) => report.refuses_line(line),
         Err(_) => report.refuses("out of memory"),
     }
@@ -65,7 +67,7 @@ fn judge_bytes(
 fn judge_file(rt: &HostRuntime, file: &str, report: &mut Report) -> Result<(), AllocError> {
     report.begins(file)?;
     match fs::read(rt, file) {
-        Ok(bytes) => judge_bytes(rt.alloc(), file, bytes.as_slice(), report)?,
+        Ok(bytes) => judge_bytes(rt, file, bytes.as_slice(), report)?,
         Err(_) => report.refuses("can't be read")?,
     }
     report.ends()

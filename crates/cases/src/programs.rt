@@ -112,11 +112,16 @@ fn words_of<'a>(alloc: Global, command: &'a str) -> Result<Vec<&'a str>, AllocEr
 }
 
 /// Runs a command line over the files, and answers what came of it.
-fn run(alloc: Global, command: &str, files: &mut Texts) -> Result<Texts, AllocError> {
+fn run(
+    rt: &HostRuntime,
+    alloc: Global,
+    command: &str,
+    files: &mut Texts,
+) -> Result<Texts, AllocError> {
     let words = words_of(alloc, command)?;
     let mut out = Vec::new(alloc);
     let mut err = Vec::new(alloc);
-    let status = serve(alloc, words.as_slice(), files, &mut out, &mut err);
+    let status = serve(rt, alloc, words.as_slice(), files, &mut out, &mut err);
     let status = format!(in alloc; "{status}\n")?;
     outcome_of(
         alloc,
@@ -144,6 +149,7 @@ fn judge_run(
 
 /// Judges a case: its command and the parts after it.
 fn judge_case(
+    rt: &HostRuntime,
     alloc: Global,
     command: &Part,
     parts: &[Part],
@@ -158,12 +164,13 @@ fn judge_case(
     }
     let words = std::str::from_utf8(command.body.as_slice()).unwrap_or("");
     let wanted = wanted_of(alloc, parts, files)?;
-    let came = run(alloc, words, files)?;
+    let came = run(rt, alloc, words, files)?;
     judge_run(alloc, command.line, &wanted, &came, report)
 }
 
 /// Judges the cases of a file.
 pub(crate) fn judge(
+    rt: &HostRuntime,
     alloc: Global,
     archive: &Archive,
     report: &mut Report,
@@ -174,7 +181,7 @@ pub(crate) fn judge(
         .chunk_by(|_, part| part.head.as_slice() != b"command".as_slice())
     {
         if let Some((command, parts)) = case.split_first() {
-            judge_case(alloc, command, parts, &mut files, report)?;
+            judge_case(rt, alloc, command, parts, &mut files, report)?;
         }
     }
     Ok(())

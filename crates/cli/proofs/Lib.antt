@@ -1,4 +1,5 @@
 pub mod CommandLine
-mod Refusals
 pub mod KnownFiles
 pub mod KnownOutput
+pub mod Names
+pub mod Quiet

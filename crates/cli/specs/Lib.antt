@@ -6,3 +6,4 @@ pub mod Files
 pub mod NeedsText
 pub mod Bodiless
 pub mod ReadRefusals
+pub mod Outcomes

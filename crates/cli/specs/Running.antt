@@ -1,15 +1,16 @@
 -- Class texts, linked and run.
-use Rattle.std.specs.Prelude.{◌≡◌, ℕ, Bool, List, Option, Some, None, true, false, if◌then◌else◌, length, nat_eq, nat_lt, option_and_then}
-use Rattle.std.specs.List.{list_any}
+use Rattle.std.specs.Prelude.{◌≡◌, ℕ, ◌≤◌, ◌++◌, List, [], ◌∷◌, Option, Some, None, if◌then◌else◌, length, nat_eq, nat_lt, true, false, option_map, option_and_then}
+use Rattle.std.specs.Str.Parse.{IsNumeral, digits_value}
 use Rattle.jasmin_text.specs.declared.class_text.ClassParts.{ClassParts}
 use Rattle.hierarchy.specs.declared.class.ClassId.{ClassId}
 use Rattle.hierarchy.specs.declared.fault.LinkFault.{LinkFault}
 use Rattle.hierarchy.specs.FirstFault.{IsFirstFault, LinksTo}
 use Rattle.hierarchy.specs.LinkedProgram.{LinkedProgram, class_named}
+use Rattle.trace.specs.declared.report.Limits.{Limits}
 use Rattle.trace.specs.declared.report.Report.{Report}
-use Rattle.replayer.specs.OrderedRun.{IsRunOf}
+use Rattle.guest_threads.specs.ThreadRuns.{IsRunOf}
 use Rattle.cli.specs.declared.fault.Fault.{Fault}
-use Rattle.cli.specs.declared.fault.Fault.TheVariants.{Body, Link, Mains, Memory}
+use Rattle.cli.specs.declared.fault.Fault.TheVariants.{Body, Link, Mains, Memory, Threads}
 use Rattle.cli.specs.Bodiless.{holds_code}
 
 -- why class texts aren't linked: their first fault, or want of memory
@@ -17,37 +18,64 @@ pub data IsLinkRefusal (texts : List ClassParts) : Fault → Type 0 where
   first : {f : LinkFault} → IsFirstFault texts f → IsLinkRefusal texts (Link f)
   memory : IsLinkRefusal texts Memory
 
--- a comma stands in the text
-abbrev pub holds_comma : List ℕ → Bool
-holds_comma text = list_any (λ byte. nat_eq byte 44) text
-
 -- a class of the files
 abbrev pub class_of_files : LinkedProgram → ClassId → Option ClassId
 class_of_files p c = if nat_lt c.number (length p.classes) then Some c else None
 
--- the class of the files that one name is of: a comma parts several
+-- the class of the files that a name is of
 abbrev pub main_named : LinkedProgram → List ℕ → Option ClassId
-main_named p name = if holds_comma name then None else option_and_then (class_of_files p) (class_named p name)
+main_named p name = option_and_then (class_of_files p) (class_named p name)
 
--- the class of the files that the text of `--mains` names, where the option is given
-abbrev pub main_in : LinkedProgram → Option (List ℕ) → Option ClassId
-main_in p mains = option_and_then (main_named p) mains
+-- a class and further ones, where all are there
+abbrev pub with_main : Option ClassId → Option (List ClassId) → Option (List ClassId)
+with_main (Some c) (Some cs) = Some (c ∷ cs)
+with_main _ _ = None
 
--- the report is of the run of the class that the text of `--mains` names, where no class has code
-pub record IsRunOfNamed (mains : Option (List ℕ)) (p : LinkedProgram) (r : Report) : Type 0 where
-  pub main : ClassId
-  pub named : main_in p mains ≡ Some main
-  pub run : IsRunOf p main r
+-- the classes that the names between commas (44) are of, where this much of the first name was read before
+abbrev pub mains_from : LinkedProgram → List ℕ → List ℕ → Option (List ClassId)
+mains_from p name [] = with_main (main_named p name) (Some [])
+mains_from p name (byte ∷ rest) = if nat_eq byte 44 then with_main (main_named p name) (mains_from p [] rest) else mains_from p (name ++ byte ∷ []) rest
+
+-- no more than there are threads
+abbrev pub up_to_16 : List ClassId → Option (List ClassId)
+up_to_16 cs = if nat_lt 16 (length cs) then None else Some cs
+
+-- the classes of the files that the names in a text are of, 1 to 16, parted by commas
+abbrev pub mains_named : LinkedProgram → List ℕ → Option (List ClassId)
+mains_named p text = option_and_then up_to_16 (mains_from p [] text)
+
+-- those that the text of `--mains` names, where the option is given
+abbrev pub mains_in : LinkedProgram → Option (List ℕ) → Option (List ClassId)
+mains_in p mains = option_and_then (mains_named p) mains
+
+-- decimal digits alone, which write this number; zeros may lead
+abbrev pub IsNumber : List ℕ → ℕ → Type 0
+IsNumber digits n = IsNumeral 10 digits × (n ≡ digits_value 10 digits)
+
+-- the patience that the text of `--patience` says: a decimal number up to 1,000,000,000; 0 where the option isn't given
+abbrev pub IsPatience : Option (List ℕ) → ℕ → Type 0
+IsPatience None n = n ≡ 0
+IsPatience (Some digits) n = IsNumber digits n × (n ≤ 1000000000)
+
+-- a million instructions, and this patience
+abbrev pub limits_with : ℕ → Limits
+limits_with patience = record { steps = 1000000; patience = patience }
+
+-- the report is of a run of the classes that the text of `--mains` names, each on a thread of its own, where no class has code
+pub record IsRunOfNamed (mains : Option (List ℕ)) (limits : Limits) (p : LinkedProgram) (r : Report) : Type 0 where
+  pub classes : List ClassId
+  pub named : mains_in p mains ≡ Some classes
+  pub run : IsRunOf p classes limits r
   pub bodiless : holds_code p ≡ false
 
--- why a program isn't run: the first fault, in this order, or want of memory at any time
+-- why a program isn't run: the first fault, in this order, or want of memory or of a thread
 pub data IsRunRefusal (p : LinkedProgram) (mains : Option (List ℕ)) : Fault → Type 0 where
-  unnamed : main_in p mains ≡ None → IsRunRefusal p mains Mains
-  coded : {main : ClassId} → main_in p mains ≡ Some main → holds_code p ≡ true → IsRunRefusal p mains Body
+  unnamed : mains_in p mains ≡ None → IsRunRefusal p mains Mains
+  coded : {classes : List ClassId} → mains_in p mains ≡ Some classes → holds_code p ≡ true → IsRunRefusal p mains Body
+  no_thread : {classes : List ClassId} → mains_in p mains ≡ Some classes → holds_code p ≡ false → IsRunRefusal p mains Threads
   no_memory : IsRunRefusal p mains Memory
 
--- why class texts and a text of `--mains` aren't run: the first fault, in this order, or want of memory at any time
+-- why class texts and a text of `--mains` aren't run: the first fault, in this order, or want of memory or of a thread
 pub data IsRefusal (texts : List ClassParts) (mains : Option (List ℕ)) : Fault → Type 0 where
   unlinked : {f : Fault} → IsLinkRefusal texts f → IsRefusal texts mains f
-  no_main : {p : LinkedProgram} → LinksTo texts p → main_in p mains ≡ None → IsRefusal texts mains Mains
-  body : {p : LinkedProgram} {main : ClassId} → LinksTo texts p → main_in p mains ≡ Some main → holds_code p ≡ true → IsRefusal texts mains Body
+  not_run : {p : LinkedProgram} {f : Fault} → LinksTo texts p → IsRunRefusal p mains f → IsRefusal texts mains f

@@ -8,10 +8,11 @@ use Rattle.hierarchy.specs.FirstFault.{LinksTo}
 use Rattle.hierarchy.specs.LinkedProgram.{LinkedProgram}
 use Rattle.trace.specs.TraceText.{trace_of}
 use Rattle.trace.specs.declared.report.Report.{Report}
-use Rattle.cli.specs.CommandLine.{Request, faults_in, needs, request_in, run, unfit}
+use Rattle.cli.specs.CommandLine.{Request, RunWords, faults_in, needs, request_in, run, unfit}
 use Rattle.cli.specs.Files.{AreSpelled, FileHolds, Files, KeepsAllBut}
 use Rattle.cli.specs.NeedsText.{needs_text}
-use Rattle.cli.specs.Running.{IsRunOfNamed}
+use Rattle.cli.specs.Outcomes.{outcomes_text, status_after}
+use Rattle.cli.specs.Running.{IsPatience, IsRunOfNamed, limits_with}
 
 -- the files, and what was written to the output, where they are known
 pub record Surroundings : Type 0 where
@@ -32,17 +33,21 @@ pub record HasWritten (before after : Surroundings) (trace : Option Text) (progr
   pub output : Appends before.output after.output report.output
   pub traced : IfSome trace (λ name. FileHolds after.files name (λ bytes. bytes ≡ trace_of program report.events))
 
--- The classes that the files spell were linked, and the main class was run. The output is that of the run, and the
--- trace file, where one is asked for, holds its trace.
-pub record HasRun (before after : Surroundings) (mains trace : Option Text) (files : List Text) : Type 0 where
+-- The classes that the files spell were linked, and the main classes were run, with the patience that is said. The output is
+-- that of the run, the trace file, where one is asked for, holds its trace, and standard error, known before and after, and the
+-- status tell how the threads ended.
+pub record HasRun (before after : Surroundings) (errors errors_after : Option (List ℕ)) (words : RunWords) (status : ℕ) : Type 0 where
   pub texts : List ClassParts
   pub program : LinkedProgram
+  pub patience : ℕ
   pub report : Report
-  pub spelled : AreSpelled before.files files texts
+  pub spelled : AreSpelled before.files words.files texts
   pub linked : LinksTo texts program
-  pub ran : IsRunOfNamed mains program report
-  pub output : Appends before.output after.output report.output
-  pub traced : IfSome trace (λ name. FileHolds after.files name (λ bytes. bytes ≡ trace_of program report.events))
+  pub said : IsPatience words.patience patience
+  pub ran : IsRunOfNamed words.mains (limits_with patience) program report
+  pub written : HasWritten before after words.trace program report
+  pub told : Appends errors errors_after (outcomes_text program report.outcomes)
+  pub ended : status ≡ status_after report.outcomes
 
 -- the classes that the files spell were linked, and what each needs was written
 pub record HasToldNeeds (before after : Surroundings) (files : List Text) : Type 0 where
@@ -52,16 +57,16 @@ pub record HasToldNeeds (before after : Surroundings) (files : List Text) : Type
   pub linked : LinksTo texts program
   pub output : Appends before.output after.output (needs_text program)
 
--- what was asked for is done
-abbrev pub IsServed : Surroundings → Surroundings → Request → Type 0
-IsServed before after (run mains trace files) = HasRun before after mains trace files
-IsServed before after (needs files) = HasToldNeeds before after files
-IsServed before after unfit = ⊥
+-- what was asked for is done, with this exit status
+abbrev pub IsServed : Surroundings → Surroundings → Option (List ℕ) → Option (List ℕ) → Request → ℕ → Type 0
+IsServed before after errors errors_after (run words) status = HasRun before after errors errors_after words status
+IsServed before after errors errors_after (needs files) status = (status ≡ 0) × Keeps errors errors_after × HasToldNeeds before after files
+IsServed before after errors errors_after unfit status = ⊥
 
 -- the words ask for help or for the version, or they are words of the command line and what they ask for is done
-abbrev pub IsDone : Surroundings → Surroundings → List Text → Type 0
-IsDone before after words = (IsAmong DisplayHelp (faults_in words) ⊎ IsAmong DisplayVersion (faults_in words))
-    ⊎ ((faults_in words ≡ []) × IsServed before after (request_in words))
+abbrev pub IsDone : Surroundings → Surroundings → Option (List ℕ) → Option (List ℕ) → List Text → ℕ → Type 0
+IsDone before after errors errors_after words status = ((status ≡ 0) × Keeps errors errors_after × (IsAmong DisplayHelp (faults_in words) ⊎ IsAmong DisplayVersion (faults_in words)))
+    ⊎ ((faults_in words ≡ []) × IsServed before after errors errors_after (request_in words) status)
 
 -- no file was written, and nothing to the output
 pub record IsUntouched (before after : Surroundings) : Type 0 where
@@ -70,6 +75,6 @@ pub record IsUntouched (before after : Surroundings) : Type 0 where
 
 -- the file that a trace is asked into
 abbrev pub trace_in : Request → Option Text
-trace_in (run mains trace files) = trace
+trace_in (run words) = words.trace
 trace_in (needs files) = None
 trace_in unfit = None

@@ -1,7 +1,7 @@
 -- Exit statuses.
-use Rattle.std.specs.Prelude.{◌≡◌, ◌⊎◌, ℕ}
+use Rattle.std.specs.Prelude.{◌≤◌, ℕ}
 use Rattle.cli.specs.declared.fault.Fault.{Fault}
-use Rattle.cli.specs.declared.fault.Fault.TheVariants.{Body, Files, Io, Jasmin, Link, Mains, Memory, Output, Words}
+use Rattle.cli.specs.declared.fault.Fault.TheVariants.{Body, Files, Io, Jasmin, Link, Mains, Memory, Output, Patience, Threads, Words}
 
 -- 3 for what the machine refused, 2 for what the user can mend
 abbrev pub status_of : Fault → ℕ
@@ -10,11 +10,13 @@ status_of Files = 2
 status_of (Io _) = 3
 status_of (Jasmin _ _) = 2
 status_of (Link _) = 2
+status_of Patience = 2
 status_of Mains = 2
 status_of Body = 2
+status_of Threads = 3
 status_of Memory = 3
 status_of Output = 3
 
 -- an exit status of the program
 abbrev pub IsStatus : ℕ → Type 0
-IsStatus n = (n ≡ 0) ⊎ ((n ≡ 2) ⊎ (n ≡ 3))
+IsStatus n = n ≤ 3

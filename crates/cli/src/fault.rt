@@ -22,13 +22,17 @@ pub enum Fault<'a> {
     Jasmin { file: &'a str, fault: ReadFault },
     /// The classes can't be linked, for another reason than want of memory.
     Link(LinkFault),
-    /// The main class is unknown, there is none, or more than one is named.
+    /// The patience is no decimal number up to 1,000,000,000.
+    Patience,
+    /// A main class is unknown, there is none, or more than 16 are named.
     Mains,
     /// A method has a body, which isn't run yet.
     Body,
+    /// A thread of the machine can't be started.
+    Threads,
     /// Want of memory.
     Memory,
-    /// The output can't be written.
+    /// The output, or the lines that tell how threads ended, can't be written.
     Output,
 }
 
@@ -55,8 +59,8 @@ impl Fault<'_> {
     {
         match self {
             Fault::Words | Fault::Files | Fault::Jasmin { .. } => 2,
-            Fault::Link(_) | Fault::Mains | Fault::Body => 2,
-            Fault::Io(_) | Fault::Memory | Fault::Output => 3,
+            Fault::Patience | Fault::Link(_) | Fault::Mains | Fault::Body => 2,
+            Fault::Io(_) | Fault::Threads | Fault::Memory | Fault::Output => 3,
         }
     }
 
@@ -68,8 +72,10 @@ impl Fault<'_> {
             Fault::Link(fault) => return tell_link(fault, err),
             Fault::Words => "cli: words",
             Fault::Files => "cli: files",
+            Fault::Patience => "cli: patience",
             Fault::Mains => "cli: mains",
             Fault::Body => "cli: body",
+            Fault::Threads => "threads",
             Fault::Memory => "memory",
             Fault::Output => "io: output",
         };

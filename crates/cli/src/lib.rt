@@ -8,6 +8,7 @@
 pub mod fault;
 pub mod files;
 pub mod needed;
+pub mod outcomes;
 pub mod running;
 pub mod serving;
 pub mod words;
@@ -15,6 +16,7 @@ pub mod words;
 pub use fault::Fault;
 pub use files::{Named, NamedFault};
 pub use needed::write_needs;
+pub use outcomes::{status_of_outcomes, write_outcomes};
 pub use running::{ProgramRun, run_texts};
 pub use serving::serve;
 pub use words::{Asked, Run, parse};

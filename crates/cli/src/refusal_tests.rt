@@ -55,10 +55,11 @@ impl io::Write for Full {
 }
 
 /// Whether these words, with this writer for the output, are answered by status 3 and this line, and no file is written.
-fn is_refused<O: io::Write>(alloc: Global, words: &[&str], out: &mut O, line: &[u8]) -> bool {
+fn is_refused<O: io::Write>(rt: &HostRuntime, words: &[&str], out: &mut O, line: &[u8]) -> bool {
+    let alloc = rt.alloc();
     let mut files = RefusingFiles { is_written: false };
     let mut err = Vec::new(alloc);
-    let status = serve(alloc, words, &mut files, out, &mut err);
+    let status = serve(rt, alloc, words, &mut files, out, &mut err);
     status == 3 && err.as_slice() == line && !files.is_written
 }
 
@@ -86,10 +87,7 @@ const BY_FILES: [(&[&str], &[u8]); 4] = [
 fn refused_by_files(rt: HostRuntime) {
     for (words, line) in BY_FILES {
         let mut out = Vec::new(rt.alloc());
-        assert!(rt;
-            is_refused(rt.alloc(), words, &mut out, line),
-            "at {words:?}"
-        );
+        assert!(rt; is_refused(&rt, words, &mut out, line), "at {words:?}");
         assert!(rt; out.is_empty(), "at {words:?}");
     }
 }
@@ -108,7 +106,7 @@ const WITH_OUTPUT: [&[&str]; 5] = [
 fn refused_by_the_output(rt: HostRuntime) {
     for words in WITH_OUTPUT {
         assert!(rt;
-            is_refused(rt.alloc(), words, &mut Full, b"io: output\n"),
+            is_refused(&rt, words, &mut Full, b"io: output\n"),
             "at {words:?}"
         );
     }

@@ -1,15 +1,15 @@
 //! The program's body.
 
-ghost use Rattle.std.specs.Prelude.{◌≡◌, ◌⊎◌, None, IfErr, IfOk, IfSome, OnOk};
+ghost use Rattle.std.specs.Prelude.{◌≡◌, ◌≤◌, ◌⊎◌, None, IfErr, IfOk, IfSome, OnOk};
 ghost use Rattle.std.specs.Io.KnownBytes.{Appends, Keeps};
-ghost use Rattle.std.specs.Option.{option_map};
 ghost use Rattle.clap.specs.Walk.{texts};
 ghost use Rattle.clap.specs.Words.{kind_of};
 ghost use Rattle.clap.specs.declared.error.kind.ErrorKind.TheVariants.{DisplayHelp, DisplayVersion};
 ghost use Rattle.trace.specs.TraceText.{trace_of};
-ghost use Rattle.cli.specs.CommandLine.{request_in, request_of};
+ghost use Rattle.cli.specs.CommandLine.{request_in, request_of, run_words_of, text_of};
 ghost use Rattle.cli.specs.Files.{FileHolds, KeepsAllBut};
 ghost use Rattle.cli.specs.NeedsText.{needs_text};
+ghost use Rattle.cli.specs.Outcomes.{outcomes_text};
 ghost use Rattle.cli.specs.Running.{IsRunOfNamed};
 ghost use Rattle.cli.specs.Serving.{HasRun, HasToldNeeds, HasWritten, IsDone, IsLinkedFrom, IsServed, IsUntouched, around, trace_in};
 ghost use Rattle.cli.specs.Status.{IsStatus, status_of};
@@ -17,13 +17,16 @@ ghost use Rattle.cli.specs.Status.{IsStatus, status_of};
 use crate::fault::Fault;
 use crate::files::{Named, read_texts, write_named};
 use crate::needed::write_needs;
-use crate::running::{ProgramRun, link_texts, run_texts};
+use crate::outcomes::{status_of_outcomes, write_outcomes};
+use crate::running::{ProgramRun, limits_of, link_texts, run_texts};
 use crate::words::{Asked, Run, parse};
 use clap::error::ErrorKind;
 use hierarchy::Program;
 use std::alloc::Global;
 use std::io;
-use trace::write_trace;
+use std::sync::Wait;
+use std::thread::Threads;
+use trace::{Limits, write_trace};
 
 /// Writes the output, whole.
 #[tactic(auto, using(crate::proofs::KnownOutput::appends_kept))]
@@ -44,9 +47,9 @@ fn write_traced<'a, N: Named>(
     trace: Option<&'a str>,
     named: &mut N,
 ) -> Result<(), Fault<'a>>
-    ensures traced { OnOk result (IfSome (option_map (λ s. s.now) trace.entry) (λ name.
+    ensures traced { OnOk result (IfSome (text_of trace.entry) (λ name.
         FileHolds (N.held named.new) name (λ bytes. bytes ≡ trace_of ran.now.program ran.now.report.events))) }
-    ensures files { KeepsAllBut (option_map (λ s. s.now) trace.entry) (N.held named.old) (N.held named.new) }
+    ensures files { KeepsAllBut (text_of trace.entry) (N.held named.old) (N.held named.new) }
     ensures refused { IfErr result (λ f. status_of f ≡ 3) }
 {
     let Some(name) = trace else {
@@ -56,19 +59,37 @@ fn write_traced<'a, N: Named>(
     write_named(named, name, &text)
 }
 
-/// Reads and links the classes of the files, and runs the main class.
-fn run_files<'a, N: Named>(
+/// Tells how the threads of a run ended.
+fn tell_outcomes<'a, E: io::Write>(
+    alloc: Global,
+    ran: &ProgramRun,
+    err: &mut E,
+) -> Result<(), Fault<'a>>
+    ensures told { OnOk result (Appends (E.contents err.old) (E.contents err.new) (outcomes_text ran.now.program ran.now.report.outcomes)) }
+    ensures refused { IfErr result (λ f. status_of f ≡ 3) }
+{
+    let text = write_outcomes(alloc, &ran.program, ran.report.outcomes.as_slice())?;
+    if text.is_empty() {
+        return Ok(());
+    }
+    write_output(err, &text)
+}
+
+/// Reads and links the classes of the files, and runs the main classes.
+fn run_files<'a, R: Threads + Wait + Sync, N: Named>(
+    rt: &R,
     alloc: Global,
     files: &[&'a str],
     mains: Option<&str>,
+    limits: Limits,
     named: &mut N,
 ) -> Result<ProgramRun, Fault<'a>>
     ensures files { KeepsAllBut None (N.held named.old) (N.held named.new) }
     ensures linked { IfOk result (λ ran. IsLinkedFrom (N.held named.old) (texts files.now) ran.program) }
-    ensures ran { IfOk result (λ ran. IsRunOfNamed (option_map (λ s. s.now) mains.entry) ran.program ran.report) }
+    ensures ran { IfOk result (λ ran. IsRunOfNamed (text_of mains.entry) limits ran.program ran.report) }
 {
     let texts = read_texts(alloc, named, files)?;
-    let ran = run_texts(alloc, texts, mains)?;
+    let ran = run_texts(rt, alloc, texts, mains, limits)?;
     Ok(ran)
 }
 
@@ -81,31 +102,36 @@ fn write_run<'a, N: Named, O: io::Write>(
     out: &mut O,
 ) -> Result<(), Fault<'a>>
     ensures written { OnOk result (HasWritten (around (N.held named.old) (O.contents out.old)) (around (N.held named.new) (O.contents out.new))
-        (option_map (λ s. s.now) trace.entry) ran.now.program ran.now.report) }
-    ensures files { KeepsAllBut (option_map (λ s. s.now) trace.entry) (N.held named.old) (N.held named.new) }
+        (text_of trace.entry) ran.now.program ran.now.report) }
+    ensures files { KeepsAllBut (text_of trace.entry) (N.held named.old) (N.held named.new) }
     ensures refused { IfErr result (λ f. status_of f ≡ 3) }
 {
     write_output(out, ran.report.output.as_slice())?;
     write_traced(alloc, ran, trace, named)
 }
 
-/// Runs what the words ask for, and writes the output and the trace.
-fn run<'a, N: Named, O: io::Write>(
+/// Runs what the words ask for, writes the output and the trace, tells how the threads ended, and answers the exit status.
+fn run<'a, R: Threads + Wait + Sync, N: Named, O: io::Write, E: io::Write>(
+    rt: &R,
     alloc: Global,
-    run: &Run<'a>,
+    words: &Run<'a>,
     named: &mut N,
     out: &mut O,
-) -> Result<(), Fault<'a>>
-    ensures files { KeepsAllBut (option_map (λ s. s.now) run.now.trace) (N.held named.old) (N.held named.new) }
-    ensures ran { OnOk result (HasRun (around (N.held named.old) (O.contents out.old)) (around (N.held named.new) (O.contents out.new))
-        (option_map (λ s. s.now) run.now.mains) (option_map (λ s. s.now) run.now.trace) (texts run.now.files.items)) }
+    err: &mut E,
+) -> Result<u8, Fault<'a>>
+    ensures files { KeepsAllBut (text_of words.now.trace) (N.held named.old) (N.held named.new) }
+    ensures ran { IfOk result (HasRun (around (N.held named.old) (O.contents out.old)) (around (N.held named.new) (O.contents out.new))
+        (E.contents err.old) (E.contents err.new) (run_words_of words.now)) }
     ensures untouched { IfErr result (λ f. status_of f ≡ 2 → IsUntouched (around (N.held named.old) (O.contents out.old)) (around (N.held named.new) (O.contents out.new))) }
 {
-    let ran = match run_files(alloc, &run.files, run.mains, named) {
+    let limits = limits_of(words.patience)?;
+    let ran = match run_files(rt, alloc, &words.files, words.mains, limits, named) {
         Ok(ran) => ran,
         Err(fault) => return Err(fault),
     };
-    write_run(alloc, &ran, run.trace, named, out)
+    write_run(alloc, &ran, words.trace, named, out)?;
+    tell_outcomes(alloc, &ran, err)?;
+    Ok(status_of_outcomes(ran.report.outcomes.as_slice()))
 }
 
 /// Reads and links the classes of the files.
@@ -153,20 +179,26 @@ fn tell_needs<'a, N: Named, O: io::Write>(
     write_needed(alloc, &program, out)
 }
 
-/// Does what the words ask for.
-fn answer<'a, N: Named, O: io::Write>(
+/// Does what the words ask for, and answers the exit status.
+fn answer<'a, R: Threads + Wait + Sync, N: Named, O: io::Write, E: io::Write>(
+    rt: &R,
     alloc: Global,
     asked: &Asked<'a>,
     named: &mut N,
     out: &mut O,
-) -> Result<(), Fault<'a>>
+    err: &mut E,
+) -> Result<u8, Fault<'a>>
     ensures files { KeepsAllBut (trace_in (request_of asked.now)) (N.held named.old) (N.held named.new) }
-    ensures served { OnOk result (IsServed (around (N.held named.old) (O.contents out.old)) (around (N.held named.new) (O.contents out.new)) (request_of asked.now)) }
+    ensures served { IfOk result (IsServed (around (N.held named.old) (O.contents out.old)) (around (N.held named.new) (O.contents out.new))
+        (E.contents err.old) (E.contents err.new) (request_of asked.now)) }
     ensures untouched { IfErr result (λ f. status_of f ≡ 2 → IsUntouched (around (N.held named.old) (O.contents out.old)) (around (N.held named.new) (O.contents out.new))) }
 {
     match asked {
-        Asked::Run(words) => run(alloc, words, named, out),
-        Asked::Needs(files) => tell_needs(alloc, files, named, out),
+        Asked::Run(words) => run(rt, alloc, words, named, out, err),
+        Asked::Needs(files) => {
+            tell_needs(alloc, files, named, out)?;
+            Ok(0)
+        }
         Asked::Unfit => Err(Fault::Words),
     }
 }
@@ -174,8 +206,8 @@ fn answer<'a, N: Named, O: io::Write>(
 /// Tells why the words ask for nothing that can be done, or shows the help or the version that they ask for.
 fn tell_words<O: io::Write, E: io::Write>(error: &clap::Error, out: &mut O, err: &mut E) -> u8
     ensures status { IsStatus result }
-    ensures shown { result ≡ 0 → (kind_of error.now ≡ DisplayHelp) ⊎ (kind_of error.now ≡ DisplayVersion) }
-    ensures quiet { result ≡ 0 → Keeps (E.contents err.old) (E.contents err.new) }
+    ensures shown { result ≤ 1 → (result ≡ 0) × ((kind_of error.now ≡ DisplayHelp) ⊎ (kind_of error.now ≡ DisplayVersion)) }
+    ensures quiet { result ≤ 1 → Keeps (E.contents err.old) (E.contents err.new) }
     ensures untouched { result ≡ 2 → Keeps (O.contents out.old) (O.contents out.new) }
 {
     match error.kind() {
@@ -198,7 +230,8 @@ fn tell_words<O: io::Write, E: io::Write>(error: &clap::Error, out: &mut O, err:
 }
 
 /// Does what the words ask for, or tells why it isn't done, and answers the exit status.
-fn answer_or_tell<N: Named, O: io::Write, E: io::Write>(
+fn answer_or_tell<R: Threads + Wait + Sync, N: Named, O: io::Write, E: io::Write>(
+    rt: &R,
     alloc: Global,
     asked: &Asked<'_>,
     named: &mut N,
@@ -206,13 +239,14 @@ fn answer_or_tell<N: Named, O: io::Write, E: io::Write>(
     err: &mut E,
 ) -> u8
     ensures status { IsStatus result }
-    ensures served { result ≡ 0 → IsServed (around (N.held named.old) (O.contents out.old)) (around (N.held named.new) (O.contents out.new)) (request_of asked.now) }
+    ensures served { result ≤ 1 → IsServed (around (N.held named.old) (O.contents out.old)) (around (N.held named.new) (O.contents out.new))
+        (E.contents err.old) (E.contents err.new) (request_of asked.now) result }
     ensures quiet { result ≡ 0 → Keeps (E.contents err.old) (E.contents err.new) }
     ensures untouched { result ≡ 2 → IsUntouched (around (N.held named.old) (O.contents out.old)) (around (N.held named.new) (O.contents out.new)) }
     ensures files { KeepsAllBut (trace_in (request_of asked.now)) (N.held named.old) (N.held named.new) }
 {
-    match answer(alloc, asked, named, out) {
-        Ok(()) => 0,
+    match answer(rt, alloc, asked, named, out, err) {
+        Ok(status) => status,
         Err(fault) => {
             let _ = fault.tell(err);
             fault.status()
@@ -223,15 +257,16 @@ fn answer_or_tell<N: Named, O: io::Write, E: io::Write>(
 /// Does what the words of a command line ask for, and answers the exit status. The first word is the
 /// program's name.
 ///
-/// Files are read and written by name through `named`, the output goes to `out`, and what went wrong to
-/// `err`, in one line or in `clap`'s words. The status is 0 where all threads ended normally, 2 where the words, the
-/// files or the classes are at fault, and 3 where memory, a file or the output was refused; nothing further is
-/// written then.
+/// Files are read and written by name through `named`, the output goes to `out`, and to `err` what went wrong, in one line
+/// or in `clap`'s words, and how threads ended that didn't end normally, a line each. The status is 0 where all
+/// threads ended normally, 1 where one didn't, 2 where the words, the files or the classes are at fault, and 3 where memory, a
+/// thread, a file or the output was refused; nothing further is written then. It may wait, for ever where `--patience` is 0.
 ///
-/// At status 0 what the words ask for is done, or they ask for help or the version, and nothing is written to `err`.
+/// At status 0 and 1 what the words ask for is done, or, at 0, they ask for help or the version; at 0 nothing is written to `err`.
 /// At status 2 no file is written, and nothing to `out`. At every status all files but the trace are as they were. What files hold is said where that is known
-/// (`Named::held`), and so is what was written to the output (`Write::contents`).
-pub fn serve<N: Named, O: io::Write, E: io::Write>(
+/// (`Named::held`), and so is what was written (`Write::contents`).
+pub fn serve<R: Threads + Wait + Sync, N: Named, O: io::Write, E: io::Write>(
+    rt: &R,
     alloc: Global,
     words: &[&str],
     named: &mut N,
@@ -239,14 +274,14 @@ pub fn serve<N: Named, O: io::Write, E: io::Write>(
     err: &mut E,
 ) -> u8
     ensures status { IsStatus result }
-    ensures done { result ≡ 0 → IsDone (around (N.held named.old) (O.contents out.old)) (around (N.held named.new) (O.contents out.new))
-        (texts words.entry.now) }
+    ensures done { result ≤ 1 → IsDone (around (N.held named.old) (O.contents out.old)) (around (N.held named.new) (O.contents out.new))
+        (E.contents err.old) (E.contents err.new) (texts words.entry.now) result }
     ensures quiet { result ≡ 0 → Keeps (E.contents err.old) (E.contents err.new) }
     ensures untouched { result ≡ 2 → IsUntouched (around (N.held named.old) (O.contents out.old)) (around (N.held named.new) (O.contents out.new)) }
     ensures files { KeepsAllBut (trace_in (request_in (texts words.entry.now))) (N.held named.old) (N.held named.new) }
 {
     match parse(alloc, words) {
-        Ok(asked) => answer_or_tell(alloc, &asked, named, out, err),
+        Ok(asked) => answer_or_tell(rt, alloc, &asked, named, out, err),
         Err(error) => tell_words(&error, out, err),
     }
 }

@@ -9,7 +9,7 @@ ghost use Rattle.hierarchy.specs.FirstFault.{LinksTo};
 ghost use Rattle.hierarchy.specs.LinkedProgram.{LinkedProgram};
 ghost use Rattle.trace.specs.TraceText.{trace_of};
 ghost use Rattle.trace.specs.declared.report.Report.{Report};
-ghost use Rattle.cli.specs.Running.{IsRunOfNamed};
+ghost use Rattle.cli.specs.Running.{IsRunOfNamed, limits_with};
 
 use crate::{Named, NamedFault, serve};
 use std::alloc::Global;
@@ -55,13 +55,14 @@ static WORDS: [&str; 7] = [
 ];
 
 /// Runs the class Solo that the sheet spells, and writes the trace in its place.
-fn trace_the_sheet(alloc: Global, sheet: &mut Sheet) -> u8
+fn trace_the_sheet(rt: &HostRuntime, sheet: &mut Sheet) -> u8
     ensures { result ≡ 0 → (c : ClassParts) × (p : LinkedProgram) × (r : Report) × Spells (lines_of sheet.old.bytes.items) c
-        × LinksTo (c ∷ []) p × IsRunOfNamed (Some (codes "Solo")) p r × (sheet.new.bytes.items ≡ trace_of p r.events) }
+        × LinksTo (c ∷ []) p × IsRunOfNamed (Some (codes "Solo")) (limits_with 0) p r × (sheet.new.bytes.items ≡ trace_of p r.events) }
 {
+    let alloc = rt.alloc();
     let mut out = Vec::new(alloc);
     let mut err = Vec::new(alloc);
-    serve(alloc, WORDS.as_slice(), sheet, &mut out, &mut err)
+    serve(rt, alloc, WORDS.as_slice(), sheet, &mut out, &mut err)
 }
 
 #[test]
@@ -69,7 +70,7 @@ fn a_file_becomes_its_trace(rt: HostRuntime) -> Result<(), Fail> {
     let mut sheet = Sheet {
         bytes: Vec::from_slice(rt.alloc(), b".class Solo")?,
     };
-    assert_eq!(rt; trace_the_sheet(rt.alloc(), &mut sheet), 0);
+    assert_eq!(rt; trace_the_sheet(&rt, &mut sheet), 0);
     assert!(rt;
         sheet.bytes.as_slice() == b"0 t0 step6 Solo\n1 t0 step9 Solo\n2 t0 step10 Solo\n".as_slice()
     );

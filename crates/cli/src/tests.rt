@@ -20,7 +20,7 @@ fn words_are_parsed(rt: HostRuntime) -> Result<(), Fail> {
     let Ok(Asked::Run(run)) = parse(rt.alloc(), &words) else {
         return Err(Fail::from("no run"));
     };
-    assert!(rt; run.mains == Some("A") && run.trace == Some("made"));
+    assert!(rt; run.mains == Some("A") && run.trace == Some("made") && run.patience.is_none());
     assert!(rt; run.files.as_slice() == ["a.j", "b.j", "--c.j"].as_slice());
     Ok(())
 }

@@ -12,10 +12,12 @@ use std::alloc::{AllocError, Global};
 /// What `jinit run` asks for.
 #[derive(Debug, Drop)]
 pub struct Run<'a> {
-    /// The text of `--mains`: the main class. Commas will part several.
+    /// The text of `--mains`: the main classes, parted by commas.
     pub mains: Option<&'a str>,
     /// The text of `--trace`: the file that the trace is written to.
     pub trace: Option<&'a str>,
+    /// The text of `--patience`: how often a thread looks at what another holds.
+    pub patience: Option<&'a str>,
     /// The Jasmin files, in order.
     pub files: Vec<&'a str>,
 }
@@ -82,12 +84,15 @@ fn subcommand<'a>(
     ensures rules { IfOk result (λ c. app_of c ≡ subcommand_named name.entry.now) }
     ensures local { IfOk result (λ c. (fields_of c).has_globals ≡ false) }
 {
-    let help = "The main class, as its file names it";
-    let mains = option(alloc, "mains", "CLASS", help, !takes_options);
+    let help = "The main classes, as their files name them, 1 to 16: each has a thread";
+    let mains = option(alloc, "mains", "CLASS,..", help, !takes_options);
     let command = with_argument(Command::new(alloc, name).about(about), mains)?;
     let help = "Writes every initialization step to FILE";
     let trace = option(alloc, "trace", "FILE", help, !takes_options);
     let command = with_argument(command, trace)?;
+    let help = "A thread that looks so often at what another holds is ended; 0: never";
+    let patience = option(alloc, "patience", "N", help, !takes_options);
+    let command = with_argument(command, patience)?;
     with_argument(command, files_argument(alloc))
 }
 
@@ -118,7 +123,7 @@ fn with_command<'a>(
 fn command<'a>(alloc: Global) -> Result<Command<'a>, AllocError>
     ensures { IfOk result (λ c. app_of c ≡ command_line) }
 {
-    let about = "Initializes the main class, with all that it needs, and writes its output";
+    let about = "Initializes each main class on a thread of its own, with all that it needs";
     let run = subcommand(alloc, "run", about, true)?;
     let command = with_command(bare_command(alloc), run)?;
     let about = "Writes for each class what is initialized before its own initializer runs";
@@ -145,15 +150,17 @@ fn asked_of<'a>(
 {
     let mains = matches.get_str("mains");
     let trace = matches.get_str("trace");
+    let patience = matches.get_str("patience");
     let files = files_of(alloc, matches)?;
     if name == "run" {
         return Ok(Asked::Run(Run {
             mains,
             trace,
+            patience,
             files,
         }));
     }
-    if name == "needs" && mains.is_none() && trace.is_none() {
+    if name == "needs" && mains.is_none() && trace.is_none() && patience.is_none() {
         return Ok(Asked::Needs(files));
     }
     Ok(Asked::Unfit)
@@ -170,7 +177,7 @@ fn matches_of<'a>(alloc: Global, words: &'a [&'a str]) -> Result<ArgMatches<'a>,
 /// What the words ask for; the first word is the program's name.
 ///
 /// Subcommand, options and files are those that `clap` finds in the words: `run` and `needs` with any number of files, and
-/// with the options `--mains` and `--trace`, of which `needs` takes none.
+/// with the options `--mains`, `--trace` and `--patience`, of which `needs` takes none.
 ///
 /// # Errors
 ///

@@ -89,7 +89,7 @@ fn answer(rt: &HostRuntime) -> io::Result<u8> {
     let mut files = MachineFiles { rt };
     let mut out = rt.stdout();
     let mut err = rt.stderr();
-    Ok(serve(alloc, &words, &mut files, &mut out, &mut err))
+    Ok(serve(rt, alloc, &words, &mut files, &mut out, &mut err))
 }
 
 fn main(rt: HostRuntime) -> ExitCode {

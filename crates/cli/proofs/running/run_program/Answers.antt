@@ -1,15 +1,29 @@
-use Rattle.std.proofs.Common.{rules}
-use Rattle.cli.specs.Running.{unnamed, coded, no_memory}
+use Rattle.std.proofs.Common.{rules, ◌≡◌, ◌⊎◌, ℕ, false, inl, inr, subst, sym, option_map, List, Option, Some, None}
+use Rattle.std.proofs.lemmas.Result.{IfErr-weaker}
+use Rattle.hierarchy.specs.declared.class.ClassId.{ClassId}
+use Rattle.hierarchy.specs.LinkedProgram.{LinkedProgram}
+use Rattle.cli.specs.Bodiless.{holds_code}
+use Rattle.cli.specs.CommandLine.{text_of}
+use Rattle.cli.specs.Running.{IsRunRefusal, mains_in, unnamed, coded, no_memory, no_thread}
+use Rattle.cli.specs.declared.fault.Fault.{Fault}
+use Rattle.cli.specs.declared.fault.Fault.TheVariants.{Memory, Threads}
 use Rattle.cli.proofs.running.run_program.Goals as goal
 
-pub returns-in_default-clause-refused : goal.returns-in_default-clause-refused
-returns-in_default-clause-refused c = search (rules, unnamed)
+ended_by : {p : LinkedProgram} {text : Option (List ℕ)} {classes : List ClassId} → mains_in p text ≡ Some classes → holds_code p ≡ false → (f : Fault) → (f ≡ Memory) ⊎ (f ≡ Threads) → IsRunRefusal p text f
+ended_by named bodiless f (inl is) = subst (IsRunRefusal _ _) (sym is) no_memory
+ended_by named bodiless f (inr is) = subst (IsRunRefusal _ _) (sym is) (no_thread named bodiless)
 
-pub returns-in_default-main_of-clause-refused : goal.returns-in_default-main_of-clause-refused
-returns-in_default-main_of-clause-refused c = search (rules, unnamed)
+pub returns-in_default-clause-refused : goal.returns-in_default-clause-refused
+returns-in_default-clause-refused g c = search (rules, unnamed)
+
+pub returns-in_err-mains-clause-refused : goal.returns-in_err-mains-clause-refused
+returns-in_err-mains-clause-refused g c = search (rules, no_memory)
+
+pub returns-in_default-2-clause-refused : goal.returns-in_default-2-clause-refused
+returns-in_default-2-clause-refused g c = search (rules, unnamed)
 
 pub returns-then-has_body-clause-refused : goal.returns-then-has_body-clause-refused
-returns-then-has_body-clause-refused c = coded {main = c.in-Some-main_of.main} (search rules) (search rules)
+returns-then-has_body-clause-refused g c = coded {classes = c.in-Some-2.mains.items} (search rules) (search rules)
 
-pub returns-in-Err-clause-refused : goal.returns-in-Err-clause-refused
-returns-in-Err-clause-refused c = no_memory
+pub returns-clause-refused : goal.returns-clause-refused
+returns-clause-refused g c = IfErr-weaker c.run_mains.result _ _ (ended_by {classes = c.in-Some-2.mains.items} (search rules) (search rules)) c.run_mains.ensures.refused

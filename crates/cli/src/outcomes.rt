@@ -1,0 +1,96 @@
+//! How the threads of a run ended, told.
+
+ghost use Rattle.std.specs.Prelude.{◌≡◌, ◌++◌, IfOk, OnOk, OnErr};
+ghost use Rattle.std.specs.List.{list_any};
+ghost use Rattle.cli.specs.Outcomes.{error_of as error_by, is_abrupt, outcome_line, outcome_text, outcomes_text, status_after};
+
+use hierarchy::{BuiltIn, ClassId, Program};
+use jasmin_words::integer::push_decimal;
+use std::alloc::{AllocError, Global};
+use trace::{Limit, ThreadOutcome, write_class_name};
+
+/// The error by which the machine ends a thread.
+fn error_of(program: &Program, limit: Limit) -> ClassId
+    ensures { result ≡ error_by program.now limit }
+{
+    match limit {
+        Limit::Memory => program.built_in(BuiltIn::OutOfMemoryError),
+        Limit::Steps | Limit::Patience => program.built_in(BuiltIn::InternalError),
+    }
+}
+
+/// Adds the line of a thread that ended by this throwable.
+fn write_line(
+    out: &mut Vec<u8>,
+    program: &Program,
+    thread: usize,
+    throwable: ClassId,
+) -> Result<(), AllocError>
+    ensures { OnOk result (out.new.items ≡ out.old.items ++ outcome_line program.now thread throwable) }
+{
+    out.push(b't')?;
+    push_decimal(out, thread)?;
+    out.extend_from_slice(b": ")?;
+    write_class_name(out, program, throwable)?;
+    out.push(b'\n')?;
+    Ok(())
+}
+
+/// Adds the line of a thread that ended so, where it has one.
+fn write_outcome(
+    out: &mut Vec<u8>,
+    program: &Program,
+    thread: usize,
+    outcome: ThreadOutcome,
+) -> Result<(), AllocError>
+    ensures { OnOk result (out.new.items ≡ out.old.items ++ outcome_text program.now thread outcome) }
+{
+    match outcome {
+        ThreadOutcome::Normal => Ok(()),
+        ThreadOutcome::Abrupt(throwable) => write_line(out, program, thread, throwable),
+        ThreadOutcome::Ended(limit) => write_line(out, program, thread, error_of(program, limit)),
+    }
+}
+
+/// For each thread that didn't end normally, lowest first, a line: `t`, its number, a colon, and the class of the throwable
+/// that ended it.
+pub fn write_outcomes(
+    alloc: Global,
+    program: &Program,
+    outcomes: &[ThreadOutcome],
+) -> Result<Vec<u8>, AllocError>
+    ensures { IfOk result (λ text. text.items ≡ outcomes_text program.now outcomes.now) }
+{
+    let mut out = Vec::new(alloc);
+    let mut rest = outcomes;
+    let mut thread = 0;
+    while let [outcome, after @ ..] = rest {
+        write_outcome(&mut out, program, thread, *outcome)?;
+        thread += 1;
+        rest = after;
+    }
+    Ok(out)
+}
+
+fn has_ended_abruptly(outcome: &ThreadOutcome) -> bool
+    ensures { result ≡ is_abrupt outcome.now }
+{
+    !matches!(outcome, ThreadOutcome::Normal)
+}
+
+fn has_one_ended_abruptly(outcomes: &[ThreadOutcome]) -> bool
+    ensures { result ≡ list_any is_abrupt outcomes.now }
+{
+    outcomes.iter().any(has_ended_abruptly)
+}
+
+/// The exit status of a run whose threads ended so: 0 where all ended normally, else 1.
+pub fn status_of_outcomes(outcomes: &[ThreadOutcome]) -> u8
+    ensures { result ≡ status_after outcomes.now }
+{
+    if has_one_ended_abruptly(outcomes) {
+        1
+    } else {
+        0
+    }
+}
