@@ -33,6 +33,7 @@ use Rattle.init_core.proofs.Bodies.{freely}
 use Rattle.init_order.proofs.NeedsAbove.{needs_in_files}
 use Rattle.init_core.proofs.Labels.{label_after}
 use Rattle.init_core.specs.ClassState.{next_label}
+use Rattle.init_core.proofs.States.{waits_more}
 use Rattle.init_core.proofs.Leading.{is_answered, is_requested, has_run}
 
 -- ---- what is seen
@@ -69,13 +70,9 @@ waits_others_from b t [] [] o = refl
 waits_others_from b t [] (x ∷ xs) o = ap (λ (z : Bool). waits_from (if z then is_wait x.kind else b) t xs) (ne_eqb x.thread t o.0) ∙ waits_others_from b t [] xs o.1
 waits_others_from b t (x ∷ h) more o = waits_others_from (if x.thread == t then is_wait x.kind else b) t h more o
 
-waits_more_from : (b : Bool) (t : ℕ) (xs : List Event) (e : Event) → waits_from b t (xs ++ e ∷ []) ≡ (if e.thread == t then is_wait e.kind else waits_from b t xs)
-waits_more_from b t [] e = refl
-waits_more_from b t (x ∷ xs) e = waits_more_from (if x.thread == t then is_wait x.kind else b) t xs e
-
 -- whether the last event of t is a wait, with one more of its own
 waits_own : (t : ℕ) (xs : List Event) (c : ClassId) (k : Kind) → waits t (xs ++ event t c k ∷ []) ≡ is_wait k
-waits_own t xs c k = waits_more_from false t xs (event t c k) ∙ rw (eq-eqb t t refl) refl
+waits_own t xs c k = waits_more t xs (event t c k) ∙ rw (eq-eqb t t refl) refl
 
 same_number : (c d : ClassId) → (c.number == d.number) ≡ true → c ≡ d
 same_number c d e = ap (λ (n : ℕ). let r : ClassId = record { number = n } in r) (eqb-true c.number d.number e)
@@ -176,7 +173,7 @@ module _ (p : LinkedProgram) (t : ℕ) {Outer : ClassId → List Event → Type 
   look_last : {c : ClassId} {w : Bool} {fs : List Frame} {last : Option Completed} {xs : List Event} → Leads p t Outer Idle (standing (frame c (Looking w) ∷ fs) last) xs → last ≡ None
   look_last (looking waited b) = refl
 
-needs_begun : (b : ClassId) (rest : List ClassId) (fs : List Frame) → begun_classes (after_needs b rest fs).frames ≡ b ∷ begun_classes fs
+pub needs_begun : (b : ClassId) (rest : List ClassId) (fs : List Frame) → begun_classes (after_needs b rest fs).frames ≡ b ∷ begun_classes fs
 needs_begun b [] fs = refl
 needs_begun b (d ∷ rest) fs = refl
 
@@ -196,11 +193,11 @@ outer_begun (Running false) b cs o = absurd o
 outer_begun (Looking w) b cs o = absurd o
 outer_begun (EndingBy k e) b cs o = absurd o
 
-word_begun : (fs : List Frame) (c : ClassId) (r : Outcome) → AreOuter fs → begun_classes (after_word fs c r).frames ≡ begun_classes fs
+pub word_begun : (fs : List Frame) (c : ClassId) (r : Outcome) → AreOuter fs → begun_classes (after_word fs c r).frames ≡ begun_classes fs
 word_begun [] c r o = refl
 word_begun (f ∷ fs) c r o = in_begun f.phase f.class fs c r o.0 ∙ sym (outer_begun f.phase f.class (begun_classes fs) o.0)
 
-pub needs_error : (b : ClassId) (rest : List ClassId) (fs : List Frame) → ending_error (after_needs b rest fs) ≡ None
+needs_error : (b : ClassId) (rest : List ClassId) (fs : List Frame) → ending_error (after_needs b rest fs) ≡ None
 needs_error b [] fs = refl
 needs_error b (d ∷ rest) fs = refl
 
@@ -213,7 +210,7 @@ in_error (Running false) b fs c r o = absurd o
 in_error (Looking w) b fs c r o = absurd o
 in_error (EndingBy k e) b fs c r o = absurd o
 
-pub word_error : (fs : List Frame) (c : ClassId) (r : Outcome) → AreOuter fs → ending_error (after_word fs c r) ≡ ended_by r
+word_error : (fs : List Frame) (c : ClassId) (r : Outcome) → AreOuter fs → ending_error (after_word fs c r) ≡ ended_by r
 word_error [] c r o = refl
 word_error (f ∷ fs) c r o = in_error f.phase f.class fs c r o.0
 
@@ -230,7 +227,7 @@ in_calm d (Running false) b fs c r o = absurd o
 in_calm d (Looking w) b fs c r o = absurd o
 in_calm d (EndingBy k e) b fs c r o = absurd o
 
-pub word_calm : (d : ClassId) (fs : List Frame) (c : ClassId) (r : Outcome) → AreOuter fs → is_waiting d (after_word fs c r).frames ≡ false
+word_calm : (d : ClassId) (fs : List Frame) (c : ClassId) (r : Outcome) → AreOuter fs → is_waiting d (after_word fs c r).frames ≡ false
 word_calm d [] c r o = refl
 word_calm d (f ∷ fs) c r o = in_calm d f.phase f.class fs c r o.0
 
@@ -250,7 +247,7 @@ request_calm d (f ∷ fs) body = at f.class f.phase body where
   at b (Needing rest) body = absurd body
   at b (EndingBy k m) body = absurd body
 
-pub request_error : (frames : List Frame) (last : Option Completed) → MayRequest frames → GoesOn last → ending_error (standing frames last) ≡ None
+request_error : (frames : List Frame) (last : Option Completed) → MayRequest frames → GoesOn last → ending_error (standing frames last) ≡ None
 request_error [] last body on = on
 request_error (f ∷ fs) last body on = at f.class f.phase body where
   at : (b : ClassId) (phase : Phase) → MayRequest (frame b phase ∷ fs) → ending_error_in phase last ≡ None
@@ -272,7 +269,7 @@ body_error p (Some x) (Abrupt y) fits e = absurd (let z : Abrupt y ≡ Ended x =
 body_error p (Some x) (Ended y) fits e = absurd (let z : Some y ≡ None = e in cc)
 
 module _ (p : LinkedProgram) where
-  needs_files : (b : ClassId) (rest : List ClassId) (fs : List Frame) → IsOfFiles p b → AllByRecursion (IsOfFiles p) rest → AllByRecursion (λ f. NamesFiles p f) fs → AllByRecursion (λ f. NamesFiles p f) (after_needs b rest fs).frames
+  pub needs_files : (b : ClassId) (rest : List ClassId) (fs : List Frame) → IsOfFiles p b → AllByRecursion (IsOfFiles p) rest → AllByRecursion (λ f. NamesFiles p f) fs → AllByRecursion (λ f. NamesFiles p f) (after_needs b rest fs).frames
   needs_files b [] fs x a f = ((x, tt), f)
   needs_files b (d ∷ rest) fs x a f = ((a.0, tt), ((x, a.1), f))
 
@@ -285,7 +282,7 @@ module _ (p : LinkedProgram) where
   in_files (Looking w) b fs c r o x f = absurd o
   in_files (EndingBy k e) b fs c r o x f = absurd o
 
-  word_files : (fs : List Frame) (c : ClassId) (r : Outcome) → AreOuter fs → AllByRecursion (λ f. NamesFiles p f) fs → AllByRecursion (λ f. NamesFiles p f) (after_word fs c r).frames
+  pub word_files : (fs : List Frame) (c : ClassId) (r : Outcome) → AreOuter fs → AllByRecursion (λ f. NamesFiles p f) fs → AllByRecursion (λ f. NamesFiles p f) (after_word fs c r).frames
   word_files [] c r o f = tt
   word_files (g ∷ fs) c r o f = in_files g.phase g.class fs c r o.0 f.0 f.1
 
