@@ -87,6 +87,7 @@ def main(words):
         counted(tally, "cases", ["tests/archives/run", "--cases", CASES])
     if os.path.isfile(PROGRAM):
         counted(tally, "archives", ["tests/archives/run", PROGRAM])
+        counted(tally, "threads", ["tests/threads/run"])
         if shutil.which("cc"):
             counted(tally, "memory", ["tests/refuse_memory/run"])
     return tally.show()

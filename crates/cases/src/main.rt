@@ -23,19 +23,22 @@ mod words;
 
 use crate::archive::{Archive, push_parts};
 use crate::report::Report;
-use std::alloc::{AllocError, Global};
+use std::alloc::{Alloc, AllocError, Global};
 use std::io::Write;
 use std::process::ExitCode;
+use std::rt::Files;
+use std::sync::Wait;
+use std::thread::Threads;
 use std::{env, fs, io};
 
 /// Judges the cases of a file.
-fn judge(
-    rt: &HostRuntime,
+fn judge<R: Threads + Wait + Sync>(
+    rt: &R,
+    alloc: Global,
     file: &str,
     archive: &Archive,
     report: &mut Report,
 ) -> Result<(), AllocError> {
-    let alloc = rt.alloc();
     if file.ends_with(".txtar") {
         programs::judge(rt, alloc, archive, report)
     } else if file.contains("classes/") {
@@ -48,50 +51,69 @@ fn judge(
 }
 
 /// Judges the cases of a file with these bytes.
-fn judge_bytes(
-    rt: &HostRuntime,
+fn judge_bytes<R: Threads + Wait + Sync>(
+    rt: &R,
+    alloc: Global,
     file: &str,
     bytes: &[u8],
     report: &mut Report,
 ) -> Result<(), AllocError> {
-    let alloc = rt.alloc();
     let mut parts = Vec::new(alloc);
     match push_parts(alloc, &mut parts, bytes) {
-        Ok(None) => judge(rt, file, &Archive { parts }, report),
+        Ok(None) => judge(rt, alloc, file, &Archive { parts }, report),
         Ok(Some(line)) => report.refuses_line(line),
         Err(_) => report.refuses("out of memory"),
     }
 }
 
 /// Judges the cases of a file of this name.
-fn judge_file(rt: &HostRuntime, file: &str, report: &mut Report) -> Result<(), AllocError> {
+fn judge_file<R: Files + Alloc + Threads + Wait + Sync>(
+    rt: &R,
+    alloc: Global,
+    file: &str,
+    report: &mut Report,
+) -> Result<(), AllocError> {
     report.begins(file)?;
     match fs::read(rt, file) {
-        Ok(bytes) => judge_bytes(rt, file, bytes.as_slice(), report)?,
+        Ok(bytes) => judge_bytes(rt, alloc, file, bytes.as_slice(), report)?,
         Err(_) => report.refuses("can't be read")?,
     }
     report.ends()
 }
 
 /// Judges the files of these names, after the program's own, and answers whether all cases passed.
-fn judge_all(rt: &HostRuntime, args: &[String], report: &mut Report) -> Result<bool, AllocError> {
+fn judge_all<R: Files + Alloc + Threads + Wait + Sync>(
+    rt: &R,
+    alloc: Global,
+    args: &[String],
+    report: &mut Report,
+) -> Result<bool, AllocError> {
     for file in args.iter().skip(1) {
-        judge_file(rt, file.as_str(), report)?;
+        judge_file(rt, alloc, file.as_str(), report)?;
     }
     report.closes()
 }
 
-/// Judges the files that the command line names, and answers whether all cases passed.
-fn judge_files(rt: &HostRuntime, report: &mut Report) -> io::Result<bool> {
-    let args: Vec<String> = env::args(rt)?.collect(rt.alloc())?;
-    let is_good = judge_all(rt, args.as_slice(), report)?;
-    rt.stdout().write_all(report.text())?;
-    Ok(is_good)
+/// The words of the command line.
+fn args_of(rt: &HostRuntime) -> io::Result<Vec<String>> {
+    let args = env::args(rt)?.collect(rt.alloc())?;
+    Ok(args)
+}
+
+/// Writes the report.
+fn write_report(rt: &HostRuntime, report: &Report) -> io::Result<()> {
+    rt.stdout().write_all(report.text())
 }
 
 fn main(rt: HostRuntime) -> ExitCode {
-    match judge_files(&rt, &mut Report::new(rt.alloc())) {
-        Ok(true) => ExitCode::from(0),
+    let mut report = Report::new(rt.alloc());
+    let Ok(args) = args_of(&rt) else {
+        return ExitCode::from(1);
+    };
+    let judged = judge_all(&rt, rt.alloc(), &args, &mut report);
+    let written = write_report(&rt, &report);
+    match (judged, written) {
+        (Ok(true), Ok(())) => ExitCode::from(0),
         _ => ExitCode::from(1),
     }
 }

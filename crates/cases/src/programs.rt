@@ -21,6 +21,8 @@ use crate::programs::texts::Texts;
 use crate::report::Report;
 use cli::serve;
 use std::alloc::{AllocError, Global};
+use std::sync::Wait;
+use std::thread::Threads;
 
 /// The text of a part's head.
 fn head_of(part: &Part) -> &str {
@@ -112,8 +114,8 @@ fn words_of<'a>(alloc: Global, command: &'a str) -> Result<Vec<&'a str>, AllocEr
 }
 
 /// Runs a command line over the files, and answers what came of it.
-fn run(
-    rt: &HostRuntime,
+fn run<R: Threads + Wait + Sync>(
+    rt: &R,
     alloc: Global,
     command: &str,
     files: &mut Texts,
@@ -148,8 +150,8 @@ fn judge_run(
 }
 
 /// Judges a case: its command and the parts after it.
-fn judge_case(
-    rt: &HostRuntime,
+fn judge_case<R: Threads + Wait + Sync>(
+    rt: &R,
     alloc: Global,
     command: &Part,
     parts: &[Part],
@@ -169,8 +171,8 @@ fn judge_case(
 }
 
 /// Judges the cases of a file.
-pub(crate) fn judge(
-    rt: &HostRuntime,
+pub(crate) fn judge<R: Threads + Wait + Sync>(
+    rt: &R,
     alloc: Global,
     archive: &Archive,
     report: &mut Report,

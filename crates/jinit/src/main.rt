@@ -9,6 +9,8 @@ use std::fs::File;
 use std::io::{Read, Write};
 use std::process::ExitCode;
 use std::rt::Files;
+use std::sync::Wait;
+use std::thread::Threads;
 use std::{env, fs, io};
 
 /// The machine's files.
@@ -80,22 +82,35 @@ fn texts_of(alloc: Global, args: &[String]) -> Result<Vec<&str>, AllocError> {
     Ok(words)
 }
 
-/// Does what the words of the command line ask for, and answers the exit status. An `Err` says that there are
-/// no words.
-fn answer(rt: &HostRuntime) -> io::Result<u8> {
-    let alloc = rt.alloc();
-    let args: Vec<String> = env::args(rt)?.collect(alloc)?;
-    let words = texts_of(alloc, &args)?;
+/// The words of the command line.
+fn args_of(rt: &HostRuntime) -> io::Result<Vec<String>> {
+    let args = env::args(rt)?.collect(rt.alloc())?;
+    Ok(args)
+}
+
+/// Does what the words of the command line ask for, and answers the exit status. An `Err` is want of memory.
+fn answer<R: Files + Threads + Wait + Sync, O: Write, E: Write>(
+    rt: &R,
+    alloc: Global,
+    args: &[String],
+    out: &mut O,
+    err: &mut E,
+) -> io::Result<u8> {
+    let words = texts_of(alloc, args)?;
     let mut files = MachineFiles { rt };
-    let mut out = rt.stdout();
-    let mut err = rt.stderr();
-    Ok(serve(rt, alloc, &words, &mut files, &mut out, &mut err))
+    Ok(serve(rt, alloc, &words, &mut files, out, err))
 }
 
 fn main(rt: HostRuntime) -> ExitCode {
-    let status = match answer(&rt) {
+    let mut out = rt.stdout();
+    let mut err = rt.stderr();
+    let answered = match args_of(&rt) {
+        Ok(args) => answer(&rt, rt.alloc(), &args, &mut out, &mut err),
+        Err(error) => Err(error),
+    };
+    let status = match answered {
         Ok(status) => status,
-        Err(error) => tell_no_words(&error, &mut rt.stderr()),
+        Err(error) => tell_no_words(&error, &mut err),
     };
     ExitCode::from(status)
 }
