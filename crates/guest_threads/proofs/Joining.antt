@@ -26,22 +26,10 @@ use Rattle.guest_threads.specs.declared.guarded.Guarded.{Guarded}
 use Rattle.guest_threads.specs.declared.work.Worked.{Worked}
 use Rattle.guest_threads.specs.Drawing.{MayDraw, Follows, merged}
 use Rattle.guest_threads.specs.ThreadRuns.{IsThreadRun, AreOutcomes}
-use Rattle.guest_threads.specs.Working.{ArePrepared, IsTableOf, Works, MayWork, IsDone, Did, drawn}
+use Rattle.guest_threads.specs.Working.{ArePrepared, IsTableOf, Works, MayWork, IsDone, Did, Pairs, drawn}
 use Rattle.guest_threads.proofs.Merged.{Log, Fair, journal_is, no_others, own_thread}
 use Rattle.guest_threads.proofs.Headline.{AreLawful, HaveWords}
 use Rattle.guest_threads.proofs.Finding.{element_some}
-
--- something of each pair
-abbrev pub Pairs : {A B : Type 0} → (A → B → Type 0) → List A → List B → Type 0
-Pairs P [] [] = Unit {0}
-Pairs P (x ∷ xs) (y ∷ ys) = P x y × Pairs P xs ys
-Pairs P xs ys = ⊥
-
-pub pairs : {J R : Type 0} (Q : J → R → Type 0) (js : List J) (rs : List R) → length rs ≡ length js → ((i : ℕ) (d : J) (e : R) → i < length js → Q (slice_index_or js i d) (slice_index_or rs i e)) → Pairs Q js rs
-pairs Q [] [] e each = tt
-pairs Q [] (r ∷ rs) e each = absurd (omega arith)
-pairs Q (j ∷ js) [] e each = absurd (omega arith)
-pairs Q (j ∷ js) (r ∷ rs) e each = (each 0 j r (omega arith), pairs Q js rs (omega arith) (λ i d x l. each (suc i) d x (omega arith)))
 
 module _ {J R : Type 0} where
   seconds : (Q : J → R → Type 0) (S : R → Type 0) → ((j : J) (r : R) → Q j r → S r) → (js : List J) (rs : List R) → Pairs Q js rs → AllByRecursion S rs

@@ -9,3 +9,4 @@ pub mod Asking
 pub mod Passing
 pub mod Telling
 pub mod Joining
+pub mod Started

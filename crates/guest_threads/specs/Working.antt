@@ -157,3 +157,9 @@ pub record Did (p : LinkedProgram) (table : TableFacts) (limits : Limits) (mains
   pub number : w.pass.number ≡ x.number
   pub works : Works p table w.pass.number w.pass
   pub done : (m : ClassId) → slice_get mains w.pass.number ≡ Some m → IsDone p table limits m w
+
+-- something of each pair
+abbrev pub Pairs : {A B : Type 0} → (A → B → Type 0) → List A → List B → Type 0
+Pairs P [] [] = Unit {0}
+Pairs P (x ∷ xs) (y ∷ ys) = P x y × Pairs P xs ys
+Pairs P xs ys = ⊥

@@ -18,6 +18,7 @@
 pub mod gate;
 pub mod guarded;
 pub mod run;
+mod start;
 mod steps;
 mod take;
 pub mod work;

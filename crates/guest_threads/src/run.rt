@@ -5,18 +5,21 @@ ghost use Rattle.std.specs.List.{AllByRecursion};
 ghost use Rattle.init_core.specs.Label.{label_of};
 ghost use Rattle.init_core.specs.Lawful.{IsLawful};
 ghost use Rattle.guest_threads.specs.ThreadRuns.{AreMains, IsRunOf};
-ghost use Rattle.guest_threads.specs.Working.{ArePrepared, MayWork, Did};
+ghost use Rattle.guest_threads.specs.Working.{ArePrepared, MayWork, Did, Pairs};
 
 use crate::gate::Gate;
 use crate::guarded::Guarded;
-use crate::work::{Worked, work};
+use crate::start::Start;
+use crate::work::{Worked, work_from};
 use hierarchy::{ClassId, Program};
 use init_core::{ClassRecord, Label};
 use init_lock::{InitTable, Pass, merge};
 use sequence::{Sequence, Text};
 use std::alloc::{AllocError, Global};
+use std::snapshot::Snapshot;
 use std::sync::Wait;
-use std::thread::{Threads, map_vec};
+use std::thread;
+use std::thread::{Promise, Threads};
 use trace::{Limits, Report, ThreadOutcome};
 
 /// Why there is no run.
@@ -50,7 +53,23 @@ fn prepared(alloc: Global, program: &Program) -> Result<Vec<Guarded>, AllocError
     Ok(made)
 }
 
-/// Each pass does its work on a thread of its own.
+/// What the thread of a pass promises: what [`work_from`] says, for the main class of its number.
+#[derive(Drop)]
+pub struct WorkOf<'a> {
+    program: &'a Program,
+    table: &'a InitTable<Guarded>,
+    mains: &'a [ClassId],
+    limits: Limits,
+    pass: Snapshot<Pass<Guarded>>,
+}
+
+impl<'a> Promise<Worked> for WorkOf<'a> {
+    ghost use Rattle.guest_threads.specs.Working.{Did};
+
+    ghost kept_by = { λ w r. Did w.program.now w.table.now w.limits w.mains.now w.pass.value r };
+}
+
+/// Each pass does its work on a thread of its own. No thread begins before all are started.
 fn run_each<R: Threads + Wait + Sync, G: Gate + Sync>(
     rt: &R,
     alloc: Global,
@@ -60,22 +79,57 @@ fn run_each<R: Threads + Wait + Sync, G: Gate + Sync>(
     limits: Limits,
     gate: &G,
     passes: Vec<Pass<Guarded>>,
-) -> Result<Vec<Worked>, AllocError>
+) -> Result<Vec<Worked>, RunFault>
     requires mains { AreMains program.now mains.now }
     requires threads { table.now.threads ≡ length mains.now }
     requires passes { AllByRecursion (MayWork program.now table.now) passes.items }
-    ensures len { IfOk result (λ done. vec_len done ≡ vec_len passes) }
-    ensures each { IfOk result (λ done. (i : ℕ) (d : _) (e : _) → i < vec_len passes → Did program.now table.now limits mains.now (slice_index_or passes.items i d) (slice_index_or done.items i e)) }
+    ensures done { IfOk result (λ done. Pairs (Did program.now table.now limits mains.now) passes.items done.items) }
 {
-    map_vec(
+    let start = Start::new();
+    let shared = &start;
+    thread::scope(
+        thread::scope_env(),
         rt,
-        passes,
-        &|pass| -> Worked
-            requires { AreMains program.now mains.now × (table.now.threads ≡ length mains.now) × MayWork program.now table.now pass }
-            ensures { Did program.entry.now table.entry.now limits mains.entry.now pass result }
+        |scope| -> Result<Vec<Worked>, RunFault>
+            requires { AreMains program.now mains.now × (table.now.threads ≡ length mains.now) × AllByRecursion (MayWork program.now table.now) passes.items }
+            ensures { IfOk result (λ done. Pairs (Did program.entry.now table.entry.now limits mains.entry.now) passes.items done.items) }
         {
-            let main = mains[pass.number()];
-            work(rt, alloc, program, table, limits, gate, main, pass)
+            let count = passes.len();
+            let mut children = Vec::with_capacity(alloc, count)?;
+            let mut done = Vec::with_capacity(alloc, count)?;
+            'starting: for pass in passes {
+                let promise = WorkOf {
+                    program,
+                    table,
+                    mains,
+                    limits,
+                    pass: Snapshot::of(&pass),
+                };
+                let started = scope.spawn_with(
+                    promise,
+                    move || -> Worked
+                        requires { AreMains program.now mains.now × (table.now.threads ≡ length mains.now) × MayWork program.now table.now pass }
+                        ensures { Did program.entry.now table.entry.now limits mains.entry.now pass result }
+                    {
+                        let main = mains[pass.number()];
+                        work_from(rt, alloc, program, table, limits, gate, shared, main, pass)
+                    },
+                );
+                let Ok(child) = started else {
+                    shared.call_off();
+                    return Err(RunFault::NoThread);
+                };
+                let Ok(()) = children.push(child) else {
+                    unreachable!();
+                };
+            }
+            shared.begin();
+            'joining: for child in children {
+                let Ok(()) = done.push(child.join(rt)) else {
+                    unreachable!();
+                };
+            }
+            Ok(done)
         },
     )
 }

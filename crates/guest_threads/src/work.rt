@@ -11,6 +11,7 @@ ghost use Rattle.guest_threads.specs.Working.{Works, Working, HasReason, IsDone,
 
 use crate::gate::Gate;
 use crate::guarded::Guarded;
+use crate::start::Start;
 use crate::steps::{end_body, end_class, give_up, give_up_body, look, refill, run_body};
 use hierarchy::{BuiltIn, ClassId, Program};
 use init_core::{Next, Outcome, Procedure};
@@ -91,7 +92,7 @@ fn begin(
 }
 
 /// Does what the thread of a main class does: the procedure for that class, with empty bodies.
-pub(crate) fn work<W: Wait, G: Gate>(
+fn work<W: Wait, G: Gate>(
     rt: &W,
     alloc: Global,
     program: &Program,
@@ -226,4 +227,33 @@ pub(crate) fn work<W: Wait, G: Gate>(
     }
     let outcome = ended(program, table, limits, &pass, &procedure, main);
     Worked { pass, outcome }
+}
+
+/// What a thread does once all threads are started. Where one can't be it ends at once, as one that is refused memory.
+pub(crate) fn work_from<W: Wait, G: Gate>(
+    rt: &W,
+    alloc: Global,
+    program: &Program,
+    table: &InitTable<Guarded>,
+    limits: Limits,
+    gate: &G,
+    start: &Start,
+    main: ClassId,
+    pass: Pass<Guarded>,
+) -> Worked
+    requires main { IsOfFiles program.now main }
+    requires works { Works program.now table.now pass.number pass }
+    requires journal { pass.journal ≡ [] }
+    requires seen { (n : ℕ) → seen_at n pass.places ≡ [] }
+    ensures number { result.pass.number ≡ pass.number }
+    ensures works { Works program.now table.now result.pass.number result.pass }
+    ensures done { IsDone program.now table.now limits main result }
+{
+    if !start.wait(rt) {
+        return Worked {
+            pass,
+            outcome: ThreadOutcome::Ended(Limit::Memory),
+        };
+    }
+    work(rt, alloc, program, table, limits, gate, main, pass)
 }

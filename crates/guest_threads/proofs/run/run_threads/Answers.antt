@@ -16,10 +16,9 @@ use Rattle.guest_threads.specs.declared.guarded.Guarded.{Guarded}
 use Rattle.guest_threads.specs.declared.work.Worked.{Worked}
 use Rattle.guest_threads.specs.Drawing.{MayDraw, Follows, merged}
 use Rattle.guest_threads.specs.ThreadRuns.{IsRunOf}
-use Rattle.guest_threads.specs.Working.{IsTableOf, Did}
+use Rattle.guest_threads.specs.Working.{IsTableOf, Did, Pairs}
 use Rattle.guest_threads.proofs.Headline.{headline}
-use Rattle.guest_threads.proofs.Joining.{Pairs, pairs, none_kept, new_passes, pass_numbers, pass_tables, pass_away, words, outcomes_are, outcome_count, bodies_are, events_are, lawful_are, journals_are}
-use Rattle.guest_threads.proofs.run.run_threads.Given.{Over}
+use Rattle.guest_threads.proofs.Joining.{none_kept, new_passes, pass_numbers, pass_tables, pass_away, words, outcomes_are, outcome_count, bodies_are, events_are, lawful_are, journals_are}
 use Rattle.guest_threads.proofs.run.run_threads.Goals as goal
 
 pub new-requires-clause-records : goal.new-requires-clause-records
@@ -37,23 +36,17 @@ run_each-requires-clause-passes g c κs within =
     (table_of c.args.program.now c.in_ok-table.table (length c.args.mains.now) (c.in_ok-table.ensures.places ∙ c.in_ok-records.ensures.count) c.prepared.ensures.few threads c.requires.few)
     c.in_ok-records.ensures.prepared many (omega arith) c.in_ok-table.ensures.numbers c.in_ok-table.ensures.passes
 
-joined : (g : Over) (c : goal.In_ok-passes g) → Pairs (Did c.args.program.now c.in_ok-table.table c.args.limits c.args.mains.now) c.in_ok-table.passes.items c.in_ok-done.done.items
-joined g c =
-    let a = c.in_ok-done.done.ok in let b = c.in_ok-table.passes.ok in
-    pairs (Did c.args.program.now c.in_ok-table.table c.args.limits c.args.mains.now) c.in_ok-table.passes.items c.in_ok-done.done.items (sym a.0 ∙ (c.in_ok-done.ensures.len ∙ b.0))
-    (λ i d e l. c.in_ok-done.ensures.each i d e (subst (λ (n : ℕ). i < n) (sym b.0) l))
-
 pub finish-closed-requires-clause-passes : goal.finish-closed-requires-clause-passes
 finish-closed-requires-clause-passes g c =
     subst (λ (ns : List ℕ). IsPermutation (numbers 0 c.in_ok-table.table.threads) ns)
-    (ap (numbers 0) c.in_ok-table.ensures.threads ∙ (sym (pass_numbers c.args.program.now c.in_ok-table.table c.args.limits c.args.mains.now c.in_ok-table.passes.items c.in_ok-done.done.items (joined g c) c.in_ok-table.ensures.numbers) ∙ ap (map (λ (x : PassFacts Guarded Event). x.number)) (sym c.in_ok-passes.ensures.passes)))
+    (ap (numbers 0) c.in_ok-table.ensures.threads ∙ (sym (pass_numbers c.args.program.now c.in_ok-table.table c.args.limits c.args.mains.now c.in_ok-table.passes.items c.in_ok-done.done.items c.in_ok-done.ensures.done c.in_ok-table.ensures.numbers) ∙ ap (map (λ (x : PassFacts Guarded Event). x.number)) (sym c.in_ok-passes.ensures.passes)))
     (IsPermutation-refl (numbers 0 c.in_ok-table.table.threads))
 
 pub finish-closed-requires-clause-table : goal.finish-closed-requires-clause-table
-finish-closed-requires-clause-table g c = subst (λ (xs : List (PassFacts Guarded Event)). AllByRecursion (λ p. p.table ≡ c.in_ok-table.table.id) xs) (sym c.in_ok-passes.ensures.passes) (pass_tables c.args.program.now c.in_ok-table.table c.args.limits c.args.mains.now c.in_ok-table.passes.items c.in_ok-done.done.items (joined g c) c.in_ok-table.ensures.numbers)
+finish-closed-requires-clause-table g c = subst (λ (xs : List (PassFacts Guarded Event)). AllByRecursion (λ p. p.table ≡ c.in_ok-table.table.id) xs) (sym c.in_ok-passes.ensures.passes) (pass_tables c.args.program.now c.in_ok-table.table c.args.limits c.args.mains.now c.in_ok-table.passes.items c.in_ok-done.done.items c.in_ok-done.ensures.done c.in_ok-table.ensures.numbers)
 
 pub finish-closed-requires-clause-away : goal.finish-closed-requires-clause-away
-finish-closed-requires-clause-away g c = subst (λ (xs : List (PassFacts Guarded Event)). AllByRecursion (λ p. IsAway p.places) xs) (sym c.in_ok-passes.ensures.passes) (pass_away c.args.program.now c.in_ok-table.table c.args.limits c.args.mains.now c.in_ok-table.passes.items c.in_ok-done.done.items (joined g c) c.in_ok-table.ensures.numbers)
+finish-closed-requires-clause-away g c = subst (λ (xs : List (PassFacts Guarded Event)). AllByRecursion (λ p. IsAway p.places) xs) (sym c.in_ok-passes.ensures.passes) (pass_away c.args.program.now c.in_ok-table.table c.args.limits c.args.mains.now c.in_ok-table.passes.items c.in_ok-done.done.items c.in_ok-done.ensures.done c.in_ok-table.ensures.numbers)
 
 pub returns : goal.returns
 returns g c =
@@ -64,8 +57,7 @@ returns g c =
     let js = c.in_ok-table.passes.items in
     let ds = c.in_ok-done.done.items in
     let rs = c.finish-closed.result.records.items in
-    let a = c.in_ok-done.done.ok in let b = c.in_ok-table.passes.ok in
-    let each : Pairs (Did p table limits mains) js ds = pairs (Did p table limits mains) js ds (sym a.0 ∙ (c.in_ok-done.ensures.len ∙ b.0)) (λ i d e l. c.in_ok-done.ensures.each i d e (subst (λ (n : ℕ). i < n) (sym b.0) l)) in
+    let each : Pairs (Did p table limits mains) js ds = c.in_ok-done.ensures.done in
     let nums = c.in_ok-table.ensures.numbers in
     let f = c.finish-closed.ensures in
     let log = f.log.0 in
