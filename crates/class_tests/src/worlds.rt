@@ -1,6 +1,6 @@
 //! All threads of small programs, turn by turn, and World beside the twin.
 
-ghost use Rattle.std.specs.Prelude.{◌≡◌, IfOk};
+ghost use Rattle.std.specs.Prelude.{◌≡◌, IfOk, length};
 
 use crate::comparing::Case;
 use crate::programs::{Question, is_so};
@@ -227,7 +227,23 @@ fn two_threads_one_class(rt: HostRuntime) -> Result<(), AllocError> {
     Ok(())
 }
 
-/// What two threads did, and what the next turn of thread 0 answers.
+/// Whether the next turn of thread 0 answers that the machine ended it by this error.
+fn answers_ended(
+    alloc: Global,
+    program: &Program,
+    run: &mut Run,
+    error: ClassId,
+) -> Result<bool, AllocError>
+    requires program { program.now ≡ run.old.world.program }
+    requires threads { length run.old.world.threads ≡ 2 }
+{
+    if !run.world.has_begun(0) {
+        return Ok(false);
+    }
+    Ok(run.world.turn(alloc, program, 0)? == Turn::Ended(error))
+}
+
+/// Whether two threads did this, and the machine ended thread 0 by this error.
 fn ended_as(
     alloc: Global,
     program: &Program,
@@ -236,11 +252,8 @@ fn ended_as(
     error: ClassId,
 ) -> Result<bool, AllocError> {
     let mut run = replayed(alloc, program, &[1, 0], &choices(alloc, turns)?)?;
-    if !run.world.has_begun(0) {
-        return Ok(false);
-    }
-    let turn = run.world.turn(alloc, program, 0)?;
-    Ok(turn == Turn::Ended(error) && are(alloc, &run.world.into_events(), expected)?)
+    let ended = answers_ended(alloc, program, &mut run, error)?;
+    Ok(ended && are(alloc, &run.world.into_events(), expected)?)
 }
 
 const IN_A_SUPERCLASS: [(usize, Action); 5] = [
