@@ -1,5 +1,5 @@
 -- What all threads promised when they were started.
-use Rattle.std.proofs.Common.{◌≡◌, List, [], ◌∷◌, map, subst}
+use Rattle.std.proofs.Common.{◌≡◌, List, [], ◌∷◌, length, map, refl, subst}
 use Rattle.std.specs.List.{AllByRecursion}
 use Rattle.hierarchy.specs.declared.class.ClassId.{ClassId}
 use Rattle.hierarchy.specs.LinkedProgram.{LinkedProgram}
@@ -20,3 +20,7 @@ all_did (h ∷ hs) (w ∷ ws) program table limits mains pass p t l ms same kept
   subst (λ (x : List ClassId). Did p t l x (pass h) w) same.0.3 (subst (λ (x : Limits). Did p t x (mains h) (pass h) w) same.0.2 (subst (λ (x : TableFacts). Did p x (limits h) (mains h) (pass h) w) same.0.1 (subst (λ (x : LinkedProgram). Did x (table h) (limits h) (mains h) (pass h) w) same.0.0 kept.0))),
   all_did hs ws program table limits mains pass p t l ms same.1 kept.1,
 )
+
+pub none_in : {A : Type 0} (xs : List A) → length xs ≡ 0 → xs ≡ []
+none_in [] e = refl
+none_in (x ∷ xs) e = cc

@@ -1,6 +1,6 @@
 //! All threads, each on a host thread of its own.
 
-ghost use Rattle.std.specs.Prelude.{◌≡◌, ℕ, ◌<◌, ◌≤◌, IfOk, vec_len, length, map, slice_index_or};
+ghost use Rattle.std.specs.Prelude.{◌≡◌, ℕ, ◌<◌, ◌≤◌, IfOk, vec_len, vec_capacity, length, map};
 ghost use Rattle.std.specs.List.{AllByRecursion};
 ghost use Rattle.init_core.specs.Label.{label_of};
 ghost use Rattle.init_core.specs.Lawful.{IsLawful};
@@ -19,7 +19,7 @@ use std::alloc::{AllocError, Global};
 use std::snapshot::Snapshot;
 use std::sync::Wait;
 use std::thread;
-use std::thread::{Promise, Threads};
+use std::thread::{Promise, PromisedHandle, Threads};
 use trace::{Limits, Report, ThreadOutcome};
 
 /// Why there is no run.
@@ -69,6 +69,25 @@ impl<'a> Promise<Worked> for WorkOf<'a> {
     ghost kept_by = { λ w r. Did w.program.now w.table.now w.limits w.mains.now w.pass.value r };
 }
 
+/// What all threads give back, in the order in which they were started. There is room for it.
+fn join_all<'a, R: Threads>(
+    rt: &R,
+    children: Vec<PromisedHandle<Worked, WorkOf<'a>>>,
+    done: Vec<Worked>,
+) -> Vec<Worked>
+    requires none { vec_len done ≡ 0 }
+    requires room { vec_len children ≤ vec_capacity done }
+    ensures { Pairs (λ h w. Did h.promise.program.now h.promise.table.now h.promise.limits h.promise.mains.now h.promise.pass.value w) children.entry.items result.items }
+{
+    let mut done = done;
+    'joining: for child in children {
+        let Ok(()) = done.push(child.join(rt)) else {
+            unreachable!();
+        };
+    }
+    done
+}
+
 /// Each pass does its work on a thread of its own. No thread begins before all are started.
 fn run_each<R: Threads + Wait + Sync, G: Gate + Sync>(
     rt: &R,
@@ -96,7 +115,7 @@ fn run_each<R: Threads + Wait + Sync, G: Gate + Sync>(
         {
             let count = passes.len();
             let mut children = Vec::with_capacity(alloc, count)?;
-            let mut done = Vec::with_capacity(alloc, count)?;
+            let done = Vec::with_capacity(alloc, count)?;
             'starting: for pass in passes {
                 let promise = WorkOf {
                     program,
@@ -124,12 +143,7 @@ fn run_each<R: Threads + Wait + Sync, G: Gate + Sync>(
                 };
             }
             shared.begin();
-            'joining: for child in children {
-                let Ok(()) = done.push(child.join(rt)) else {
-                    unreachable!();
-                };
-            }
-            Ok(done)
+            Ok(join_all(rt, children, done))
         },
     )
 }

@@ -1,9 +1,10 @@
 //! All that one thread does.
 
-ghost use Rattle.std.specs.Prelude.{◌≡◌, ℕ, [], IfOk};
+ghost use Rattle.std.specs.Prelude.{◌≡◌, ℕ, ◌+◌, ◌≤◌, [], length, IfOk};
 ghost use Rattle.init_core.specs.declared.procedure.Next.TheVariants as nexts;
 ghost use Rattle.init_core.specs.Advance.{next_of};
 ghost use Rattle.init_core.specs.ProcedureWord.{IsOfFiles};
+ghost use Rattle.init_core.specs.Stands.{begun_classes};
 ghost use Rattle.init_lock.specs.Known.{seen_at};
 ghost use Rattle.trace.specs.EmptyBodies.{HaveEmptyBodies};
 ghost use Rattle.guest_threads.specs.ThreadRuns.{IsThreadRun, IsOutcome};
@@ -91,6 +92,105 @@ fn begin(
     Ok(procedure)
 }
 
+/// What a thread counts while it works.
+#[derive(Clone, Copy)]
+struct Counts {
+    /// Room for events beside that of the step that ends each class that it has begun.
+    slack: usize,
+    /// The looks in vain at the class that it waits for.
+    looks: u32,
+}
+
+/// Looks at the class that is asked for. Where it is in progress by another thread, the thread lets others run, or is at
+/// the end of its patience.
+fn look_on<W: Wait, G: Gate>(
+    rt: &W,
+    alloc: Global,
+    program: &Program,
+    table: &InitTable<Guarded>,
+    limits: Limits,
+    gate: &G,
+    pass: &mut Pass<Guarded>,
+    procedure: &mut Procedure,
+    main: ClassId,
+    class: ClassId,
+    counts: Counts,
+) -> Counts
+    requires working { Working program.now table.now limits pass.old.number main procedure.old pass.old }
+    requires next { next_of procedure.old.frames ≡ nexts.Look class }
+    requires room { length (begun_classes procedure.old.frames) + counts.slack ≤ pass.old.room }
+    ensures working { Working program.now table.now limits pass.new.number main procedure.new pass.new }
+    ensures number { pass.new.number ≡ pass.old.number }
+    ensures room { length (begun_classes procedure.new.frames) + result.slack ≤ pass.new.room }
+{
+    let mut slack = counts.slack;
+    if slack < 2 {
+        if !refill(program, table, limits, pass, procedure, main, BATCH) {
+            give_up(
+                alloc, program, table, limits, pass, procedure, main, class, true,
+            );
+            return Counts { slack, looks: 0 };
+        }
+        slack += BATCH;
+    }
+    if !look(
+        rt, alloc, program, table, limits, gate, pass, procedure, main, class,
+    ) {
+        return Counts {
+            slack: slack - 2,
+            looks: 0,
+        };
+    }
+    if limits.patience > 0 && counts.looks >= limits.patience - 1 {
+        give_up(
+            alloc, program, table, limits, pass, procedure, main, class, false,
+        );
+        return Counts { slack, looks: 0 };
+    }
+    thread::yield_now();
+    Counts {
+        slack,
+        looks: counts.looks.saturating_add(1),
+    }
+}
+
+/// Makes step 9 of the class that is asked for, or ends the empty body behind it. The answer is the room that is left, as
+/// [`Counts::slack`] counts it.
+fn run_on<G: Gate>(
+    alloc: Global,
+    program: &Program,
+    table: &InitTable<Guarded>,
+    limits: Limits,
+    gate: &G,
+    pass: &mut Pass<Guarded>,
+    procedure: &mut Procedure,
+    main: ClassId,
+    class: ClassId,
+    slack: usize,
+) -> usize
+    requires working { Working program.now table.now limits pass.old.number main procedure.old pass.old }
+    requires next { next_of procedure.old.frames ≡ nexts.Body class }
+    requires room { length (begun_classes procedure.old.frames) + slack ≤ pass.old.room }
+    ensures working { Working program.now table.now limits pass.new.number main procedure.new pass.new }
+    ensures number { pass.new.number ≡ pass.old.number }
+    ensures room { length (begun_classes procedure.new.frames) + result ≤ pass.new.room }
+{
+    if procedure.is_running() {
+        end_body(program, table, limits, pass, procedure, main, class);
+        return slack;
+    }
+    let mut slack = slack;
+    if slack < 1 {
+        if !refill(program, table, limits, pass, procedure, main, BATCH) {
+            give_up_body(alloc, program, table, limits, pass, procedure, main, class);
+            return slack;
+        }
+        slack += BATCH;
+    }
+    run_body(program, table, limits, gate, pass, procedure, main, class);
+    slack - 1
+}
+
 /// Does what the thread of a main class does: the procedure for that class, with empty bodies.
 fn work<W: Wait, G: Gate>(
     rt: &W,
@@ -116,31 +216,12 @@ fn work<W: Wait, G: Gate>(
             outcome: ThreadOutcome::Ended(Limit::Memory),
         };
     };
-    // Room beside that of the step that ends each class that it has begun.
-    let mut slack = 0;
-    let mut looks = 0;
+    let mut counts = Counts { slack: 0, looks: 0 };
     'steps: for _ in rt.forever() {
         match procedure.next() {
             Next::Idle => break,
             Next::Look(class) => {
-                if slack < 2 {
-                    if !refill(program, table, limits, &mut pass, &procedure, main, BATCH) {
-                        give_up(
-                            alloc,
-                            program,
-                            table,
-                            limits,
-                            &pass,
-                            &mut procedure,
-                            main,
-                            class,
-                            true,
-                        );
-                        continue;
-                    }
-                    slack += BATCH;
-                }
-                if !look(
+                counts = look_on(
                     rt,
                     alloc,
                     program,
@@ -151,53 +232,12 @@ fn work<W: Wait, G: Gate>(
                     &mut procedure,
                     main,
                     class,
-                ) {
-                    looks = 0;
-                    slack -= 2;
-                    continue;
-                }
-                if limits.patience > 0 && looks >= limits.patience - 1 {
-                    give_up(
-                        alloc,
-                        program,
-                        table,
-                        limits,
-                        &pass,
-                        &mut procedure,
-                        main,
-                        class,
-                        false,
-                    );
-                    looks = 0;
-                    continue;
-                }
-                if looks < limits.patience {
-                    looks += 1;
-                }
-                thread::yield_now();
+                    counts,
+                );
             }
             Next::Body(class) => {
-                if procedure.is_running() {
-                    end_body(program, table, limits, &pass, &mut procedure, main, class);
-                    continue;
-                }
-                if slack < 1 {
-                    if !refill(program, table, limits, &mut pass, &procedure, main, BATCH) {
-                        give_up_body(
-                            alloc,
-                            program,
-                            table,
-                            limits,
-                            &pass,
-                            &mut procedure,
-                            main,
-                            class,
-                        );
-                        continue;
-                    }
-                    slack += BATCH;
-                }
-                run_body(
+                counts.slack = run_on(
+                    alloc,
                     program,
                     table,
                     limits,
@@ -206,8 +246,8 @@ fn work<W: Wait, G: Gate>(
                     &mut procedure,
                     main,
                     class,
+                    counts.slack,
                 );
-                slack -= 1;
             }
             Next::End(class, ending) => {
                 end_class(

@@ -1,7 +1,6 @@
-use Rattle.std.proofs.Common.{◌≡◌, ◌+◌, ◌≤◌, List, ◌++◌, vec_len, length, map, vec_capacity}
+use Rattle.std.proofs.Common.{◌≡◌, ◌+◌, ◌≤◌, ◌++◌, vec_len, length, map, vec_capacity}
 use Rattle.std.specs.List.{AllByRecursion}
-use Rattle.guest_threads.specs.declared.work.Worked.{Worked}
-use Rattle.guest_threads.specs.Working.{MayWork, Did, Pairs}
+use Rattle.guest_threads.specs.Working.{MayWork}
 use Rattle.guest_threads.proofs.run.fn.run_each.scope.Given as goal
 
 abbrev pub invariant-starting : goal.invariant-starting
@@ -10,8 +9,3 @@ invariant-starting g l =
     × AllByRecursion (λ h. (h.promise.program.now ≡ l.program.now) × (h.promise.table.now ≡ l.table.now) × (h.promise.limits ≡ l.limits) × (h.promise.mains.now ≡ l.mains.now)) l.children.items
     × AllByRecursion (MayWork l.program.now l.table.now) l.pass-iterator.rest.items
     × (vec_len l.children + length l.pass-iterator.rest.items ≤ vec_capacity l.children)
-
-abbrev pub invariant-joining : goal.invariant-joining
-invariant-joining g l =
-    ((ws : List Worked) → Pairs (λ h w. Did h.promise.program.now h.promise.table.now h.promise.limits h.promise.mains.now h.promise.pass.value w) l.child-iterator.rest.items ws → Pairs (λ h w. Did h.promise.program.now h.promise.table.now h.promise.limits h.promise.mains.now h.promise.pass.value w) l.initial.child-iterator.rest.items (l.done.items ++ ws))
-    × (vec_len l.done + length l.child-iterator.rest.items ≤ vec_capacity l.done)

@@ -1,0 +1,218 @@
+//! Which events the runs of small programs have, whatever the schedule.
+
+ghost use Rattle.std.specs.Prelude.{◌≡◌, ◌≤◌, length, true};
+ghost use Rattle.guest_threads.specs.ThreadRuns.{AreMains};
+
+use guest_threads::{Gate, NoGate, run_threads};
+use hierarchy::{ClassId, Program, link};
+use init_core::{Event, Kind, Label};
+use jasmin_reader::read_class;
+use jasmin_text::ClassText;
+use std::alloc::{AllocError, Global};
+use std::sync::Wait;
+use std::sync::atomic::{AtomicU64, Ordering};
+use std::thread;
+use std::thread::Threads;
+use trace::{Limits, Report, ThreadOutcome};
+
+/// How many events there are of each step.
+#[derive(Clone, Copy, Debug, PartialEq, Eq)]
+struct Steps {
+    waits: usize,
+    finds_initialized: usize,
+    begins: usize,
+    runs: usize,
+    completes: usize,
+    others: usize,
+}
+
+fn steps_of(events: &[Event]) -> Result<Steps, AllocError> {
+    let mut steps = Steps {
+        waits: 0,
+        finds_initialized: 0,
+        begins: 0,
+        runs: 0,
+        completes: 0,
+        others: 0,
+    };
+    for event in events {
+        let counter = match event.kind()? {
+            Kind::Waits => &mut steps.waits,
+            Kind::FindsInitialized => &mut steps.finds_initialized,
+            Kind::Begins => &mut steps.begins,
+            Kind::Runs => &mut steps.runs,
+            Kind::Completes => &mut steps.completes,
+            _ => &mut steps.others,
+        };
+        *counter = counter.saturating_add(1);
+    }
+    Ok(steps)
+}
+
+/// Whether each main class is one of the files.
+fn are_of_files(program: &Program, mains: &[ClassId]) -> bool
+    ensures { result ≡ true → AreMains program.now mains.now }
+{
+    for main in mains {
+        if main.number >= program.len() {
+            return false;
+        }
+    }
+    true
+}
+
+/// The run of these main classes, if there is one.
+fn run<R: Threads + Wait + Sync, G: Gate + Sync>(
+    rt: &R,
+    alloc: Global,
+    program: &Program,
+    mains: &[ClassId],
+    gate: &G,
+) -> Option<Report> {
+    if mains.is_empty() || mains.len() > 16 || !are_of_files(program, mains) {
+        return None;
+    }
+    run_threads(rt, alloc, program, mains, Limits::USUAL, gate).ok()
+}
+
+/// Adds the class of a file, if it has no fault.
+fn add(alloc: Global, file: &[u8], classes: &mut Vec<ClassText>) -> Result<(), AllocError> {
+    if let Ok(text) = read_class(alloc, file) {
+        classes.push(text)?;
+    }
+    Ok(())
+}
+
+fn linked(alloc: Global, files: &[&[u8]]) -> Option<Program> {
+    let mut classes = Vec::new(alloc);
+    for file in files {
+        if add(alloc, file, &mut classes).is_err() {
+            return None;
+        }
+    }
+    link(alloc, classes).ok()
+}
+
+/// The run of the main classes of these numbers.
+fn run_of<R: Threads + Wait + Sync, G: Gate + Sync>(
+    rt: &R,
+    alloc: Global,
+    files: &[&[u8]],
+    mains: &[ClassId],
+    gate: &G,
+) -> Option<Report> {
+    match linked(alloc, files) {
+        Some(program) => run(rt, alloc, &program, mains, gate),
+        None => None,
+    }
+}
+
+/// Whether all threads ended normally, and all classes are initialized.
+fn is_whole(report: &Report) -> bool {
+    for outcome in report.outcomes.as_slice() {
+        if *outcome != ThreadOutcome::Normal {
+            return false;
+        }
+    }
+    for label in report.labels.as_slice() {
+        if *label != Label::Initialized {
+            return false;
+        }
+    }
+    true
+}
+
+const ONE: [&[u8]; 1] = [b".class A"];
+
+#[test]
+fn sixteen_threads_at_one_class(rt: HostRuntime) {
+    let mains = [ClassId { number: 0 }; 16];
+    let ran = run_of(&rt, rt.alloc(), &ONE, &mains, &NoGate);
+    let report = ran.expect(&rt, "there is a run");
+    let steps = steps_of(report.events.as_slice()).expect(&rt, "no event is a print");
+    assert!(rt; is_whole(&report) && report.outcomes.len() == 16);
+    assert!(rt; steps.begins == 1 && steps.runs == 1 && steps.completes == 1);
+    assert!(rt; steps.finds_initialized == 15 && steps.waits <= 15 && steps.others == 0);
+}
+
+// Three classes in a chain, each over the same two interfaces with code.
+const CHAIN: [&[u8]; 5] = [
+    b".class A\n.implements I\n.implements J",
+    b".class B\n.super A\n.implements I\n.implements J",
+    b".class C\n.super B\n.implements I\n.implements J",
+    b".interface I\n.method m()V\nreturn\n.end method",
+    b".interface J\n.method m()V\nreturn\n.end method",
+];
+
+#[test]
+fn one_thread_makes_each_event_once(rt: HostRuntime) {
+    let mains = [ClassId { number: 2 }];
+    let ran = run_of(&rt, rt.alloc(), &CHAIN, &mains, &NoGate);
+    let report = ran.expect(&rt, "there is a run");
+    let steps = steps_of(report.events.as_slice()).expect(&rt, "no event is a print");
+    assert!(rt; is_whole(&report) && report.events.len() == 19);
+    assert!(rt; steps.begins == 5 && steps.runs == 5 && steps.completes == 5);
+    assert!(rt; steps.finds_initialized == 4);
+}
+
+/// Counts the events.
+#[derive(Drop)]
+struct Counting {
+    count: AtomicU64,
+}
+
+impl Gate for Counting {
+    fn at(&self, _event: &Event) {
+        self.count.fetch_add(1, Ordering::SeqCst);
+    }
+}
+
+#[test]
+fn two_main_classes_at_once(rt: HostRuntime) {
+    let mains = [ClassId { number: 1 }, ClassId { number: 2 }];
+    let gate = Counting {
+        count: AtomicU64::new(0),
+    };
+    let ran = run_of(&rt, rt.alloc(), &CHAIN, &mains, &gate);
+    let report = ran.expect(&rt, "there is a run");
+    let steps = steps_of(report.events.as_slice()).expect(&rt, "no event is a print");
+    assert!(rt; is_whole(&report) && report.outcomes.len() == 2);
+    assert!(rt; steps.begins == 5 && steps.runs == 5 && steps.completes == 5 && steps.others == 0);
+    assert!(rt; gate.count.load(Ordering::SeqCst) == report.events.len() as u64);
+}
+
+// So often a thread is let others run at most.
+const TURNS: u64 = 100_000_000;
+
+/// Holds the thread that begins a class until another thread has made an event.
+#[derive(Drop)]
+struct Holding {
+    made: AtomicU64,
+}
+
+impl Gate for Holding {
+    fn at(&self, event: &Event) {
+        self.made.fetch_add(1, Ordering::SeqCst);
+        if let Ok(Kind::Begins) = event.kind() {
+            for _ in 0..TURNS {
+                if self.made.load(Ordering::SeqCst) > 1 {
+                    return;
+                }
+                thread::yield_now();
+            }
+        }
+    }
+}
+
+#[test]
+fn one_thread_waits_for_the_other(rt: HostRuntime) {
+    let mains = [ClassId { number: 0 }; 2];
+    let gate = Holding {
+        made: AtomicU64::new(0),
+    };
+    let ran = run_of(&rt, rt.alloc(), &ONE, &mains, &gate);
+    let report = ran.expect(&rt, "there is a run");
+    let steps = steps_of(report.events.as_slice()).expect(&rt, "no event is a print");
+    assert!(rt; is_whole(&report) && report.events.len() == 5);
+    assert!(rt; steps.waits == 1 && steps.begins == 1 && steps.finds_initialized == 1);
+}
