@@ -110,16 +110,6 @@ pub is_at_end : (c : ClassId) (k : Ending) (fs : List Frame) → next_of fs ≡ 
 is_at_end c k [] q = cc
 is_at_end c k (f ∷ fs) q = at_end_in c k f.phase f.class fs q
 
-body_in : (c : ClassId) (phase : Phase) (b : ClassId) (fs : List Frame) → next_of (frame b phase ∷ fs) ≡ next.Body c → AsksForBody (frame b phase ∷ fs)
-body_in c (Running ran) b fs q = tt
-body_in c (EndingBy j m) b fs q = cc
-body_in c (Looking w) b fs q = cc
-body_in c (Needing rest) b fs q = cc
-
-pub asks_for_body : (c : ClassId) (fs : List Frame) → next_of fs ≡ next.Body c → AsksForBody fs
-asks_for_body c [] q = cc
-asks_for_body c (f ∷ fs) q = body_in c f.phase f.class fs q
-
 -- where an answer is told that may be told
 pub may_tell : (p : LinkedProgram) (s : Standing) (a : Answer) → ((t : ℕ) → (z : Standing) × Advances p t s a [] z) → Fits p s a
 may_tell p s a x t = (s, [], (x t).0, (x t).1, knows_all)

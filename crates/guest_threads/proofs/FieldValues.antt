@@ -24,9 +24,6 @@ pub record IsLike (A B : List Event) : Type 0 where
   pub puts : (place : ℕ) → find (is_put_of place) (reverse A) ≡ find (is_put_of place) (reverse B)
   pub begun : find is_beginning A ≡ find is_beginning B
 
-same_or : {X : Type 0} (o : Option X) → option_or None o ≡ o
-same_or o = refl
-
 or_none : {X : Type 0} (o : Option X) → option_or o None ≡ o
 or_none None = refl
 or_none (Some x) = refl

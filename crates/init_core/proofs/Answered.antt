@@ -118,20 +118,6 @@ body_is_stopped s m e q is = by s.frames q is where
   by [] q is = cc
   by (f ∷ fs) q is = at f.class f.phase fs q (is f fs refl)
 
--- or at a request
-pub request_is_stopped : (s m : Standing) (e : ClassId) → MayEndThread s.frames → is_running s.frames ≡ false → Inner s m (λ c fs. after_word fs c (Ended e)) → m ≡ thread_ended s e
-request_is_stopped s m e may q is = by s.frames may q is where
-  at : (b : ClassId) (phase : Phase) (fs : List Frame) → MayEndThread (frame b phase ∷ fs) → is_running (frame b phase ∷ fs) ≡ false → m ≡ after_word fs b (Ended e) → m ≡ thread_ended (standing (frame b phase ∷ fs) s.last) e
-  at b (Looking waited) fs may q is = is
-  at b (Running true) fs may q is = cc
-  at b (Running false) fs may q is = absurd may
-  at b (Needing rest) fs may q is = absurd may
-  at b (EndingBy k by_machine) fs may q is = absurd may
-
-  by : (frames : List Frame) → MayEndThread frames → is_running frames ≡ false → ((f : Frame) (fs : List Frame) → frames ≡ f ∷ fs → m ≡ after_word fs f.class (Ended e)) → m ≡ thread_ended (standing frames s.last) e
-  by [] may q is = absurd may
-  by (f ∷ fs) may q is = at f.class f.phase fs may q (is f fs refl)
-
 -- that is an answer
 pub ends_thread : (p : LinkedProgram) (t : ℕ) (s : Standing) (e : ClassId) → MayEndThread s.frames → GoesOn s.last → IsMachineError p e → (a : Answer) × Advances p t s a [] (thread_ended s e)
 ends_thread p t s e may on machine = by s.frames may where
