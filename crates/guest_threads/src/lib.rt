@@ -15,13 +15,13 @@
 //! The definition of what a run makes stands in `specs/ThreadRuns.antt`.
 #![tactic(auto)]
 
-pub mod gate;
-pub mod guarded;
-pub mod run;
+mod gate;
+mod guarded;
+mod run;
 mod start;
 mod steps;
 mod take;
-pub mod work;
+mod work;
 
 pub use gate::{Gate, NoGate};
 pub use guarded::Guarded;
