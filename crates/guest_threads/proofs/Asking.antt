@@ -15,7 +15,7 @@ use Rattle.init_core.specs.declared.frames.Phase.TheVariants.{Looking, Needing, 
 use Rattle.init_core.specs.declared.procedure.Answer.{Answer}
 use Rattle.init_core.specs.declared.procedure.Answer.TheVariants as answer
 use Rattle.init_core.specs.declared.procedure.Next.TheVariants as next
-use Rattle.init_core.specs.Advance.{Advances, leaves_body, ends_class, gives_up_look, gives_up_body, Fits, LeavesAt, knows_all, IsAtEnd, AsksForBody, FitsBody, after_body, after_word, is_running, next_of}
+use Rattle.init_core.specs.Advance.{Advances, leaves_body, ends_class, gives_up_look, gives_up_body, Fits, LeavesAt, knows_all, IsAtEnd, FitsBody, after_body, after_word, is_running, next_of}
 use Rattle.init_core.specs.Decisions.{event}
 use Rattle.init_core.specs.Leads.{frame, standing, kind_of_ending, outcome_of, outermost, needed, used, Before, Leads, idle, looking, not_run, running, ending_by, BeforeRequest, LeadsTo}
 use Rattle.init_core.specs.MainWord.{BeforeMain, before_first, MainDone, nothing, main_done}
