@@ -130,6 +130,7 @@ fn print_all<R: Runtime + Threads + Wait + Sync>(rt: &R, alloc: Global) -> io::R
 }
 
 /// Holds each thread for a second after its step 9.
+#[derive(Drop)]
 struct Holding<'a, R> {
     rt: &'a R,
 }

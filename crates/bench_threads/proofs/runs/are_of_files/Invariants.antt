@@ -1,4 +1,4 @@
-use Rattle.std.proofs.Common.{◌≡◌, drop}
+use Rattle.std.proofs.Common.{drop}
 use Rattle.guest_threads.specs.ThreadRuns.{AreMains}
 use Rattle.bench_threads.proofs.runs.are_of_files.Given as goal
 
