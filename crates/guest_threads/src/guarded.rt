@@ -10,6 +10,8 @@ use init_lock::Keeps;
 pub struct Guarded {
     /// The record.
     pub record: ClassRecord,
+    /// The threads that sleep until the class is ended, a bit each. They are no part of the history.
+    pub sleepers: u16,
 }
 
 impl Keeps for Guarded {

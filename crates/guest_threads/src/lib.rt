@@ -18,7 +18,7 @@
 mod gate;
 mod guarded;
 mod run;
-mod start;
+mod signals;
 mod steps;
 mod take;
 mod work;

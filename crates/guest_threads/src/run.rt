@@ -9,7 +9,7 @@ ghost use Rattle.guest_threads.specs.Working.{ArePrepared, MayWork, Did, Pairs};
 
 use crate::gate::Gate;
 use crate::guarded::Guarded;
-use crate::start::Start;
+use crate::signals::Signals;
 use crate::work::{Worked, work_from};
 use hierarchy::{ClassId, Program};
 use init_core::{ClassRecord, Label};
@@ -48,7 +48,10 @@ fn prepared(alloc: Global, program: &Program) -> Result<Vec<Guarded>, AllocError
     'classes: while made.len() < count {
         let number = made.len();
         let record = ClassRecord::new(alloc, program, ClassId { number })?;
-        made.push(Guarded { record })?;
+        made.push(Guarded {
+            record,
+            sleepers: 0,
+        })?;
     }
     Ok(made)
 }
@@ -104,8 +107,8 @@ fn run_each<R: Threads + Wait + Sync, G: Gate + Sync>(
     requires passes { AllByRecursion (MayWork program.now table.now) passes.items }
     ensures done { IfOk result (λ done. Pairs (Did program.now table.now limits mains.now) passes.items done.items) }
 {
-    let start = Start::new();
-    let shared = &start;
+    let signals = Signals::new();
+    let signals = &signals;
     thread::scope(
         thread::scope_env(),
         rt,
@@ -131,18 +134,18 @@ fn run_each<R: Threads + Wait + Sync, G: Gate + Sync>(
                         ensures { Did program.entry.now table.entry.now limits mains.entry.now pass result }
                     {
                         let main = mains[pass.number()];
-                        work_from(rt, alloc, program, table, limits, gate, shared, main, pass)
+                        work_from(rt, alloc, program, table, limits, gate, signals, main, pass)
                     },
                 );
                 let Ok(child) = started else {
-                    shared.call_off();
+                    signals.call_off();
                     return Err(RunFault::NoThread);
                 };
                 let Ok(()) = children.push(child) else {
                     unreachable!();
                 };
             }
-            shared.begin();
+            signals.begin();
             Ok(join_all(rt, children, done))
         },
     )

@@ -8,7 +8,8 @@ ghost use Rattle.guest_threads.specs.Working.{Working};
 
 use crate::gate::Gate;
 use crate::guarded::Guarded;
-use crate::take::{give_back_untouched, give_back_with, take_record};
+use crate::signals::Signals;
+use crate::take::{give_back_asleep, give_back_untouched, give_back_with, take_record};
 use hierarchy::{BuiltIn, ClassId, Program};
 use init_core::{Answer, Ending, Event, Kind, Outcome, Procedure};
 use init_lock::{InitTable, Pass};
@@ -68,7 +69,8 @@ pub(crate) fn refill(
     pass.reserve(count).is_ok()
 }
 
-/// One look at a class (steps 1 to 6), and whether another thread initializes it, as the thread had seen before.
+/// One look at a class (steps 1 to 6), and whether another thread initializes it, as the thread had seen before: then that one
+/// will wake it when it ends the class.
 pub(crate) fn look<W: Wait, G: Gate>(
     rt: &W,
     alloc: Global,
@@ -107,7 +109,7 @@ pub(crate) fn look<W: Wait, G: Gate>(
         return false;
     };
     if decision.waits_again() {
-        give_back_untouched(table, pass, held);
+        give_back_asleep(table, pass, held, thread);
         return true;
     }
     let event = Event::new(thread, class, decision.kind());
@@ -182,13 +184,15 @@ pub(crate) fn end_body(
     procedure.end_body(Outcome::Normal);
 }
 
-/// Step 7, 10 or 12. It waits for the lock without limit.
+/// Step 7, 10 or 12. It waits for the lock without limit, and wakes those that sleep until the class is ended, once it has
+/// given the record back.
 pub(crate) fn end_class<W: Wait, G: Gate>(
     rt: &W,
     program: &Program,
     table: &InitTable<Guarded>,
     limits: Limits,
     gate: &G,
+    signals: &Signals,
     pass: &mut Pass<Guarded>,
     procedure: &mut Procedure,
     main: ClassId,
@@ -205,9 +209,12 @@ pub(crate) fn end_class<W: Wait, G: Gate>(
     let taken = take_record(rt, program, table, pass, class, 0);
     let Ok(mut held) = taken else { unreachable!() };
     let thread = pass.number();
-    held.kept().record.end(thread, ending);
+    let guarded = held.kept();
+    let sleepers = guarded.sleepers;
+    guarded.record.end(thread, ending);
     let event = Event::new(thread, class, ending.kind());
     give_back_with(table, pass, held, event);
+    signals.wake(sleepers);
     procedure.end_class();
     gate.at(&Event::new(thread, class, ending.kind()));
 }

@@ -1,12 +1,14 @@
 //! A class's record, taken from its lock and given back.
 
 ghost use Rattle.std.specs.Prelude.{◌≡◌, ◌≢◌, ◌+◌, ◌<◌, ◌++◌, ◌∷◌, [], Some, IfOk, OnErr};
+ghost use Rattle.init_core.specs.declared.event.TheConstants.{THREADS};
 ghost use Rattle.init_lock.specs.Known.{seen_at, out_of, IsAwayBut};
 ghost use Rattle.init_core.specs.ProcedureWord.{IsOfFiles};
 ghost use Rattle.guest_threads.specs.Drawing.{MayDraw, Follows};
 ghost use Rattle.guest_threads.specs.Working.{Works, Took, GaveBack, IsUnmoved, drawn};
 
 use crate::guarded::Guarded;
+use crate::signals::with_thread;
 use hierarchy::{ClassId, Program};
 use init_core::Event;
 use init_lock::{GaveUp, Held, InitTable, Pass};
@@ -72,5 +74,27 @@ pub(crate) fn give_back_untouched(
     ensures journal { pass.new.journal ≡ pass.old.journal }
     ensures room { pass.new.room ≡ pass.old.room }
 {
+    table.give_back(pass, held);
+}
+
+/// Gives a record back as it was found, with a note that the thread sleeps until the class is ended.
+pub(crate) fn give_back_asleep(
+    table: &InitTable<Guarded>,
+    pass: &mut Pass<Guarded>,
+    mut held: Held<Guarded>,
+    thread: usize,
+)
+    requires thread { thread < THREADS }
+    requires table { pass.old.table ≡ table.now.id }
+    requires out { out_of held.place pass.old.places ≡ Some held.taken }
+    requires keeps { held.kept.record.events ≡ seen_at held.place pass.old.places }
+    requires follows { Follows held.taken.record held.kept.record }
+    requires alone { IsAwayBut held.place pass.old.places }
+    ensures back { GaveBack held.place held.kept.record.events pass.old pass.new }
+    ensures journal { pass.new.journal ≡ pass.old.journal }
+    ensures room { pass.new.room ≡ pass.old.room }
+{
+    let guarded = held.kept();
+    guarded.sleepers = with_thread(guarded.sleepers, thread);
     table.give_back(pass, held);
 }

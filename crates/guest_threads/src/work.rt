@@ -12,7 +12,7 @@ ghost use Rattle.guest_threads.specs.Working.{Works, Working, HasReason, IsDone,
 
 use crate::gate::Gate;
 use crate::guarded::Guarded;
-use crate::start::Start;
+use crate::signals::Signals;
 use crate::steps::{end_body, end_class, give_up, give_up_body, look, refill, run_body};
 use hierarchy::{BuiltIn, ClassId, Program};
 use init_core::{Next, Outcome, Procedure};
@@ -101,8 +101,8 @@ struct Counts {
     looks: u32,
 }
 
-/// Looks at the class that is asked for. Where it is in progress by another thread, the thread lets others run, or is at
-/// the end of its patience.
+/// Looks at the class that is asked for. Where another thread initializes it, the thread sleeps until that one has ended it;
+/// where its patience has a limit it lets others run instead, or is at the end of its patience.
 fn look_on<W: Wait, G: Gate>(
     rt: &W,
     alloc: Global,
@@ -110,6 +110,7 @@ fn look_on<W: Wait, G: Gate>(
     table: &InitTable<Guarded>,
     limits: Limits,
     gate: &G,
+    signals: &Signals,
     pass: &mut Pass<Guarded>,
     procedure: &mut Procedure,
     main: ClassId,
@@ -141,7 +142,11 @@ fn look_on<W: Wait, G: Gate>(
             looks: 0,
         };
     }
-    if limits.patience > 0 && counts.looks >= limits.patience - 1 {
+    if limits.patience == 0 {
+        signals.sleep(rt, pass.number());
+        return Counts { slack, looks: 0 };
+    }
+    if counts.looks >= limits.patience - 1 {
         give_up(
             alloc, program, table, limits, pass, procedure, main, class, false,
         );
@@ -199,6 +204,7 @@ fn work<W: Wait, G: Gate>(
     table: &InitTable<Guarded>,
     limits: Limits,
     gate: &G,
+    signals: &Signals,
     main: ClassId,
     mut pass: Pass<Guarded>,
 ) -> Worked
@@ -228,6 +234,7 @@ fn work<W: Wait, G: Gate>(
                     table,
                     limits,
                     gate,
+                    signals,
                     &mut pass,
                     &mut procedure,
                     main,
@@ -256,6 +263,7 @@ fn work<W: Wait, G: Gate>(
                     table,
                     limits,
                     gate,
+                    signals,
                     &mut pass,
                     &mut procedure,
                     main,
@@ -277,7 +285,7 @@ pub(crate) fn work_from<W: Wait, G: Gate>(
     table: &InitTable<Guarded>,
     limits: Limits,
     gate: &G,
-    start: &Start,
+    signals: &Signals,
     main: ClassId,
     pass: Pass<Guarded>,
 ) -> Worked
@@ -289,11 +297,11 @@ pub(crate) fn work_from<W: Wait, G: Gate>(
     ensures works { Works program.now table.now result.pass.number result.pass }
     ensures done { IsDone program.now table.now limits main result }
 {
-    if !start.wait(rt) {
+    if !signals.wait_for_start(rt) {
         return Worked {
             pass,
             outcome: ThreadOutcome::Ended(Limit::Memory),
         };
     }
-    work(rt, alloc, program, table, limits, gate, main, pass)
+    work(rt, alloc, program, table, limits, gate, signals, main, pass)
 }

@@ -29,17 +29,17 @@ returns-then-waits_again-clause-working g c =
     let took = c.in-Ok.ensures.took in
     let e = c.in-Ok-told.ensures in
     let same = c.if-waits_again.ensures.yes refl in
-    let z = c.give_back_untouched-then-waits_again.new.pass in
+    let z = c.give_back_asleep.new.pass in
     let u = c.number-thread.result in
     renumbered c.args.program.now c.args.table.now c.args.limits c.args.pass.now.number c.args.main c.look_at-told.new.self z (looked c.args.program.now c.args.table.now c.args.limits c.args.pass.now.number c.args.main c.args.procedure.now c.look_at-told.new.self c.args.class c.args.pass.now c.take_record-taken.new.pass z c.in-Ok.held c.in-Ok.held.place c.in-Ok-told.decision u c.kept.result.now.record
-    c.requires.next took.place took c.number-thread.ensures (ap (λ (x : Guarded). x.record) c.kept.ensures.record) e.decision e.standing c.look_at-told.new.class_record.events e.events c.give_back_untouched-then-waits_again.ensures.back
-    (ap drawn c.give_back_untouched-then-waits_again.ensures.journal ∙ entered_none u c.args.class c.in-Ok-told.decision (drawn c.take_record-taken.new.pass.journal) same)
+    c.requires.next took.place took c.number-thread.ensures (ap (λ (x : Guarded). x.record) c.kept.ensures.record) e.decision e.standing c.look_at-told.new.class_record.events e.events c.give_back_asleep.ensures.back
+    (ap drawn c.give_back_asleep.ensures.journal ∙ entered_none u c.args.class c.in-Ok-told.decision (drawn c.take_record-taken.new.pass.journal) same)
     c.requires.working).0
 
 pub returns-then-waits_again-clause-waits : goal.returns-then-waits_again-clause-waits
 returns-then-waits_again-clause-waits g c = λ e. (
   looked_again c.args.program.now c.args.table.now c.args.limits c.args.pass.now.number c.args.main c.args.procedure.now c.look_at-told.new.self c.args.class c.args.pass.now c.number-thread.result c.kept.result.now.record c.in-Ok-told.decision _ c.requires.next (c.if-waits_again.ensures.yes refl) c.in-Ok-told.ensures.standing c.requires.working,
-  c.give_back_untouched-then-waits_again.ensures.room ∙ c.in-Ok.ensures.took.room,
+  c.give_back_asleep.ensures.room ∙ c.in-Ok.ensures.took.room,
 )
 
 pub returns-clause-working : goal.returns-clause-working
