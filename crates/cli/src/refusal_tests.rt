@@ -5,6 +5,8 @@ ghost use Rattle.std.specs.Prelude.{◌≤◌, vec_len, IfOk};
 use crate::{Named, NamedFault, serve};
 use std::alloc::Global;
 use std::io;
+use std::sync::Wait;
+use std::thread::Threads;
 
 /// Files that each hold a class Solo, but for `None.j`, which isn't there. Memory is refused for reading `starved.j` and
 /// for writing `starved`, and `locked` can't be written.
@@ -55,8 +57,13 @@ impl io::Write for Full {
 }
 
 /// Whether these words, with this writer for the output, are answered by status 3 and this line, and no file is written.
-fn is_refused<O: io::Write>(rt: &HostRuntime, words: &[&str], out: &mut O, line: &[u8]) -> bool {
-    let alloc = rt.alloc();
+fn is_refused<R: Threads + Wait + Sync, O: io::Write>(
+    rt: &R,
+    alloc: Global,
+    words: &[&str],
+    out: &mut O,
+    line: &[u8],
+) -> bool {
     let mut files = RefusingFiles { is_written: false };
     let mut err = Vec::new(alloc);
     let status = serve(rt, alloc, words, &mut files, out, &mut err);
@@ -87,7 +94,10 @@ const BY_FILES: [(&[&str], &[u8]); 4] = [
 fn refused_by_files(rt: HostRuntime) {
     for (words, line) in BY_FILES {
         let mut out = Vec::new(rt.alloc());
-        assert!(rt; is_refused(&rt, words, &mut out, line), "at {words:?}");
+        assert!(rt;
+            is_refused(&rt, rt.alloc(), words, &mut out, line),
+            "at {words:?}"
+        );
         assert!(rt; out.is_empty(), "at {words:?}");
     }
 }
@@ -106,7 +116,7 @@ const WITH_OUTPUT: [&[&str]; 5] = [
 fn refused_by_the_output(rt: HostRuntime) {
     for words in WITH_OUTPUT {
         assert!(rt;
-            is_refused(&rt, words, &mut Full, b"io: output\n"),
+            is_refused(&rt, rt.alloc(), words, &mut Full, b"io: output\n"),
             "at {words:?}"
         );
     }

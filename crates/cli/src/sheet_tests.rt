@@ -13,7 +13,9 @@ ghost use Rattle.cli.specs.Running.{IsRunOfNamed, limits_with};
 
 use crate::{Named, NamedFault, serve};
 use std::alloc::Global;
+use std::sync::Wait;
 use std::test::Fail;
+use std::thread::Threads;
 
 /// One file, by the name `sheet`. There is no other, and none can be made.
 #[derive(Drop)]
@@ -55,11 +57,10 @@ static WORDS: [&str; 7] = [
 ];
 
 /// Runs the class Solo that the sheet spells, and writes the trace in its place.
-fn trace_the_sheet(rt: &HostRuntime, sheet: &mut Sheet) -> u8
+fn trace_the_sheet<R: Threads + Wait + Sync>(rt: &R, alloc: Global, sheet: &mut Sheet) -> u8
     ensures { result ≡ 0 → (c : ClassParts) × (p : LinkedProgram) × (r : Report) × Spells (lines_of sheet.old.bytes.items) c
         × LinksTo (c ∷ []) p × IsRunOfNamed (Some (codes "Solo")) (limits_with 0) p r × (sheet.new.bytes.items ≡ trace_of p r.events) }
 {
-    let alloc = rt.alloc();
     let mut out = Vec::new(alloc);
     let mut err = Vec::new(alloc);
     serve(rt, alloc, WORDS.as_slice(), sheet, &mut out, &mut err)
@@ -70,7 +71,7 @@ fn a_file_becomes_its_trace(rt: HostRuntime) -> Result<(), Fail> {
     let mut sheet = Sheet {
         bytes: Vec::from_slice(rt.alloc(), b".class Solo")?,
     };
-    assert_eq!(rt; trace_the_sheet(&rt, &mut sheet), 0);
+    assert_eq!(rt; trace_the_sheet(&rt, rt.alloc(), &mut sheet), 0);
     assert!(rt;
         sheet.bytes.as_slice() == b"0 t0 step6 Solo\n1 t0 step9 Solo\n2 t0 step10 Solo\n".as_slice()
     );

@@ -1,4 +1,4 @@
-use Rattle.std.proofs.Common.{rules, ◌≡◌, refl, subst, inl, inr, ℕ, List, [], ◌∷◌, Option, Some, None, codes, if◌then◌else◌}
+use Rattle.std.proofs.Common.{rules, arith, ◌≡◌, refl, subst, inl, inr, ℕ, List, [], ◌∷◌, Option, Some, None, codes, if◌then◌else◌}
 use Rattle.std.specs.Str.{bytes_eq}
 use Rattle.clap.specs.Walk.{texts}
 use Rattle.clap.specs.Words.{IsAmong, Text}
@@ -11,16 +11,19 @@ use Rattle.hierarchy.specs.FirstFault.{LinksTo}
 use Rattle.hierarchy.specs.LinkedProgram.{LinkedProgram}
 use Rattle.trace.specs.TraceText.{trace_of}
 use Rattle.trace.specs.declared.report.Report.{Report}
-use Rattle.cli.specs.CommandLine.{bare_line, command_line, faults_in, file_words, option_named, request_in, rows_in, run, subcommand_named}
+use Rattle.cli.specs.CommandLine.{RunWords, bare_line, command_line, faults_in, file_words, option_named, request_in, rows_in, run, subcommand_named}
 use Rattle.cli.specs.Files.{AreSpelled, Files}
-use Rattle.cli.specs.Running.{IsRunOfNamed}
+use Rattle.cli.specs.Running.{IsRunOfNamed, limits_with}
 use Rattle.cli.specs.Serving.{HasRun, IsDone, IsServed, Surroundings, around}
 use Rattle.cli.proofs.sheet_tests.trace_the_sheet.Goals as goal
 
 abbrev words : List Text
 words = codes "jinit" ∷ codes "run" ∷ codes "--mains" ∷ codes "Solo" ∷ codes "--trace" ∷ codes "sheet" ∷ codes "sheet" ∷ []
 
-asked : request_in words ≡ run (Some (codes "Solo")) (Some (codes "sheet")) (codes "sheet" ∷ [])
+abbrev run_words : RunWords
+run_words = record { mains = Some (codes "Solo"); trace = Some (codes "sheet"); patience = None; files = codes "sheet" ∷ [] }
+
+asked : request_in words ≡ run run_words
 unfolding clap_on_literals rows_in faults_in command_line bare_line subcommand_named option_named file_words
 asked = refl
 
@@ -28,29 +31,29 @@ no_fault : faults_in words ≡ []
 unfolding clap_on_literals rows_in faults_in command_line bare_line subcommand_named option_named file_words
 no_fault = refl
 
-run_done : (before after : Surroundings) (ws : List Text) → ws ≡ words → IsDone before after ws → HasRun before after (Some (codes "Solo")) (Some (codes "sheet")) (codes "sheet" ∷ [])
-run_done before after ws same done = go (subst (IsDone before after) same done)
+run_done : (before after : Surroundings) (errors errors_after : Option (List ℕ)) (status : ℕ) (ws : List Text) → ws ≡ words → IsDone before after errors errors_after ws status → HasRun before after errors errors_after run_words status
+run_done before after errors errors_after status ws same done = go (subst (λ vs. IsDone before after errors errors_after vs status) same done)
   where
-    go : IsDone before after words → HasRun before after (Some (codes "Solo")) (Some (codes "sheet")) (codes "sheet" ∷ [])
-    go (inl (inl help)) = absurd (subst (IsAmong DisplayHelp) no_fault help)
-    go (inl (inr version)) = absurd (subst (IsAmong DisplayVersion) no_fault version)
-    go (inr d) = subst (IsServed before after) asked d.1
+    go : IsDone before after errors errors_after words status → HasRun before after errors errors_after run_words status
+    go (inl (zero, quiet, inl help)) = absurd (subst (IsAmong DisplayHelp) no_fault help)
+    go (inl (zero, quiet, inr version)) = absurd (subst (IsAmong DisplayVersion) no_fault version)
+    go (inr d) = subst (λ r. IsServed before after errors errors_after r status) asked d.1
 
 abbrev sheet : List ℕ → Files
 sheet bytes name = if bytes_eq name (codes "sheet") then Some bytes else None
 
 abbrev BecomesItsTrace : List ℕ → List ℕ → Type 0
 BecomesItsTrace old new = (c : ClassParts) × (p : LinkedProgram) × (r : Report) × Spells (lines_of old) c
-    × LinksTo (c ∷ []) p × IsRunOfNamed (Some (codes "Solo")) p r × (new ≡ trace_of p r.events)
+    × LinksTo (c ∷ []) p × IsRunOfNamed (Some (codes "Solo")) (limits_with 0) p r × (new ≡ trace_of p r.events)
 
-on_sheet : (old new : List ℕ) (out out' : Option (List ℕ)) → HasRun (around (Some (sheet old)) out) (around (Some (sheet new)) out') (Some (codes "Solo")) (Some (codes "sheet")) (codes "sheet" ∷ [])
+on_sheet : (old new : List ℕ) (out out' errors errors_after : Option (List ℕ)) (status : ℕ) → HasRun (around (Some (sheet old)) out) (around (Some (sheet new)) out') errors errors_after run_words status
     → BecomesItsTrace old new
-on_sheet old new out out' h = go h.texts h.spelled h.linked
+on_sheet old new out out' errors errors_after status h = go h.texts h.spelled h.linked
   where
     go : (classes : List ClassParts) → AreSpelled (Some (sheet old)) (codes "sheet" ∷ []) classes → LinksTo classes h.program → BecomesItsTrace old new
     go [] spelled linked = absurd spelled
-    go (c ∷ []) spelled linked = (c, h.program, h.report, spelled.0, linked, h.ran, h.traced)
+    go (c ∷ []) spelled linked = (c, h.program, h.report, spelled.0, linked, subst (λ n. IsRunOfNamed (Some (codes "Solo")) (limits_with n) h.program h.report) h.said h.ran, h.written.traced)
     go (c ∷ d ∷ ds) spelled linked = absurd spelled.1
 
 pub returns : goal.returns
-returns c = λ zero. on_sheet _ _ _ _ (run_done _ _ (texts c.as_slice.result.now) (search rules) (c.serve.ensures.done zero))
+returns g c = λ zero. on_sheet _ _ _ _ _ _ _ (run_done _ _ _ _ _ (texts c.as_slice.result.now) (search rules) (c.serve.ensures.done (let z = zero in omega arith)))
