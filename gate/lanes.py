@@ -1,7 +1,8 @@
 """Tasks side by side, in the place of the kit's `in_lanes`.
 
-Proofs come first: those with the longest path of others behind them, and with several jobs where processors are idle. Tests and
-edits, which no proof waits for, run beside them on as many lanes at a lower priority, so that they take what the proofs leave."""
+Proofs that others wait for come first, and those with much work: with the longest path of others behind them, and with several
+jobs where processors are idle. Short proofs, tests and edits, which no proof waits for, run beside them on as many lanes at a
+lower priority, so that they take what those leave."""
 import os
 from concurrent.futures import FIRST_COMPLETED, ThreadPoolExecutor, wait
 
@@ -28,7 +29,7 @@ def step_back():
 
 
 class Lanes:
-    """Lanes for one sort of tasks: how many there are, and the pool of threads that runs them."""
+    """Lanes of one priority: how many are idle, and the pool of threads that runs what is on them."""
 
     def __init__(self, number, **how):
         self.idle = number
@@ -39,44 +40,46 @@ def run(tasks, processors, memory, memory_for):
     """Runs each task once those that it waits for have ended, and returns what each gave. A task is what it waits for, its
     work, and a call that gets what was given and how many jobs it may use; so many jobs take the memory that `memory_for` says."""
     behind = paths(tasks)
-    sorts = {True: Lanes(processors), False: Lanes(processors, initializer=step_back)}
+    waited_for = {it for key in tasks if key[1] == "proof" for it in tasks[key][0]}
+    front, back = Lanes(processors), Lanes(processors, initializer=step_back)
     left, running, given = [*tasks], {}, {}
 
     def is_ready(key):
         return all(it in given for it in tasks[key][0])
 
-    def jobs_of(key, waiting):
-        """How many jobs a proof gets: one, and more where it is on a long path and processors are idle."""
-        lanes = sorts[key[1] == "proof"]
-        longest = max(behind[it] for it in tasks if it not in given)
-        is_long = key[1] != "edits" and 2 * behind[key] >= longest
-        return -(-lanes.idle // waiting) if is_long else 1
+    def is_long(key):
+        """Whether it has at least half of the longest path that is left."""
+        return key[1] != "edits" and 2 * behind[key] >= max(behind[it] for it in tasks if it not in given)
+
+    def lanes_of(key):
+        return front if key[1] == "proof" and (key in waited_for or is_long(key)) else back
 
     def start():
         """Starts what there is room for: tests before edits, and first what has the longest path behind it."""
         left.sort(key=lambda it: (it[1] == "edits", -behind[it]))
-        for is_proof, lanes in sorts.items():
-            ready = [it for it in left if (it[1] == "proof") == is_proof and is_ready(it)]
+        for lanes in front, back:
+            ready = [it for it in left if is_ready(it) and lanes_of(it) is lanes]
             for at, key in enumerate(ready):
-                jobs = jobs_of(key, len(ready) - at) if lanes.idle > 0 else 0
-                taken = sum(memory_for(it) for _, it in running.values())
+                # (one job, and more on a long path where processors are idle)
+                jobs = (-(-lanes.idle // (len(ready) - at)) if is_long(key) else 1) if lanes.idle > 0 else 0
+                taken = sum(memory_for(it) for _, it, _ in running.values())
                 while jobs and running and taken + memory_for(jobs) > memory:
                     jobs -= 1
                 if jobs:
                     left.remove(key)
                     lanes.idle -= jobs
-                    running[lanes.pool.submit(tasks[key][2], given, jobs)] = key, jobs
+                    running[lanes.pool.submit(tasks[key][2], given, jobs)] = key, jobs, lanes
 
     start()
     while running:
         for it in wait(running, return_when=FIRST_COMPLETED).done:
-            key, jobs = running.pop(it)
-            sorts[key[1] == "proof"].idle += jobs
+            key, jobs, lanes = running.pop(it)
+            lanes.idle += jobs
             if it.result() is AGAIN:
                 left.append(key)
             else:
                 given[key] = it.result()
         start()
-    for lanes in sorts.values():
+    for lanes in front, back:
         lanes.pool.shutdown()
     return given
