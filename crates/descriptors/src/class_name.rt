@@ -40,6 +40,13 @@ impl ClassName {
         Ok(Some(ClassName { text }))
     }
 
+    /// The bytes of the name are those of a name.
+    pub fn is_name(&self)
+        ensures { IsClassName self.now }
+    {
+        let _ = &self.text;
+    }
+
     /// The bytes of the name.
     pub fn as_slice(&self) -> &[u8]
         ensures bytes { result.now ≡ self.now }

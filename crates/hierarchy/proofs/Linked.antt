@@ -7,10 +7,11 @@ use Rattle.jasmin_text.specs.declared.class_text.ClassKind.{ClassKind}
 use Rattle.hierarchy.specs.declared.class.Class.{Class}
 use Rattle.hierarchy.specs.declared.fault.LinkFault.{LinkFault}
 use Rattle.hierarchy.specs.declared.fault.LinkFaultKind.{LinkFaultKind}
-use Rattle.hierarchy.specs.declared.fault.LinkFaultKind.TheVariants.{RepeatedMember, NoMemory}
-use Rattle.hierarchy.specs.Linking.{names_of, kinds_of, classes_from, classes_of, fault}
+use Rattle.hierarchy.specs.declared.fault.LinkFaultKind.TheVariants.{RepeatedMember, TooMany, NoMemory}
+use Rattle.hierarchy.specs.Linking.{IsFirst, names_of, kinds_of, classes_from, classes_of, fault}
 use Rattle.hierarchy.specs.Members.{repeats_member}
-use Rattle.hierarchy.specs.FirstFault.{HasNames, HasNoCycle, repeats, IsNameFault, IsClassFault, IsFirstFault, of_names, of_supertypes, of_classes, IsMemory, name_in_text, name_in_class}
+use Rattle.hierarchy.specs.Quoted.{FillsHeap}
+use Rattle.hierarchy.specs.FirstFault.{HasNames, HasNoCycle, HasDistinctMembers, repeats, fills, IsNameFault, IsClassFault, IsFirstFault, of_names, of_supertypes, of_classes, IsMemory, name_in_text, name_in_class}
 
 pub err_map : {X E : Type 0} (P Q : E → Type 0) (r : Result X E) → ((e : E) → P e → Q e) → IfErr r P → IfErr r Q
 err_map P Q (Ok x) f h = tt
@@ -36,6 +37,10 @@ classes_fault texts classes f good e (inr h) = inr (of_classes good e h.1 h.2)
 pub members_fault : (classes : List Class) (k : LinkFaultKind) (i : ℕ) → HasNoCycle classes → (k ≡ NoMemory) ⊎ (k ≡ RepeatedMember) × (position repeats_member classes ≡ Some i) → (k ≡ NoMemory) ⊎ IsClassFault classes k i
 members_fault classes k i none (inl m) = inl m
 members_fault classes k i none (inr h) = inr (subst (λ (z : LinkFaultKind). IsClassFault classes z i) (sym h.0) (repeats none h.1))
+
+pub heap_fault : (classes : List Class) (k : LinkFaultKind) (i : ℕ) → HasNoCycle classes → HasDistinctMembers classes → (k ≡ NoMemory) ⊎ (k ≡ TooMany) × IsFirst (FillsHeap classes) i → (k ≡ NoMemory) ⊎ IsClassFault classes k i
+heap_fault classes k i none distinct (inl m) = inl m
+heap_fault classes k i none distinct (inr h) = inr (subst (λ (z : LinkFaultKind). IsClassFault classes z i) (sym h.0) (fills none distinct h.1))
 
 pub none_there : {X : Type 0} (xs : List X) (n : ℕ) → length xs ≡ n → (n == 0) ≡ true → xs ≡ []
 none_there [] n l e = refl

@@ -5,6 +5,8 @@ ghost use Rattle.std.specs.List.{All};
 ghost use Rattle.jasmin_text.specs.Spellable.{IsSpellable};
 ghost use Rattle.hierarchy.specs.LinkedProgram.{linked, class_names};
 ghost use Rattle.hierarchy.specs.Hierarchy.{IsAcyclic, IsInRange};
+ghost use Rattle.hierarchy.specs.Searched.{HasSupertypes};
+ghost use Rattle.hierarchy.specs.Quoted.{quoted_texts, cells_of, FillsHeap};
 ghost use Rattle.hierarchy.specs.LinkedTexts.{IsResolved};
 ghost use Rattle.hierarchy.specs.Members.{repeats_member};
 ghost use Rattle.hierarchy.specs.MemberPlaces.{HavePlaces};
@@ -15,6 +17,7 @@ ghost use Rattle.hierarchy.specs.declared.fault.LinkFaultKind.TheVariants as bec
 
 use crate::assembly::linked_classes;
 use crate::class::Class;
+use crate::class_set::ClassSet;
 use crate::fault::{LinkFault, LinkFaultKind};
 use crate::member_places::{MemberPlaces, MemberSearch, search_members};
 use crate::naming::{first_repeated, first_reserved, kinds};
@@ -104,6 +107,46 @@ fn members_of(alloc: Global, classes: &[Class]) -> Result<Vec<MemberPlaces>, Fau
     }
 }
 
+/// The supertypes of classes none of which stands on a cycle.
+fn supertypes_of(alloc: Global, classes: &[Class]) -> Result<Vec<ClassSet>, FaultAt>
+    requires some { 0 < length classes.now }
+    requires few { length classes.now ≤ 1024 }
+    requires in_range { IsInRange classes.now }
+    ensures supertypes { IfOk result (λ all. HasSupertypes classes.now (length classes.now) all.items) }
+    ensures acyclic { IfOk result (λ all. IsAcyclic classes.now) }
+    ensures within { IfErr result (λ at. at.place < length classes.now) }
+    ensures fault { IfErr result (λ at. (at.kind ≡ because.NoMemory) ⊎ IsClassFault classes.now at.kind at.place) }
+{
+    match search(alloc, classes) {
+        Ok(SearchResult::Supertypes(all)) => Ok(all),
+        Ok(SearchResult::Cycle(place)) => Err(FaultAt {
+            kind: LinkFaultKind::Cycle,
+            place,
+        }),
+        Err(_) => Err(FaultAt::NO_MEMORY),
+    }
+}
+
+/// The quoted texts of classes that the heap holds.
+fn quoted_of(alloc: Global, classes: &[Class]) -> Result<Texts, FaultAt>
+    requires { 0 < length classes.now }
+    ensures quoted { IfOk result (λ quoted. quoted ≡ quoted_texts classes.now) }
+    ensures cells { IfOk result (λ quoted. cells_of classes.now ≤ 1000000) }
+    ensures heap { IfOk result (λ quoted. FitsHeap classes.now) }
+    ensures within { IfErr result (λ at. at.place < length classes.now) }
+    ensures fault { IfErr result (λ at. (at.kind ≡ because.NoMemory) ⊎ (at.kind ≡ because.TooMany) × IsFirst (FillsHeap classes.now) at.place) }
+{
+    let mut quoted = Texts::new(alloc);
+    match first_beyond_heap(alloc, classes, &mut quoted) {
+        Ok(None) => Ok(quoted),
+        Ok(Some(place)) => Err(FaultAt {
+            kind: LinkFaultKind::TooMany,
+            place,
+        }),
+        Err(_) => Err(FaultAt::NO_MEMORY),
+    }
+}
+
 /// What is kept beside classes that are without a fault.
 fn tables_of(alloc: Global, classes: &[Class]) -> Result<Tables, FaultAt>
     requires some { 0 < length classes.now }
@@ -116,30 +159,18 @@ fn tables_of(alloc: Global, classes: &[Class]) -> Result<Tables, FaultAt>
     ensures within { IfErr result (λ at. at.place < length classes.now) }
     ensures fault { IfErr result (λ at. (at.kind ≡ because.NoMemory) ⊎ IsClassFault classes.now at.kind at.place) }
 {
-    let supertypes = match search(alloc, classes) {
-        Ok(SearchResult::Supertypes(all)) => all,
-        Ok(SearchResult::Cycle(place)) => {
-            return Err(FaultAt {
-                kind: LinkFaultKind::Cycle,
-                place,
-            });
-        }
-        Err(_) => return Err(FaultAt::NO_MEMORY),
+    let supertypes = match supertypes_of(alloc, classes) {
+        Ok(supertypes) => supertypes,
+        Err(at) => return Err(at),
     };
     let members = match members_of(alloc, classes) {
         Ok(members) => members,
         Err(at) => return Err(at),
     };
-    let mut quoted = Texts::new(alloc);
-    let Ok(beyond) = first_beyond_heap(alloc, classes, &mut quoted) else {
-        return Err(FaultAt::NO_MEMORY);
+    let quoted = match quoted_of(alloc, classes) {
+        Ok(quoted) => quoted,
+        Err(at) => return Err(at),
     };
-    if let Some(place) = beyond {
-        return Err(FaultAt {
-            kind: LinkFaultKind::TooMany,
-            place,
-        });
-    }
     match tables_with(alloc, classes, supertypes, members, quoted) {
         Ok(tables) => Ok(tables),
         Err(_) => Err(FaultAt::NO_MEMORY),

@@ -8,7 +8,7 @@ ghost use Rattle.jasmin_reader.specs.Bodies.{placed_label, placed_labels, placed
 use crate::body::{Body, Catch};
 use crate::labels::Labels;
 use crate::place::LineError;
-use jasmin_text::{Code, Handler, Instruction, Method};
+use jasmin_text::{Code, Handler, Instruction, Jump, Method};
 use jasmin_words::{FaultKind, Refusal};
 use sequence::{Sequence, Text};
 use std::alloc::Global;
@@ -56,19 +56,27 @@ fn cases(
     Ok(all)
 }
 
+/// A jump with the place of its label.
+#[tactic(auto, unfolding(crate::specs::Bodies::placed))]
+fn jump_with_place(labels: &Labels, jump: Jump, label: Text) -> Result<Instruction<u16>, LineError>
+    ensures { Gives (λ x. x) result (placed labels.now (instructions.Jump jump label)) }
+{
+    Ok(Instruction::Jump(jump, place(labels, &label)?))
+}
+
 /// A `tableswitch` with places for its labels.
 #[tactic(auto, unfolding(crate::specs::Bodies::placed))]
 fn table_with_places(
     alloc: Global,
     labels: &Labels,
     low: i32,
-    names: &[Text],
-    label: &Text,
+    names: Sequence<Text>,
+    label: Text,
 ) -> Result<Instruction<u16>, LineError>
-    ensures { Gives (λ x. x) result (placed labels.now (instructions.TableSwitch low names.now label.now)) }
+    ensures { Gives (λ x. x) result (placed labels.now (instructions.TableSwitch low names label)) }
 {
-    let targets = places(alloc, labels, names)?;
-    Ok(Instruction::TableSwitch(low, targets, place(labels, label)?))
+    let targets = places(alloc, labels, names.as_slice())?;
+    Ok(Instruction::TableSwitch(low, targets, place(labels, &label)?))
 }
 
 /// A `lookupswitch` with places for its labels.
@@ -76,13 +84,13 @@ fn table_with_places(
 fn lookup_with_places(
     alloc: Global,
     labels: &Labels,
-    names: &[(i32, Text)],
-    label: &Text,
+    names: Sequence<(i32, Text)>,
+    label: Text,
 ) -> Result<Instruction<u16>, LineError>
-    ensures { Gives (λ x. x) result (placed labels.now (instructions.LookupSwitch names.now label.now)) }
+    ensures { Gives (λ x. x) result (placed labels.now (instructions.LookupSwitch names label)) }
 {
-    let targets = cases(alloc, labels, names)?;
-    Ok(Instruction::LookupSwitch(targets, place(labels, label)?))
+    let targets = cases(alloc, labels, names.as_slice())?;
+    Ok(Instruction::LookupSwitch(targets, place(labels, &label)?))
 }
 
 /// An instruction with places for its labels.
@@ -99,12 +107,12 @@ fn with_places(
         Instruction::Constant(constant) => Ok(Instruction::Constant(constant)),
         Instruction::Local(local, number) => Ok(Instruction::Local(local, number)),
         Instruction::Increment(number, by) => Ok(Instruction::Increment(number, by)),
-        Instruction::Jump(jump, label) => Ok(Instruction::Jump(jump, place(labels, &label)?)),
+        Instruction::Jump(jump, label) => jump_with_place(labels, jump, label),
         Instruction::TableSwitch(low, names, label) => {
-            table_with_places(alloc, labels, low, names.as_slice(), &label)
+            table_with_places(alloc, labels, low, names, label)
         }
         Instruction::LookupSwitch(names, label) => {
-            lookup_with_places(alloc, labels, names.as_slice(), &label)
+            lookup_with_places(alloc, labels, names, label)
         }
         Instruction::Field(access, field) => Ok(Instruction::Field(access, field)),
         Instruction::Call(call, method) => Ok(Instruction::Call(call, method)),

@@ -1,17 +1,21 @@
 //! The operands of instructions.
+#![tactic(auto, unfolding(crate::specs::Operands::begun_at))]
 
 ghost use Rattle.std.specs.Prelude.{◌≡◌};
 ghost use Rattle.jasmin_words.specs.Gives.{Gives};
 ghost use Rattle.jasmin_words.specs.Lexing.{views};
 ghost use Rattle.jasmin_text.specs.declared.form.Form.TheVariants as forms;
-ghost use Rattle.jasmin_reader.specs.Operands.{constant_from, count_at, labels_between, room_in, room_at, table_from, field_from, interface_from, begun_at};
+ghost use Rattle.jasmin_reader.specs.Operands.{constant_from, count_at, labels_between, room_in, room_at, begun_at};
 
 use crate::place::{LineError, bad_operand, ended, last_operand, next, operand, within};
 use crate::switch::{Cases, Switch, Table};
 use crate::values::integer;
 use descriptors::{BaseType, ClassName, FieldType};
 use jasmin_text::form::Form;
-use jasmin_text::{Constant, FieldReference, Instruction, MethodReference, ReferenceType};
+use jasmin_text::{
+    Call, Constant, FieldAccess, FieldReference, Instruction, Jump, Local, MethodReference, Plain,
+    ReferenceType, TypeUse,
+};
 use jasmin_words::name::MemberName;
 use jasmin_words::{Refusal, Token};
 use sequence::{Sequence, Text};
@@ -91,44 +95,58 @@ fn room(low: i32, tokens: &[Token<'_>]) -> Result<Option<u64>, LineError>
     Ok(Some(room))
 }
 
-/// The head of a `tableswitch`.
-fn table(alloc: Global, tokens: &[Token<'_>]) -> Result<Switch, LineError>
-    ensures { Gives (λ s. s) result (table_from (views tokens.now)) }
+/// What the line of an instruction without operands begins.
+fn plain(word: Plain, tokens: &[Token<'_>]) -> Result<Begun, LineError>
+    ensures { Gives (λ b. b) result (begun_at (forms.Plain word) (views tokens.now)) }
 {
-    let (low, rest) = operand::<i32>(alloc, tokens)?;
-    let room = room(low, rest)?;
-    Ok(Switch::Table(Table {
-        low,
-        room,
-        labels: Sequence::new(alloc),
-    }))
+    match ended(tokens) {
+        Ok(()) => Ok(Begun::Whole(Instruction::Plain(word))),
+        Err(error) => Err(error),
+    }
 }
 
-/// The field of an instruction: a class, a slash and a name, and then a descriptor.
-fn field(alloc: Global, tokens: &[Token<'_>]) -> Result<FieldReference, LineError>
-    ensures { Gives (λ r. r) result (field_from (views tokens.now)) }
+/// What the line of an instruction begins that pushes this int.
+fn number(value: i32, tokens: &[Token<'_>]) -> Result<Begun, LineError>
+    ensures { Gives (λ b. b) result (begun_at (forms.Number value) (views tokens.now)) }
 {
-    let ((class, name), rest) = operand::<(ClassName, MemberName)>(alloc, tokens)?;
-    let field_type = last_operand::<FieldType>(alloc, rest)?;
-    Ok(FieldReference {
-        class,
-        name,
-        field_type,
-    })
+    match ended(tokens) {
+        Ok(()) => Ok(Begun::Whole(Instruction::Constant(Constant::Int(value)))),
+        Err(error) => Err(error),
+    }
 }
 
-/// The method of `invokeinterface`, and its count.
-fn interface_method(alloc: Global, tokens: &[Token<'_>]) -> Result<MethodReference, LineError>
-    ensures { Gives (λ r. r) result (interface_from (views tokens.now)) }
+/// What the line of an instruction begins that takes this local.
+fn local_at(word: Local, place: u16, tokens: &[Token<'_>]) -> Result<Begun, LineError>
+    ensures { Gives (λ b. b) result (begun_at (forms.LocalAt word place) (views tokens.now)) }
 {
-    let (method, rest) = operand::<MethodReference>(alloc, tokens)?;
-    count(alloc, rest)?;
-    Ok(method)
+    match ended(tokens) {
+        Ok(()) => Ok(Begun::Whole(Instruction::Local(word, place))),
+        Err(error) => Err(error),
+    }
+}
+
+/// What a line of `bipush` begins.
+fn byte(alloc: Global, tokens: &[Token<'_>]) -> Result<Begun, LineError>
+    ensures { Gives (λ b. b) result (begun_at forms.Byte (views tokens.now)) }
+{
+    match last_operand::<i8>(alloc, tokens) {
+        Ok(number) => Ok(Begun::Whole(Instruction::Constant(Constant::Int(number as i32)))),
+        Err(error) => Err(error),
+    }
+}
+
+/// What a line of `sipush` begins.
+fn short(alloc: Global, tokens: &[Token<'_>]) -> Result<Begun, LineError>
+    ensures { Gives (λ b. b) result (begun_at forms.Short (views tokens.now)) }
+{
+    match last_operand::<i16>(alloc, tokens) {
+        Ok(number) => Ok(Begun::Whole(Instruction::Constant(Constant::Int(number as i32)))),
+        Err(error) => Err(error),
+    }
 }
 
 /// What the line of an instruction with an int or a string begins.
-#[tactic(auto, unfolding(crate::specs::Operands::begun_at))]
-fn begin_constant(alloc: Global, tokens: &[Token<'_>]) -> Result<Begun, LineError>
+fn pushed(alloc: Global, tokens: &[Token<'_>]) -> Result<Begun, LineError>
     ensures { Gives (λ b. b) result (begun_at forms.Constant (views tokens.now)) }
 {
     let (constant, rest) = constant(alloc, tokens)?;
@@ -136,9 +154,18 @@ fn begin_constant(alloc: Global, tokens: &[Token<'_>]) -> Result<Begun, LineErro
     Ok(Begun::Whole(Instruction::Constant(constant)))
 }
 
+/// What the line of an instruction with the number of a local begins.
+fn local(alloc: Global, word: Local, tokens: &[Token<'_>]) -> Result<Begun, LineError>
+    ensures { Gives (λ b. b) result (begun_at (forms.Local word) (views tokens.now)) }
+{
+    match last_operand::<u16>(alloc, tokens) {
+        Ok(number) => Ok(Begun::Whole(Instruction::Local(word, number))),
+        Err(error) => Err(error),
+    }
+}
+
 /// What a line of `iinc` begins.
-#[tactic(auto, unfolding(crate::specs::Operands::begun_at))]
-fn begin_increment(alloc: Global, tokens: &[Token<'_>]) -> Result<Begun, LineError>
+fn increment(alloc: Global, tokens: &[Token<'_>]) -> Result<Begun, LineError>
     ensures { Gives (λ b. b) result (begun_at forms.Increment (views tokens.now)) }
 {
     let (number, rest) = operand::<u16>(alloc, tokens)?;
@@ -146,56 +173,125 @@ fn begin_increment(alloc: Global, tokens: &[Token<'_>]) -> Result<Begun, LineErr
     Ok(Begun::Whole(Instruction::Increment(number, by)))
 }
 
+/// What the line of a jump begins.
+fn jump(alloc: Global, word: Jump, tokens: &[Token<'_>]) -> Result<Begun, LineError>
+    ensures { Gives (λ b. b) result (begun_at (forms.Jump word) (views tokens.now)) }
+{
+    match last_operand::<Text>(alloc, tokens) {
+        Ok(label) => Ok(Begun::Whole(Instruction::Jump(word, label))),
+        Err(error) => Err(error),
+    }
+}
+
+/// What a line of `tableswitch` begins.
+fn table_switch(alloc: Global, tokens: &[Token<'_>]) -> Result<Begun, LineError>
+    ensures { Gives (λ b. b) result (begun_at forms.TableSwitch (views tokens.now)) }
+{
+    let (low, rest) = operand::<i32>(alloc, tokens)?;
+    let room = room(low, rest)?;
+    Ok(Begun::Opens(Switch::Table(Table {
+        low,
+        room,
+        labels: Sequence::new(alloc),
+    })))
+}
+
 /// What a line of `lookupswitch` begins.
-#[tactic(auto, unfolding(crate::specs::Operands::begun_at))]
-fn begin_lookup(alloc: Global, tokens: &[Token<'_>]) -> Result<Begun, LineError>
+fn lookup_switch(alloc: Global, tokens: &[Token<'_>]) -> Result<Begun, LineError>
     ensures { Gives (λ b. b) result (begun_at forms.LookupSwitch (views tokens.now)) }
 {
-    ended(tokens)?;
-    Ok(Begun::Opens(Switch::Lookup(Cases::new(alloc))))
+    match ended(tokens) {
+        Ok(()) => Ok(Begun::Opens(Switch::Lookup(Cases::new(alloc)))),
+        Err(error) => Err(error),
+    }
+}
+
+/// What the line of an instruction on a field begins: a class, a slash and a name stand on it, and then a descriptor.
+fn field(alloc: Global, word: FieldAccess, tokens: &[Token<'_>]) -> Result<Begun, LineError>
+    ensures { Gives (λ b. b) result (begun_at (forms.Field word) (views tokens.now)) }
+{
+    let ((class, name), rest) = operand::<(ClassName, MemberName)>(alloc, tokens)?;
+    let field_type = last_operand::<FieldType>(alloc, rest)?;
+    Ok(Begun::Whole(Instruction::Field(
+        word,
+        FieldReference {
+            class,
+            name,
+            field_type,
+        },
+    )))
+}
+
+/// What the line of a call but `invokeinterface` begins.
+fn call(alloc: Global, word: Call, tokens: &[Token<'_>]) -> Result<Begun, LineError>
+    ensures { Gives (λ b. b) result (begun_at (forms.Call word) (views tokens.now)) }
+{
+    match last_operand::<MethodReference>(alloc, tokens) {
+        Ok(method) => Ok(Begun::Whole(Instruction::Call(word, method))),
+        Err(error) => Err(error),
+    }
+}
+
+/// What a line of `invokeinterface` begins.
+fn interface_call(alloc: Global, tokens: &[Token<'_>]) -> Result<Begun, LineError>
+    ensures { Gives (λ b. b) result (begun_at forms.CallInterface (views tokens.now)) }
+{
+    let (method, rest) = operand::<MethodReference>(alloc, tokens)?;
+    count(alloc, rest)?;
+    Ok(Begun::Whole(Instruction::CallInterface(method)))
+}
+
+/// What a line of `new` begins.
+fn object(alloc: Global, tokens: &[Token<'_>]) -> Result<Begun, LineError>
+    ensures { Gives (λ b. b) result (begun_at forms.New (views tokens.now)) }
+{
+    match last_operand::<ClassName>(alloc, tokens) {
+        Ok(class) => Ok(Begun::Whole(Instruction::New(class))),
+        Err(error) => Err(error),
+    }
+}
+
+/// What a line of `newarray` begins.
+fn array(alloc: Global, tokens: &[Token<'_>]) -> Result<Begun, LineError>
+    ensures { Gives (λ b. b) result (begun_at forms.NewArray (views tokens.now)) }
+{
+    match last_operand::<BaseType>(alloc, tokens) {
+        Ok(base) => Ok(Begun::Whole(Instruction::NewArray(base))),
+        Err(error) => Err(error),
+    }
+}
+
+/// What the line of an instruction on a class or the type of an array begins.
+fn type_use(alloc: Global, word: TypeUse, tokens: &[Token<'_>]) -> Result<Begun, LineError>
+    ensures { Gives (λ b. b) result (begun_at (forms.TypeUse word) (views tokens.now)) }
+{
+    match last_operand::<ReferenceType>(alloc, tokens) {
+        Ok(reference) => Ok(Begun::Whole(Instruction::TypeUse(word, reference))),
+        Err(error) => Err(error),
+    }
 }
 
 /// What an instruction's line begins, by what its word asks for.
-#[tactic(auto, unfolding(crate::specs::Operands::begun_at))]
 pub(crate) fn begin(alloc: Global, form: Form, tokens: &[Token<'_>]) -> Result<Begun, LineError>
     ensures { Gives (λ b. b) result (begun_at form (views tokens.now)) }
 {
-    let instruction = match form {
-        Form::Plain(plain) => {
-            ended(tokens)?;
-            Instruction::Plain(plain)
-        }
-        Form::Number(number) => {
-            ended(tokens)?;
-            Instruction::Constant(Constant::Int(number))
-        }
-        Form::LocalAt(local, number) => {
-            ended(tokens)?;
-            Instruction::Local(local, number)
-        }
-        Form::Byte => {
-            Instruction::Constant(Constant::Int(last_operand::<i8>(alloc, tokens)? as i32))
-        }
-        Form::Short => {
-            Instruction::Constant(Constant::Int(last_operand::<i16>(alloc, tokens)? as i32))
-        }
-        Form::Constant => return begin_constant(alloc, tokens),
-        Form::Local(local) => Instruction::Local(local, last_operand::<u16>(alloc, tokens)?),
-        Form::Increment => return begin_increment(alloc, tokens),
-        Form::Jump(jump) => Instruction::Jump(jump, last_operand::<Text>(alloc, tokens)?),
-        Form::Field(access) => Instruction::Field(access, field(alloc, tokens)?),
-        Form::Call(call) => Instruction::Call(
-            call,
-            last_operand::<MethodReference>(alloc, tokens)?,
-        ),
-        Form::CallInterface => Instruction::CallInterface(interface_method(alloc, tokens)?),
-        Form::New => Instruction::New(last_operand::<ClassName>(alloc, tokens)?),
-        Form::NewArray => Instruction::NewArray(last_operand::<BaseType>(alloc, tokens)?),
-        Form::TypeUse(use_of) => {
-            Instruction::TypeUse(use_of, last_operand::<ReferenceType>(alloc, tokens)?)
-        }
-        Form::TableSwitch => return Ok(Begun::Opens(table(alloc, tokens)?)),
-        Form::LookupSwitch => return begin_lookup(alloc, tokens),
-    };
-    Ok(Begun::Whole(instruction))
+    match form {
+        Form::Plain(word) => plain(word, tokens),
+        Form::Number(value) => number(value, tokens),
+        Form::LocalAt(word, place) => local_at(word, place, tokens),
+        Form::Byte => byte(alloc, tokens),
+        Form::Short => short(alloc, tokens),
+        Form::Constant => pushed(alloc, tokens),
+        Form::Local(word) => local(alloc, word, tokens),
+        Form::Increment => increment(alloc, tokens),
+        Form::Jump(word) => jump(alloc, word, tokens),
+        Form::TableSwitch => table_switch(alloc, tokens),
+        Form::LookupSwitch => lookup_switch(alloc, tokens),
+        Form::Field(word) => field(alloc, word, tokens),
+        Form::Call(word) => call(alloc, word, tokens),
+        Form::CallInterface => interface_call(alloc, tokens),
+        Form::New => object(alloc, tokens),
+        Form::NewArray => array(alloc, tokens),
+        Form::TypeUse(word) => type_use(alloc, word, tokens),
+    }
 }

@@ -5,9 +5,11 @@
 //! `invokespecial` and `invokenonvirtual` one call, `i2b` and `int2byte` one conversion.
 
 use crate::class_text::Constant;
+use crate::word::word_of;
 use descriptors::{BaseType, ClassName, FieldType, MethodType};
 use jasmin_words::name::MemberName;
 use sequence::Sequence;
+use std::{fmt, str};
 
 /// Instructions without operands.
 #[derive(Clone, Copy, Debug, PartialEq, Eq)]
@@ -220,7 +222,7 @@ pub struct MethodReference {
 
 /// An instruction whose targets are of type `L`: places, which are numbers of instructions, in a class text,
 /// and names of labels while a method is read.
-#[derive(Debug, Drop)]
+#[derive(Drop)]
 pub enum Instruction<L> {
     /// One without operands.
     Plain(Plain),
@@ -248,4 +250,14 @@ pub enum Instruction<L> {
     NewArray(BaseType),
     /// One on a class or the type of an array.
     TypeUse(TypeUse, ReferenceType),
+}
+
+/// Shows the word of the instruction, without its operands.
+impl<L> fmt::Debug for Instruction<L> {
+    fn fmt<W: fmt::Write>(&self, f: &mut fmt::Formatter<W>) -> fmt::Result {
+        match str::from_utf8(word_of(self)) {
+            Ok(word) => f.write_str(word),
+            Err(_) => Err(fmt::Error),
+        }
+    }
 }

@@ -59,7 +59,7 @@ fn element_type(element: &ElementType) -> bool
     match element {
         ElementType::Base(_) => true,
         ElementType::Class(name) => {
-            let _bytes = name.as_slice();
+            name.is_name();
             true
         }
     }

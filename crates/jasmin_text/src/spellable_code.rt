@@ -3,6 +3,7 @@
 ghost use Rattle.std.specs.Prelude.{◌≡◌, ◌≤◌, ◌-◌, ◌&&◌, ℕ, ℤ, true, length, nat_le, codes, if◌then◌else◌, IfOk};
 ghost use Rattle.jasmin_words.specs.Names.{same_bytes};
 ghost use Rattle.std.specs.List.{list_all};
+ghost use Rattle.jasmin_text.specs.declared.instruction.Instruction.TheVariants as instructions;
 ghost use Rattle.jasmin_text.specs.Spellable.{is_int, is_class_word, rises_from, rises, is_instruction, instruction_size, have_room, is_caught, is_handler, is_code, is_optional_code, is_initializer, is_field, is_method, is_taken, is_spellable};
 
 use crate::class_text::{ClassKind, ClassParts, Code, Field, Handler, Method};
@@ -55,6 +56,20 @@ fn rise(cases: &[(i32, u16)]) -> bool
 }
 
 #[tactic(auto, unfolding(crate::specs::Spellable::is_instruction))]
+fn table(low: i32, places: &[u16], default: u16, count: usize) -> bool
+    ensures { result ≡ is_instruction count (instructions.TableSwitch low places.now default) }
+{
+    int(low) && places_within(places, count) && default as usize <= count
+}
+
+#[tactic(auto, unfolding(crate::specs::Spellable::is_instruction))]
+fn lookup(cases: &[(i32, u16)], default: u16, count: usize) -> bool
+    ensures { result ≡ is_instruction count (instructions.LookupSwitch cases.now default) }
+{
+    cases_within(cases, count) && rise(cases) && default as usize <= count
+}
+
+#[tactic(auto, unfolding(crate::specs::Spellable::is_instruction))]
 fn instruction(
     alloc: Global,
     count: usize,
@@ -69,13 +84,11 @@ fn instruction(
         Instruction::Increment(number, by) => Ok(local(*number) && short_int(*by)),
         Instruction::Jump(_, place) => Ok(*place as usize <= count),
         Instruction::TableSwitch(low, places, default) => {
-            Ok(int(*low) && places_within(places.as_slice(), count) && *default as usize <= count)
+            Ok(table(*low, places.as_slice(), *default, count))
         }
-        Instruction::LookupSwitch(cases, default) => Ok(
-            cases_within(cases.as_slice(), count)
-                && rise(cases.as_slice())
-                && *default as usize <= count,
-        ),
+        Instruction::LookupSwitch(cases, default) => {
+            Ok(lookup(cases.as_slice(), *default, count))
+        }
         Instruction::Field(_, field) => field_reference(alloc, field),
         Instruction::Call(_, method) => method_reference(alloc, method),
         Instruction::CallInterface(method) => method_reference(alloc, method),

@@ -3,7 +3,7 @@
 ghost use Rattle.std.specs.Prelude.{◌≡◌};
 ghost use Rattle.jasmin_text.specs.InstructionWords.{plain_word as plain_word_spelling, local_word as local_word_spelling, jump_word as jump_word_spelling, field_word as field_word_spelling, call_word as call_word_spelling, type_word as type_word_spelling, base_word as base_word_spelling};
 
-use crate::instruction::{Call, FieldAccess, Jump, Local, Plain, TypeUse};
+use crate::instruction::{Call, FieldAccess, Instruction, Jump, Local, Plain, TypeUse};
 use descriptors::BaseType;
 
 /// The word of an instruction without operands.
@@ -138,5 +138,24 @@ pub(crate) fn base_word(base: BaseType) -> &'static [u8]
         BaseType::Char => b"char",
         BaseType::Short => b"short",
         BaseType::Int => b"int",
+    }
+}
+
+/// The word of an instruction.
+pub(crate) fn word_of<L>(instruction: &Instruction<L>) -> &'static [u8] {
+    match instruction {
+        Instruction::Plain(plain) => plain_word(*plain),
+        Instruction::Constant(_) => b"ldc",
+        Instruction::Local(local, _) => local_word(*local),
+        Instruction::Increment(_, _) => b"iinc",
+        Instruction::Jump(jump, _) => jump_word(*jump),
+        Instruction::TableSwitch(_, _, _) => b"tableswitch",
+        Instruction::LookupSwitch(_, _) => b"lookupswitch",
+        Instruction::Field(access, _) => field_word(*access),
+        Instruction::Call(call, _) => call_word(*call),
+        Instruction::CallInterface(_) => b"invokeinterface",
+        Instruction::New(_) => b"new",
+        Instruction::NewArray(_) => b"newarray",
+        Instruction::TypeUse(type_use, _) => type_word(*type_use),
     }
 }

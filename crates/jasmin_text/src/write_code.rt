@@ -8,7 +8,10 @@ ghost use Rattle.jasmin_text.specs.declared.keyword.Keyword.TheVariants.{Ldc};
 ghost use Rattle.jasmin_text.specs.declared.instruction.Instruction.TheVariants as instruction;
 
 use crate::class_text::{Constant, Handler};
-use crate::instruction::{FieldReference, Instruction, MethodReference, ReferenceType};
+use crate::instruction::{
+    Call, FieldAccess, FieldReference, Instruction, Jump, Local, MethodReference, Plain,
+    ReferenceType, TypeUse,
+};
 use crate::keyword::{Keyword, push, push_keyword};
 use crate::word::{base_word, call_word, field_word, jump_word, local_word, plain_word, type_word};
 use crate::write::{push_constant, push_field_type, push_method_type};
@@ -215,20 +218,21 @@ fn push_lookup_switch(
     push_default_line(text, default)
 }
 
-/// A line of a word, a space and a number.
-fn push_numbered(text: &mut Vec<u8>, word: &[u8], number: u16) -> Result<(), AllocError>
-    ensures { OnOk result (text.new.items ≡ text.old.items ++ ended (word.now ++ 32 ∷ decimal number)) }
+#[tactic(auto, unfolding(crate::specs::Canonical::instruction_lines))]
+fn push_local_line(text: &mut Vec<u8>, local: Local, number: u16) -> Result<(), AllocError>
+    ensures { OnOk result (text.new.items ≡ text.old.items ++ ended_all (instruction_lines (instruction.Local local number))) }
 {
-    push(text, word)?;
+    push(text, local_word(local))?;
     push(text, b" ")?;
     push_number(text, number)?;
     push(text, b"\n")
 }
 
-fn push_jump_line(text: &mut Vec<u8>, word: &[u8], place: u16) -> Result<(), AllocError>
-    ensures { OnOk result (text.new.items ≡ text.old.items ++ ended (word.now ++ 32 ∷ label_text place)) }
+#[tactic(auto, unfolding(crate::specs::Canonical::instruction_lines))]
+fn push_jump_line(text: &mut Vec<u8>, jump: Jump, place: u16) -> Result<(), AllocError>
+    ensures { OnOk result (text.new.items ≡ text.old.items ++ ended_all (instruction_lines (instruction.Jump jump place))) }
 {
-    push(text, word)?;
+    push(text, jump_word(jump))?;
     push(text, b" ")?;
     push_label(text, place as usize)?;
     push(text, b"\n")
@@ -242,43 +246,46 @@ fn push_constant_line(text: &mut Vec<u8>, constant: &Constant) -> Result<(), All
     push(text, b"\n")
 }
 
+#[tactic(auto, unfolding(crate::specs::Canonical::instruction_lines))]
 fn push_field_use(
     alloc: Global,
     text: &mut Vec<u8>,
-    word: &[u8],
+    access: FieldAccess,
     field: &FieldReference,
 ) -> Result<(), AllocError>
-    ensures { OnOk result (text.new.items ≡ text.old.items ++ ended (word.now ++ 32 ∷ field_text field.now)) }
+    ensures { OnOk result (text.new.items ≡ text.old.items ++ ended_all (instruction_lines (instruction.Field access field.now))) }
 {
-    push(text, word)?;
+    push(text, field_word(access))?;
     push(text, b" ")?;
     push_field(alloc, text, field)?;
     push(text, b"\n")
 }
 
+#[tactic(auto, unfolding(crate::specs::Canonical::instruction_lines))]
 fn push_call(
     alloc: Global,
     text: &mut Vec<u8>,
-    word: &[u8],
+    call: Call,
     method: &MethodReference,
 ) -> Result<(), AllocError>
-    ensures { OnOk result (text.new.items ≡ text.old.items ++ ended (word.now ++ 32 ∷ method_text method.now)) }
+    ensures { OnOk result (text.new.items ≡ text.old.items ++ ended_all (instruction_lines (instruction.Call call method.now))) }
 {
-    push(text, word)?;
+    push(text, call_word(call))?;
     push(text, b" ")?;
     push_method(alloc, text, method)?;
     push(text, b"\n")
 }
 
+#[tactic(auto, unfolding(crate::specs::Canonical::instruction_lines))]
 fn push_type_use(
     alloc: Global,
     text: &mut Vec<u8>,
-    word: &[u8],
+    type_use: TypeUse,
     reference: &ReferenceType,
 ) -> Result<(), AllocError>
-    ensures { OnOk result (text.new.items ≡ text.old.items ++ ended (word.now ++ 32 ∷ reference_text reference.now)) }
+    ensures { OnOk result (text.new.items ≡ text.old.items ++ ended_all (instruction_lines (instruction.TypeUse type_use reference.now))) }
 {
-    push(text, word)?;
+    push(text, type_word(type_use))?;
     push(text, b" ")?;
     push_reference(alloc, text, reference)?;
     push(text, b"\n")
@@ -293,10 +300,11 @@ fn push_keyed(text: &mut Vec<u8>, keyword: Keyword, word: &[u8]) -> Result<(), A
     push(text, b"\n")
 }
 
-fn push_plain_line(text: &mut Vec<u8>, word: &[u8]) -> Result<(), AllocError>
-    ensures { OnOk result (text.new.items ≡ text.old.items ++ ended word.now) }
+#[tactic(auto, unfolding(crate::specs::Canonical::instruction_lines))]
+fn push_plain_line(text: &mut Vec<u8>, plain: Plain) -> Result<(), AllocError>
+    ensures { OnOk result (text.new.items ≡ text.old.items ++ ended_all (instruction_lines (instruction.Plain plain))) }
 {
-    push(text, word)?;
+    push(text, plain_word(plain))?;
     push(text, b"\n")
 }
 
@@ -310,30 +318,22 @@ pub(crate) fn push_instruction(
     ensures { OnOk result (text.new.items ≡ text.old.items ++ ended_all (instruction_lines instruction.now)) }
 {
     match instruction {
-        Instruction::Plain(plain) => push_plain_line(text, plain_word(*plain)),
+        Instruction::Plain(plain) => push_plain_line(text, *plain),
         Instruction::Constant(constant) => push_constant_line(text, constant),
-        Instruction::Local(word, local) => push_numbered(text, local_word(*word), *local),
+        Instruction::Local(local, number) => push_local_line(text, *local, *number),
         Instruction::Increment(local, by) => push_increment_line(text, *local, *by),
-        Instruction::Jump(jump, place) => push_jump_line(text, jump_word(*jump), *place),
+        Instruction::Jump(jump, place) => push_jump_line(text, *jump, *place),
         Instruction::TableSwitch(low, places, default) => push_table_switch(
             text, *low, places, *default,
         ),
         Instruction::LookupSwitch(cases, default) => push_lookup_switch(text, cases, *default),
-        Instruction::Field(access, field) => push_field_use(
-            alloc,
-            text,
-            field_word(*access),
-            field,
-        ),
-        Instruction::Call(call, method) => push_call(alloc, text, call_word(*call), method),
+        Instruction::Field(access, field) => push_field_use(alloc, text, *access, field),
+        Instruction::Call(call, method) => push_call(alloc, text, *call, method),
         Instruction::CallInterface(method) => push_interface_line(alloc, text, method),
         Instruction::New(class) => push_keyed(text, Keyword::New, class.as_slice()),
         Instruction::NewArray(base) => push_keyed(text, Keyword::NewArray, base_word(*base)),
         Instruction::TypeUse(type_use, reference) => push_type_use(
-            alloc,
-            text,
-            type_word(*type_use),
-            reference,
+            alloc, text, *type_use, reference,
         ),
     }
 }
