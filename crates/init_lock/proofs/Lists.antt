@@ -1,5 +1,5 @@
 -- Lists that change at one place, and lists that are mapped.
-use Rattle.std.proofs.Common.{◌≡◌, ◌≢◌, ℕ, suc, ◌+◌, ◌<◌, ◌⊎◌, inl, inr, ⊎_elim, List, [], ◌∷◌, ◌++◌, Bool, false, Option as Opt, Some, None, length, replicate, map, set, get_or, refl, sym, ap, ◌∙◌, arith, length-append, get_or-set_other}
+use Rattle.std.proofs.Common.{◌≡◌, ◌≢◌, ℕ, suc, ◌+◌, ◌<◌, ◌⊎◌, inl, inr, ⊎_elim, List, [], ◌∷◌, ◌++◌, Bool, true, false, Option as Opt, Some, None, length, replicate, map, set, get_or, refl, sym, ap, ◌∙◌, arith, length-append, get_or-set_other}
 use mathlib.Core.Logic.{dite}
 use mathlib.Core.Option.{some, some-injective, some-ne-none}
 use native.Mathlib.Decide.{ℕ_discrete}
@@ -15,6 +15,10 @@ low_index l m n e h = omega arith
 
 pub none_some : {A : Type 0} {a : A} → None ≡ Some a → ⊥
 none_some {A} {a} e = let h : Some a ≡ None = sym e in cc
+
+pub not_true : (b : Bool) → b ≡ false → b ≢ true
+not_true true f t = cc
+not_true false f t = cc
 
 abbrev or_this : {A : Type 0} → A → Opt A → A
 or_this y (Some z) = z

@@ -7,7 +7,7 @@ use native.Mathlib.Decide.{ℕ_discrete}
 use lib.ListN.{get_elem?}
 use lib.Seq.{set-get_or}
 use prog.Atomic.{either}
-use Rattle.atomic_table.specs.Table.{State, step, keeps, takes, gives, stepped, Allows}
+use Rattle.atomic_table.specs.Table.{State, step, keeps, takes, gives, rest, stepped, Allows}
 use Rattle.atomic_table.proofs.Lists.{set_else, set_here, set_again}
 use Rattle.init_lock.specs.declared.views.Setup.{Setup}
 use Rattle.init_lock.specs.declared.views.PassView.{PassView}
@@ -18,7 +18,7 @@ use Rattle.init_lock.specs.declared.journal.Stamped.{Stamped}
 use Rattle.init_lock.specs.Log.{Entry, entry, is_at, IsPlace, events_at, journal_of, own_events, AreBelow, AllAllowed, Grew, IsWithin, stamped, settled}
 use Rattle.init_lock.specs.Rule.{lock_word, done_word, element_at, place_view, FollowedBy, Knows, Fits, RuleHolds, AllSeen}
 use Rattle.init_lock.specs.Known.{look, seen_at, out_by}
-use Rattle.init_lock.specs.Steps.{restage, in_custody, took, missed, leave, released, extend, drew, Found, TakesLockAt, SeesLock, ParksSlotAt, FetchesSlotAt, FreesLockAt, DrawsStamp}
+use Rattle.init_lock.specs.Steps.{restage, in_custody, took, missed, leave, released, extend, drew, Found, TakesLockAt, SeesLock, ParksSlotAt, FetchesSlotAt, FreesLockAt, DrawsStamp, IsHolding}
 use Rattle.init_lock.proofs.Lists.{length_snoc, low_index, said_is, length-modify, modified, unmodified, some_at, at_low}
 use Rattle.init_lock.proofs.Logs.{bool_cases, events-append, settled-append, none-append, allowed-append, allowed_after, by_others, own_within, below, short}
 use Rattle.init_lock.proofs.Entries.{events_off, events_on, journal_off, journal_on, seen_on, seen_is, last_is, out_is, drawn_at, length-drawn}
@@ -208,8 +208,8 @@ module _ {R E : Type 0} (kept : R → List E) (may : ℕ → Opt ℕ → E → T
       }
 
   -- the lock is seen
-  pub sees_lock : (slots id : ℕ) (p : P) (n : ℕ) → Allows Rule slots id (p ∷ [], []) (lock_word n) (λ z. z) (SeesLock (step slots (lock_word n) 0 0 none) (p ∷ [], []))
-  sees_lock slots id p n s r wide at_id _ = dite (ℕ_discrete (word s n) 0)
+  pub sees_lock : (slots id : ℕ) (p : P) (cs : Cs) (n : ℕ) → Allows Rule slots id (p ∷ [], cs) (lock_word n) (λ z. z) (SeesLock (step slots (lock_word n) 0 0 none) (p ∷ [], cs))
+  sees_lock slots id p cs n s r wide at_id _ = dite (ℕ_discrete (word s n) 0)
       (λ hit. (
         p ∷ [],
         keeps,
@@ -226,13 +226,13 @@ module _ {R E : Type 0} (kept : R → List E) (may : ℕ → Opt ℕ → E → T
       ))
 
   -- the lock is tried
-  pub takes_lock : (slots id : ℕ) (p : P) (n : ℕ) → n < slots → Allows Rule slots id (p ∷ [], []) (lock_word n) (λ z. either (eqb z 0) (suc p.pass) z) (TakesLockAt kept may follows n (p ∷ [], []))
-  takes_lock slots id p n low s r wide at_id _ = let inside = inside_of s r slots n low wide in dite (ℕ_discrete (word s n) 0)
+  pub takes_lock : (slots id : ℕ) (p : P) (cs : Cs) (n : ℕ) → n < slots → Allows Rule slots id (p ∷ [], cs) (lock_word n) (λ z. either (eqb z 0) (suc p.pass) z) (TakesLockAt kept may follows n (p ∷ [], cs))
+  takes_lock slots id p cs n low s r wide at_id _ = let inside = inside_of s r slots n low wide in dite (ℕ_discrete (word s n) 0)
       (λ hit. let home = r.free n inside hit in let y : R = home.record_now in let w : P = took kept n y Carried p in (
         w ∷ [],
         takes n (Some y),
         home.home,
-        subst (λ (b : Bool). Rule (stepped s (lock_word n) (either b (suc p.pass) (word s n)) id [] (w ∷ []) (takes n (Some y)))) (sym (eq-eqb (word s n) 0 hit))
+        subst (λ (b : Bool). Rule (stepped s (lock_word n) (either b (suc p.pass) (word s n)) id cs (w ∷ []) (takes n (Some y)))) (sym (eq-eqb (word s n) 0 hit))
             (moved s r id p w n (suc p.pass) (set s.homes n none) y at_id refl refl refl (length-modify p.places n (λ t. place_view (kept y) y Carried)) (sees_all s r id p n (kept y) at_id home.keeps) inside (length-set s.homes n none) (λ m ne. set_else s.homes n m none ne)
             (inl hit) (inr refl) (subst (λ (z : Opt R). Follows z y) (sym home.is_now) (itself y))
             (λ m t ne e. unmodified p.places n m (λ t. place_view (kept y) y Carried) t ne e)
@@ -265,8 +265,8 @@ module _ {R E : Type 0} (kept : R → List E) (may : ℕ → Opt ℕ → E → T
   stays s r n y is = subst (λ (z : Opt R). Follows z y) (sym is) (itself y)
 
   -- the slot goes home empty
-  pub parks : (slots id : ℕ) (p : P) (n : ℕ) → n < slots → Has Carried p n → Allows Rule slots id (p ∷ [], (n, None) ∷ []) (lock_word n) (λ z. z) (ParksSlotAt n (p ∷ [], (n, None) ∷ []))
-  parks slots id p n low has s r wide at_id _ = let inside = inside_of s r slots n low wide in let w : P = in_custody n Held p in
+  pub parks : (slots id : ℕ) (p : P) (cs : Cs) (n : ℕ) → n < slots → Has Carried p n → Allows Rule slots id (p ∷ [], (n, None) ∷ cs) (lock_word n) (λ z. z) (ParksSlotAt n (p ∷ [], (n, None) ∷ cs))
+  parks slots id p cs n low has s r wide at_id _ = let inside = inside_of s r slots n low wide in let w : P = in_custody n Held p in
       let h = known s r id p n has.0 has.0 Carried at_id has.1 has.2 has.1 in let y : R = has.0.last in (
         w ∷ [],
         gives,
@@ -281,8 +281,8 @@ module _ {R E : Type 0} (kept : R → List E) (may : ℕ → Opt ℕ → E → T
       )
 
   -- the empty slot comes out again
-  pub fetches : (slots id : ℕ) (p : P) (n : ℕ) → n < slots → Has Held p n → Allows Rule slots id (p ∷ [], []) (lock_word n) (λ z. z) (FetchesSlotAt n (p ∷ [], []))
-  fetches slots id p n low has s r wide at_id _ = let inside = inside_of s r slots n low wide in let w : P = in_custody n Carried p in
+  pub fetches : (slots id : ℕ) (p : P) (cs : Cs) (n : ℕ) → n < slots → Has Held p n → Allows Rule slots id (p ∷ [], cs) (lock_word n) (λ z. z) (FetchesSlotAt n (p ∷ [], cs))
+  fetches slots id p cs n low has s r wide at_id _ = let inside = inside_of s r slots n low wide in let w : P = in_custody n Carried p in
       let h = known s r id p n has.0 has.0 Held at_id has.1 has.2 has.1 in let y : R = has.0.last in (
         w ∷ [],
         takes n None,
@@ -297,9 +297,9 @@ module _ {R E : Type 0} (kept : R → List E) (may : ℕ → Opt ℕ → E → T
       )
 
   -- the record goes home, and the lock is free
-  pub frees : (slots id : ℕ) (p : P) (n : ℕ) (y : R) → n < slots → (t : PlaceView R E) → get_elem? p.places n ≡ some t → t.custody ≡ Carried → kept y ≡ t.seen → follows t.last y
-      → Allows Rule slots id (p ∷ [], (n, Some y) ∷ []) (lock_word n) (λ _. 0) (λ _. FreesLockAt n (p ∷ [], (n, Some y) ∷ []) 0)
-  frees slots id p n y low t there is all f s r wide at_id _ = let inside = inside_of s r slots n low wide in let w : P = released n y p in
+  pub frees : (slots id : ℕ) (p : P) (cs : Cs) (n : ℕ) (y : R) → n < slots → (t : PlaceView R E) → get_elem? p.places n ≡ some t → t.custody ≡ Carried → kept y ≡ t.seen → follows t.last y
+      → Allows Rule slots id (p ∷ [], (n, Some y) ∷ cs) (lock_word n) (λ _. 0) (λ _. FreesLockAt n (p ∷ [], (n, Some y) ∷ cs) 0)
+  frees slots id p cs n y low t there is all f s r wide at_id _ = let inside = inside_of s r slots n low wide in let w : P = released n y p in
       let h = known s r id p n t t Carried at_id there is there in (
         w ∷ [],
         gives,
@@ -311,7 +311,7 @@ module _ {R E : Type 0} (kept : R → List E) (may : ℕ → Opt ℕ → E → T
             subst (λ (v : PlaceView R E). K v.custody 0 (get_elem? (set s.homes n (some (Some y))) n) r.log (Some y) p.pass n v) a.2
             ((λ e. absurd (omega arith)), record { before = r.log; after = []; parts = sym (append-nil r.log); all = b.1; none_since = tt }, itself y))
             (λ _. (set_here s.homes n (some (Some y)) inside, all ∙ h.1)),
-        λ y' same. ap (λ (z : R). (released n z p ∷ [], [])) (said_is y y' (ap (first_of y) same)),
+        λ y' others same. (λ i. (released n (said_is y y' (ap (first_of y) same) i) p ∷ [], rest (same i))),
       )
 
   -- one more event leaves what is known of a place, where it isn't the pass's own there, and the pass doesn't have the place if it stands there
@@ -322,8 +322,24 @@ module _ {R E : Type 0} (kept : R → List E) (may : ℕ → Opt ℕ → E → T
   drawing Carried wd home log now q n t e own_elsewhere away h = (h.0, h.1 ∙ sym (events_off n e log (⊎_elim (λ there_is. absurd (away there_is h.0)) (λ not. not) (bool_cases (is_at n e.place)))), h.2)
   drawing Held wd home log now q n t e own_elsewhere away h = (h.0, h.1 ∙ sym (events_off n e log (⊎_elim (λ there_is. absurd (away there_is h.0)) (λ not. not) (bool_cases (is_at n e.place)))), h.2, h.3)
 
+  -- a pass that has the record of a place has its lock
+  has_lock : (st : Custody) (wd : ℕ) (home : Option (Option (Opt R))) (log : List (Entry E)) (now : Opt R) (q n : ℕ) (t : PlaceView R E) → st ≢ Away → K st wd home log now q n t → wd ≡ suc q
+  has_lock Away wd home log now q n t out h = absurd (out refl)
+  has_lock Carried wd home log now q n t out h = h.0
+  has_lock Held wd home log now q n t out h = h.0
+
+  -- one more event at a place whose record the pass has
+  drawing_here : (st : Custody) (wd : ℕ) (home : Option (Option (Opt R))) (log : List (Entry E)) (now : Opt R) (q n : ℕ) (t : PlaceView R E) (e : Entry E)
+      → st ≢ Away → is_at n e.place ≡ true → K st wd home log now q n t → K st wd home (log ++ e ∷ []) now q n (extend e.event t)
+  drawing_here Away wd home log now q n t e out here h = absurd (out refl)
+  drawing_here Carried wd home log now q n t e out here h = (h.0, ap (λ (z : List E). z ++ e.event ∷ []) h.1 ∙ sym (events_on n e log here), h.2)
+  drawing_here Held wd home log now q n t e out here h = (h.0, ap (λ (z : List E). z ++ e.event ∷ []) h.1 ∙ sym (events_on n e log here), h.2, h.3)
+
+  abbrev pub HasRecord : P → ℕ → Type 0
+  HasRecord p n = IsHolding n p.places
+
   -- the place of an event whose record the pass has is one of the table's
-  has_place : (p : P) (places : ℕ) (place : Opt ℕ) → length p.places ≡ places → ((n : ℕ) → is_at n place ≡ true → Has Held p n) → IsPlace places place
+  has_place : (p : P) (places : ℕ) (place : Opt ℕ) → length p.places ≡ places → ((n : ℕ) → is_at n place ≡ true → HasRecord p n) → IsPlace places place
   has_place p places None wide has = tt
   has_place p places (Some n) wide has = let h = has n (eq-eqb n n refl) in let l = at_low p.places n h.0 h.1 in omega arith
 
@@ -337,7 +353,7 @@ module _ {R E : Type 0} (kept : R → List E) (may : ℕ → Opt ℕ → E → T
   -- the rule after an event is drawn
   drawn_rule : (s : St) (r : Rule s) (id : ℕ) (p : P) (place : Opt ℕ) (event : E) (x : ℕ) → get_elem? s.views id ≡ some (p ∷ []) → x ≡ suc (length r.log)
       → AllAllowed setup.threads (length s.homes) may (r.log ++ entry p.pass place event ∷ []) → ((by : ℕ) → length (journal_of by 0 (r.log ++ entry p.pass place event ∷ [])) ≤ 2 ^ 58)
-      → ((n : ℕ) → is_at n place ≡ true → Has Held p n)
+      → ((n : ℕ) → is_at n place ≡ true → HasRecord p n)
       → Rule record { words = set s.words 0 x; homes = s.homes; views = set s.views id (drew place event (length r.log) p ∷ []) }
   drawn_rule s r id p place event x at_id up allowed bounded has =
       let wide = r.wide in
@@ -345,7 +361,7 @@ module _ {R E : Type 0} (kept : R → List E) (may : ℕ → Opt ℕ → E → T
       let w : P = drew place event (length r.log) p in
       let there : (m : ℕ) → get_or (set s.words 0 x) (lock_word m) 0 ≡ word s m = λ m. get_or-set_other s.words 0 (lock_word m) x 0 (λ e. omega arith) in
       let my = (r.each id (p ∷ []) at_id).0 in
-      let have : (n : ℕ) → is_at n place ≡ true → word s n ≡ suc p.pass = λ n there_is. let h = has n there_is in (known s r id p n h.0 h.0 Held at_id h.1 h.2 h.1).0 in
+      let have : (n : ℕ) → is_at n place ≡ true → word s n ≡ suc p.pass = λ n there_is. let h = has n there_is in has_lock h.0.custody (word s n) (get_elem? s.homes n) r.log (r.now n) p.pass n h.0 h.2 (my.places n h.0 h.1) in
       let Old : P → Type 0 = Fits kept may follows setup.threads s.words s.homes r.log r.now in
       let New : P → Type 0 = Fits kept may follows setup.threads (set s.words 0 x) s.homes (r.log ++ e ∷ []) r.now in
       let keep : (q : P) → q.pass ≢ p.pass → Old q → New q = λ q apart o. record {
@@ -362,11 +378,9 @@ module _ {R E : Type 0} (kept : R → List E) (may : ℕ → Opt ℕ → E → T
         drawn = ap (λ (z : List (Stamped E)). z ++ stamped (length r.log) place event ∷ []) my.drawn ∙ sym (journal_on p.pass e r.log refl);
         places = λ m t at_m. subst (λ (z : ℕ). K t.custody z (get_elem? s.homes m) (r.log ++ e ∷ []) (r.now m) p.pass m t) (sym (there m)) (⊎_elim
             (λ h. drawing t.custody (word s m) (get_elem? s.homes m) r.log (r.now m) p.pass m t e (λ _. h.0) (λ there_is. absurd (bool_apart (is_at m place) there_is h.0)) (my.places m t h.1))
-            (λ h. let k = has m h.0 in let b = known s r id p m k.0 h.1 Held at_id k.1 k.2 h.2 in let u : PlaceView R E = h.1 in
-            let same_custody : u.custody ≡ Held = ap (λ (z : PlaceView R E). z.custody) (some-injective h.1 k.0 (sym h.2 ∙ k.1)) ∙ k.2 in
+            (λ h. let k = has m h.0 in let out = k.2 in let u : PlaceView R E = h.1 in
             subst (λ (v : PlaceView R E). K v.custody (word s m) (get_elem? s.homes m) (r.log ++ e ∷ []) (r.now m) p.pass m v) h.3
-            (subst (λ (z : Custody). K z (word s m) (get_elem? s.homes m) (r.log ++ e ∷ []) (r.now m) p.pass m (extend event u)) (sym same_custody)
-            (b.0, ap (λ (z : List E). z ++ event ∷ []) b.1 ∙ sym (events_on m e r.log h.0), b.2, b.3)))
+            (drawing_here u.custody (word s m) (get_elem? s.homes m) r.log (r.now m) p.pass m u e (λ away. out (ap (λ (z : PlaceView R E). z.custody) (some-injective k.0 h.1 (sym k.1 ∙ h.2)) ∙ away)) h.0 (my.places m u h.2)))
             (drawn_at place event p.places m t at_m));
         wide = length-drawn place event p.places ∙ my.wide;
         began = my.began;
@@ -388,9 +402,9 @@ module _ {R E : Type 0} (kept : R → List E) (may : ℕ → Opt ℕ → E → T
       }
 
   -- a stamp is drawn
-  pub draws : (slots id : ℕ) (p : P) (place : Opt ℕ) (event : E) → may p.pass place event → length p.journal < 2 ^ 58 → ((n : ℕ) → is_at n place ≡ true → Has Held p n)
-      → Allows Rule slots id (p ∷ [], []) 0 (λ z. (z + 1) % 2 ^ 64) (DrawsStamp place event (step slots 0 1 0 none) (p ∷ [], []))
-  draws slots id p place event may_draw room has s r wide at_id _ =
+  pub draws : (slots id : ℕ) (p : P) (cs : Cs) (place : Opt ℕ) (event : E) → may p.pass place event → length p.journal < 2 ^ 58 → ((n : ℕ) → is_at n place ≡ true → HasRecord p n)
+      → Allows Rule slots id (p ∷ [], cs) 0 (λ z. (z + 1) % 2 ^ 64) (DrawsStamp place event (step slots 0 1 0 none) (p ∷ [], cs))
+  draws slots id p cs place event may_draw room has s r wide at_id _ =
       let my = (r.each id (p ∷ []) at_id).0 in
       let e : Entry E = entry p.pass place event in
       let found : ℕ = get_or s.words 0 0 in

@@ -1,6 +1,5 @@
 -- What each atomic step tells the pass that makes it.
-use Rattle.std.specs.Prelude.{◌≡◌, ◌≢◌, ℕ, suc, ◌+◌, ◌^◌, ◌<◌, ◌≤◌, List, [], ◌∷◌, ◌++◌, Option as Opt, Some, None, map, length}
-use Rattle.std.specs.List.{AllByRecursion}
+use Rattle.std.specs.Prelude.{◌≡◌, ◌≢◌, ℕ, suc, ◌+◌, ◌^◌, ◌<◌, ◌≤◌, List, [], ◌∷◌, ◌++◌, cond, true, Option as Opt, Some, None, map, length}
 use mathlib.Core.Option.{some}
 use lib.ListN.{get_elem?}
 use Rattle.atomic_table.specs.Table.{Me, Step, rest}
@@ -9,7 +8,7 @@ use Rattle.init_lock.specs.declared.views.PlaceView.{PlaceView}
 use Rattle.init_lock.specs.declared.views.Custody.{Custody}
 use Rattle.init_lock.specs.declared.views.Custody.TheVariants.{Away, Carried, Held}
 use Rattle.init_lock.specs.declared.journal.Stamped.{Stamped}
-use Rattle.init_lock.specs.Log.{Grew, IsWithin, own_events, AreBelow, stamped}
+use Rattle.init_lock.specs.Log.{is_at, IsPlace, Grew, IsWithin, own_events, AreBelow, stamped}
 use Rattle.init_lock.specs.Rule.{place_view, pass_view, Each, element_at, place_of_word}
 use Rattle.init_lock.specs.Known.{look, seen_at, out_of, last_at, places_of, misses_of, looks_of, opening_of}
 
@@ -17,6 +16,21 @@ abbrev pub modify : {A : Type 0} → ℕ → (A → A) → List A → List A
 modify n f [] = []
 modify Prim.Native.Nat.zero f (x ∷ xs) = f x ∷ xs
 modify (suc n) f (x ∷ xs) = x ∷ modify n f xs
+
+-- the place whose slot a seat carries once that of the place n has gone home
+abbrev pub without : ℕ → Opt ℕ → Opt ℕ
+without n carried = cond (is_at n carried) None carried
+
+-- where the slot of a record that was taken goes: home, where the seat carries another
+abbrev pub custody_beside : Opt ℕ → Custody
+custody_beside None = Carried
+custody_beside (Some m) = Held
+
+module _ {R : Type 0} where
+  -- the slots that a seat carries: that of one place, empty, or none
+  abbrev pub slots_of : Opt ℕ → List (ℕ × Opt R)
+  slots_of None = []
+  slots_of (Some n) = (n, None) ∷ []
 
 -- a seat of the table: the views of its passes, and the slots that it carries
 abbrev pub SeatView : Type 0 → Type 0 → Type 0
@@ -94,7 +108,7 @@ module _ {R E : Type 0} where
 
   -- the lock word is freed, with the record in its slot
   abbrev pub FreesLockAt : ℕ → SeatView R E → ℕ → SeatView R E → Type 0
-  FreesLockAt n v found w = (r : R) → v.1 ≡ (n, Some r) ∷ [] → w ≡ (map (released n r) v.0, [])
+  FreesLockAt n v found w = (r : R) (others : List (ℕ × Opt R)) → v.1 ≡ (n, Some r) ∷ others → w ≡ (map (released n r) v.0, others)
 
   abbrev pub FreesLock : Step (Opt R) → SeatView R E → ℕ → SeatView R E → Type 0
   FreesLock s v found w = FreesLockAt (place_of_word s.word) v found w
@@ -111,29 +125,45 @@ module _ {R E : Type 0} where
   abbrev pub view_of : ℕ → List (Stamped E) → List (PassView R E) → List (PassView R E)
   view_of pass journal v = pass_view pass (misses_of v) journal (looks_of v) (opening_of v) (places_of v) ∷ []
 
-  -- the seat has the pass of the number alone, and carries no slot
-  pub record IsOnePass (number : ℕ) (me : SeatView R E) : Type 0 where
+  -- the one slot that the seat carries is that of this place
+  abbrev pub IsCarried : Opt ℕ → List (PlaceView R E) → Type 0
+  IsCarried carried places = (n : ℕ) (t : PlaceView R E) → get_elem? places n ≡ some t → (t.custody ≡ Carried → is_at n carried ≡ true) × (is_at n carried ≡ true → t.custody ≡ Carried)
+
+  -- the seat has the pass of the number alone, and carries this slot
+  pub record IsOnePass (number : ℕ) (carried : Opt ℕ) (me : SeatView R E) : Type 0 where
     pub pass : PassView R E
-    pub is : me ≡ (pass ∷ [], [])
+    pub is : me ≡ (pass ∷ [], slots_of carried)
     pub numbered : pass.pass ≡ number
 
-  -- the seat has one pass, and this pass has the record of the place, which may go back as this one
-  pub record MayReturn (kept : R → List E) (may : ℕ → Opt ℕ → E → Type 0) (follows : R → R → Type 0) (n : ℕ) (r : R) (me : SeatView R E) : Type 0 where
+  -- the seat has one pass, which has just taken the record of the place
+  pub record JustTook (kept : R → List E) (carried : Opt ℕ) (n : ℕ) (r : R) (me : SeatView R E) : Type 0 where
     pub pass : PassView R E
-    pub is : me ≡ (pass ∷ [], [])
+    pub is : me ≡ (took kept n r Carried pass ∷ [], (n, None) ∷ slots_of carried)
+    pub inside : n < length pass.places
+
+  -- the seat has one pass, and this pass has the record of the place
+  pub record HasOut (carried : Opt ℕ) (n : ℕ) (me : SeatView R E) : Type 0 where
+    pub pass : PassView R E
+    pub is : me ≡ (pass ∷ [], slots_of carried)
+    pub is_carried : IsCarried carried pass.places
     pub place : PlaceView R E
     pub there : get_elem? pass.places n ≡ some place
-    pub held : place.custody ≡ Held
-    pub keeps : kept r ≡ place.seen
-    pub follows_last : follows place.last r
+    pub out : place.custody ≢ Away
 
-  -- what is true of each pass between two calls: its seat has its one view and carries no slot, its journal leaves the stamps below 2 ^ 62, and it knows of each place of the table
-  pub record PassHolds (slots number : ℕ) (journal : List (Stamped E)) (room : ℕ) (me : SeatView R E) : Type 0 where
-    pub tied : me ≡ (view_of number journal me.0, [])
+  -- the record of the place may go back as this one
+  pub record MayReturn (kept : R → List E) (may : ℕ → Opt ℕ → E → Type 0) (follows : R → R → Type 0) (carried : Opt ℕ) (n : ℕ) (r : R) (me : SeatView R E) : Type 0 where
+    pub has : HasOut carried n me
+    pub keeps : kept r ≡ has.place.seen
+    pub follows_last : follows has.place.last r
+
+  -- what is true of each pass between two calls: its seat has its one view and carries this slot, its journal leaves the stamps below 2 ^ 62, and it knows of each place of the table
+  pub record PassHolds (slots number : ℕ) (carried : Opt ℕ) (journal : List (Stamped E)) (room : ℕ) (me : SeatView R E) : Type 0 where
+    pub tied : me ≡ (view_of number journal me.0, slots_of carried)
     pub low : number < 16
     pub short : length journal + room ≤ 2 ^ 58
     pub wide : length (places_of me.0) ≡ slots
-    pub none_carried : AllByRecursion (λ t. t.custody ≢ Carried) (places_of me.0)
+    pub inside : IsPlace slots carried
+    pub is_carried : IsCarried carried (places_of me.0)
 
   abbrev pub but_first : List (PassView R E) → List (PassView R E)
   but_first [] = []
@@ -145,7 +175,7 @@ module _ {R E : Type 0} where
 
   -- the pass has the record of the place
   abbrev pub IsHolding : ℕ → List (PlaceView R E) → Type 0
-  IsHolding n places = (t : PlaceView R E) × (get_elem? places n ≡ some t) × (t.custody ≡ Held)
+  IsHolding n places = (t : PlaceView R E) × (get_elem? places n ≡ some t) × (t.custody ≢ Away)
 
   -- the pass has the record of the event's place, if it has one
   abbrev pub IsHoldingAt : Opt ℕ → List (PlaceView R E) → Type 0

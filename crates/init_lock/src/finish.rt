@@ -66,6 +66,7 @@ fn gather<R: Keeps>(
     journals: &mut Vec<Journal<R::Event>>,
 )
     requires table { (seat.old.table_id ≡ shared.now.table_id) × (0 < shared.now.table_id.words) × AllByRecursion (λ p. p.table ≡ shared.now.table_id) passes.items }
+    requires away { AllByRecursion (λ p. IsAway p.places) passes.items }
     requires new { seat.old.me ≡ ([], []) }
     requires room { (vec_len journals.old ≡ 0) × (vec_len passes ≤ vec_capacity journals.old) }
     ensures table { (seat.new.table_id ≡ seat.old.table_id) × (seat.new.id ≡ seat.old.id) }
@@ -76,6 +77,7 @@ fn gather<R: Keeps>(
         let Pass {
             seat: other,
             number: _,
+            carried: _,
             journal,
         } = pass;
         shared.join_seat::<OnePass>(seat, other);

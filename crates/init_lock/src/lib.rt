@@ -43,7 +43,7 @@
 //! |---|---|---|
 //! | the lock is tried | lock word, 0 to p + 1 by one exchange | if it was 0: it has the record, and all that stands there; else one miss more |
 //! | the lock is seen | lock word, read | if it was taken: one miss more |
-//! | the empty slot is parked or fetched | lock word, read | the same |
+//! | the empty slot of a further record is parked or fetched | lock word, read | the same |
 //! | a stamp is drawn | counter, plus one | its journal and, for an event with a place, the list there are longer by one |
 //! | the lock is freed | lock word, to 0 | it has seen the list that the record keeps now |
 //!
@@ -52,9 +52,10 @@
 //! the pass that has the record, while it isn't free. Rule 5 holds for another pass because nothing is drawn at a
 //! place under that pass's number but by itself.
 //!
-//! A stamp takes one `fetch_add`, a try of a lock one exchange. No lock goes round several records, and drawing, trying,
-//! giving back and ending neither wait nor take memory: [`Pass::reserve`] makes the journal's room beforehand. Only
-//! [`InitTable::take`] may wait, and it is the single try again and again.
+//! A stamp takes one `fetch_add`, a try of a lock one exchange, and giving back one store. A pass carries the empty slot of
+//! the first record that it has; only for further ones it makes two loads more. No lock goes round several records, and
+//! drawing, trying, giving back and ending neither wait nor take memory: [`Pass::reserve`] makes the journal's room
+//! beforehand. Only [`InitTable::take`] may wait, and it is the single try again and again.
 //!
 //! # What is not promised
 //!

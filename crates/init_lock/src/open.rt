@@ -134,6 +134,7 @@ fn deal<R: Keeps>(
         passes.push(Pass {
             seat: own,
             number,
+            carried: None,
             journal: CachePadded::new(Journal::new(alloc)),
         })?;
     }

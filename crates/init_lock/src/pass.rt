@@ -24,6 +24,9 @@ const MOST_EVENTS: usize = 1 << 58;
 pub struct Pass<R: Keeps> {
     pub(crate) seat: Seat<Option<Block<R>>, View<R, R::Event>>,
     pub(crate) number: usize,
+    // The place whose slot the seat carries, empty, between taking its record and giving it back. A pass that has several
+    // records carries the slot of the first, and the others' stand at home: only for these it makes steps of their own.
+    pub(crate) carried: Option<usize>,
     // All passes are made side by side in one `Vec`, and each thread writes to the length and the room of its own
     // journal at every draw. The padding keeps two of them off one cache line, wherever the passes lie.
     pub(crate) journal: CachePadded<Journal<R::Event>>,
@@ -38,7 +41,7 @@ impl<R: Keeps> Model for Pass<R> {
 
     ghost view = { λ p. record { table = p.seat.table_id; number = p.number; misses = misses_of p.seat.me.0; journal = (padded_value p.journal).events; room = (padded_value p.journal).room; looks = looks_of p.seat.me.0; opening = opening_of p.seat.me.0; places = places_of p.seat.me.0 } };
 
-    ghost invariant = { λ p. PassHolds p.seat.table_id.slots p.number (padded_value p.journal).events (padded_value p.journal).room p.seat.me };
+    ghost invariant = { λ p. PassHolds p.seat.table_id.slots p.number p.carried (padded_value p.journal).events (padded_value p.journal).room p.seat.me };
 }
 
 impl<R: Keeps> Pass<R> {

@@ -44,7 +44,7 @@ impl<R, E> Play<Option<Block<R>>, View<R, E>> for SeeLock {
     ghost then = { SeesLock };
 }
 
-// The slot goes home empty, so that the pass may take another.
+// The slot goes home empty, where the pass carries another.
 pub(crate) struct ParkSlot;
 
 impl<R, E> Play<Option<Block<R>>, View<R, E>> for ParkSlot {

@@ -1,12 +1,14 @@
 //! The steps of a seat that has one pass: what a try of a lock and a giving back are made of.
-ghost use Rattle.std.specs.Prelude.{◌≡◌, ℕ, ◌+◌, ◌*◌, ◌^◌, ◌<◌, ◌≤◌, [], ◌∷◌, map, IfSome, IfNone, MatchBool};
+ghost use Rattle.std.specs.Prelude.{◌≡◌, ℕ, ◌+◌, ◌*◌, ◌^◌, ◌<◌, ◌≤◌, ◌∷◌, map, Some, None, IfSome, IfNone, MatchBool};
+ghost use Rattle.std.specs.Option.{option_or};
 ghost use mathlib.Core.Option.{some};
 ghost use lib.ListN.{get_elem?};
-ghost use Rattle.init_lock.specs.declared.views.Custody.TheVariants.{Held};
+ghost use Rattle.init_lock.specs.declared.views.Custody.TheVariants.{Carried};
 ghost use Rattle.init_lock.specs.declared.views.PlaceView.{PlaceView};
 ghost use Rattle.init_lock.specs.Rule.{Each};
 ghost use Rattle.init_lock.specs.Known.{places_of};
-ghost use Rattle.init_lock.specs.Steps.{Found, IsOnePass, MayReturn, took, missed, released};
+ghost use Rattle.init_lock.specs.Log.{is_at};
+ghost use Rattle.init_lock.specs.Steps.{Found, IsOnePass, JustTook, HasOut, MayReturn, in_custody, custody_beside, slots_of, without as without_place, took, missed, released};
 
 use crate::block::Block;
 use crate::keeps::Keeps;
@@ -28,30 +30,91 @@ pub(crate) fn see<R: Keeps>(
     shared: &Shared<Option<Block<R>>, View<R, R::Event>, Setup<R>, LockRule<R>>,
     seat: &mut Seat<Option<Block<R>>, View<R, R::Event>>,
     _number: usize,
+    _carried: Option<usize>,
     place: usize,
 ) -> bool
     requires table { seat.old.table_id ≡ shared.now.table_id }
     requires place { (place < shared.now.table_id.slots) × (shared.now.table_id.words ≡ shared.now.table_id.slots * 8 + 8) × (shared.now.table_id.slots < 2 ^ 58) }
-    requires pass { IsOnePass _number seat.old.me }
+    requires pass { IsOnePass _number _carried seat.old.me }
     ensures table { (seat.new.table_id ≡ seat.old.table_id) × (seat.new.id ≡ seat.old.id) }
-    ensures seat { MatchBool result (seat.new.me ≡ seat.old.me) (seat.new.me ≡ (map missed seat.old.me.0, [])) }
+    ensures seat { MatchBool result (seat.new.me ≡ seat.old.me) (seat.new.me ≡ (map missed seat.old.me.0, seat.old.me.1)) }
 {
     shared.load::<SeeLock>(seat, lock_word(place)) == 0
 }
 
-/// Tries the lock of a place once, and takes its record out of the slot. The slot stays in the table, empty.
+/// Whether the slot that the seat carries is that of this place.
+fn is_carried(carried: Option<usize>, place: usize) -> bool
+    ensures { result ≡ is_at place carried }
+{
+    match carried {
+        Some(other) => other == place,
+        None => false,
+    }
+}
+
+/// The place whose slot the seat carries once that of a place has gone home.
+pub(crate) fn without(carried: Option<usize>, place: usize) -> Option<usize>
+    ensures { result ≡ without_place place carried }
+{
+    if is_carried(carried, place) {
+        None
+    } else {
+        carried
+    }
+}
+
+// Where the seat carries another slot beside that of a record just taken, this one goes home, empty.
+fn park<R: Keeps>(
+    shared: &Shared<Option<Block<R>>, View<R, R::Event>, Setup<R>, LockRule<R>>,
+    seat: &mut Seat<Option<Block<R>>, View<R, R::Event>>,
+    carried: Option<usize>,
+    place: usize,
+    _taken: &Block<R>,
+)
+    requires table { seat.old.table_id ≡ shared.now.table_id }
+    requires place { (place < shared.now.table_id.slots) × (shared.now.table_id.words ≡ shared.now.table_id.slots * 8 + 8) × (shared.now.table_id.slots < 2 ^ 58) }
+    requires taken { JustTook R.kept carried place _taken.now seat.old.me }
+    ensures table { (seat.new.table_id ≡ seat.old.table_id) × (seat.new.id ≡ seat.old.id) }
+    ensures parked { seat.new.me ≡ (map (in_custody place (custody_beside carried)) seat.old.me.0, slots_of (option_or carried (Some place))) }
+{
+    if carried.is_some() {
+        shared.load::<ParkSlot>(seat, lock_word(place));
+    }
+}
+
+// The empty slot of a record that the pass has comes to the seat, where it isn't there.
+fn fetch<R: Keeps>(
+    shared: &Shared<Option<Block<R>>, View<R, R::Event>, Setup<R>, LockRule<R>>,
+    seat: &mut Seat<Option<Block<R>>, View<R, R::Event>>,
+    carried: Option<usize>,
+    place: usize,
+)
+    requires table { seat.old.table_id ≡ shared.now.table_id }
+    requires place { (place < shared.now.table_id.slots) × (shared.now.table_id.words ≡ shared.now.table_id.slots * 8 + 8) × (shared.now.table_id.slots < 2 ^ 58) }
+    requires out { HasOut carried place seat.old.me }
+    ensures table { (seat.new.table_id ≡ seat.old.table_id) × (seat.new.id ≡ seat.old.id) }
+    ensures fetched { seat.new.me ≡ (map (in_custody place Carried) seat.old.me.0, (place, None) ∷ slots_of (without_place place carried)) }
+{
+    if !is_carried(carried, place) {
+        shared.load::<FetchSlot>(seat, lock_word(place));
+    }
+}
+
+/// Tries the lock of a place once, and takes its record out of the slot. The seat carries on the slot, empty, unless it
+/// carries another.
 pub(crate) fn take_out<R: Keeps>(
     shared: &Shared<Option<Block<R>>, View<R, R::Event>, Setup<R>, LockRule<R>>,
     seat: &mut Seat<Option<Block<R>>, View<R, R::Event>>,
     number: usize,
+    carried: Option<usize>,
     place: usize,
 ) -> Option<Block<R>>
     requires table { seat.old.table_id ≡ shared.now.table_id }
     requires place { (place < shared.now.table_id.slots) × (shared.now.table_id.words ≡ shared.now.table_id.slots * 8 + 8) × (shared.now.table_id.slots < 2 ^ 58) }
-    requires pass { (number < 16) × IsOnePass number seat.old.me }
+    requires pass { (number < 16) × IsOnePass number carried seat.old.me }
     ensures table { (seat.new.table_id ≡ seat.old.table_id) × (seat.new.id ≡ seat.old.id) }
-    ensures some { IfSome result (λ r. (seat.new.me ≡ (map (took R.kept place r Held) seat.old.me.0, [])) × Each (Found R.kept R.may_draw R.follows place r) seat.old.me.0) }
-    ensures none { IfNone result (seat.new.me ≡ (map missed seat.old.me.0, [])) }
+    ensures some { IfSome result (λ r. (seat.new.me ≡ (map (took R.kept place r (custody_beside carried)) seat.old.me.0, slots_of (option_or carried (Some place)))) × Each (Found R.kept R.may_draw R.follows place r) seat.old.me.0) }
+    ensures none { IfNone result (seat.new.me ≡ (map missed seat.old.me.0, seat.old.me.1)) }
 {
     // A lock word is 0 while the lock is free, and one more than the pass's number while a pass has it.
     let word = lock_word(place);
@@ -62,7 +125,7 @@ pub(crate) fn take_out<R: Keeps>(
     let Some(block) = shared.exchange(seat, place, None) else {
         unreachable!()
     };
-    shared.load::<ParkSlot>(seat, word);
+    park(shared, seat, carried, place, &block);
     Some(block)
 }
 
@@ -70,18 +133,18 @@ pub(crate) fn take_out<R: Keeps>(
 pub(crate) fn put_back<R: Keeps>(
     shared: &Shared<Option<Block<R>>, View<R, R::Event>, Setup<R>, LockRule<R>>,
     seat: &mut Seat<Option<Block<R>>, View<R, R::Event>>,
+    carried: Option<usize>,
     place: usize,
     back: Block<R>,
 )
     requires table { seat.old.table_id ≡ shared.now.table_id }
     requires place { (place < shared.now.table_id.slots) × (shared.now.table_id.words ≡ shared.now.table_id.slots * 8 + 8) × (shared.now.table_id.slots < 2 ^ 58) }
-    requires held { MayReturn R.kept R.may_draw R.follows place back seat.old.me }
+    requires held { MayReturn R.kept R.may_draw R.follows carried place back seat.old.me }
     ensures table { (seat.new.table_id ≡ seat.old.table_id) × (seat.new.id ≡ seat.old.id) }
-    ensures freed { seat.new.me ≡ (map (released place back) seat.old.me.0, []) }
+    ensures freed { seat.new.me ≡ (map (released place back) seat.old.me.0, slots_of (without_place place carried)) }
 {
-    let word = lock_word(place);
-    shared.load::<FetchSlot>(seat, word);
+    fetch(shared, seat, carried, place);
     let empty = shared.exchange(seat, place, Some(back));
     let None = empty else { unreachable!() };
-    shared.store::<FreeLock>(seat, word, 0);
+    shared.store::<FreeLock>(seat, lock_word(place), 0);
 }

@@ -9,7 +9,7 @@ use crate::journal::Journal;
 use crate::keeps::Keeps;
 use crate::pass::{Held, Pass};
 use crate::rule::{LockRule, View};
-use crate::seat::{put_back, see, take_out};
+use crate::seat::{put_back, see, take_out, without};
 use crate::views::Setup;
 use atomic_table::Table;
 use std::alloc::Global;
@@ -71,9 +71,14 @@ impl<R: Keeps> InitTable<R> {
         ensures holding { IsAway pass.old.places → IfSome result (λ h. IsAwayBut place pass.new.places) }
         ensures none { IfNone result (pass.new ≡ record pass.old { misses = pass.old.misses + 1 }) }
     {
-        let Some(block) = take_out(&self.table.shared, &mut pass.seat, pass.number, place) else {
-            return None;
-        };
+        let block = take_out(
+            &self.table.shared,
+            &mut pass.seat,
+            pass.number,
+            pass.carried,
+            place,
+        )?;
+        pass.carried = pass.carried.or(Some(place));
         let taken = Snapshot::of(&block);
         Some(Held {
             block,
@@ -88,7 +93,13 @@ impl<R: Keeps> InitTable<R> {
         requires place { place < self.now.places }
         ensures { MatchBool result (pass.new ≡ pass.old) (pass.new ≡ record pass.old { misses = pass.old.misses + 1 }) }
     {
-        see(&self.table.shared, &mut pass.seat, pass.number, place)
+        see(
+            &self.table.shared,
+            &mut pass.seat,
+            pass.number,
+            pass.carried,
+            place,
+        )
     }
 
     /// Gives a record back and frees its lock, with no memory.
@@ -117,6 +128,13 @@ impl<R: Keeps> InitTable<R> {
             place,
             taken: _,
         } = held;
-        put_back(&self.table.shared, &mut pass.seat, place, block);
+        put_back(
+            &self.table.shared,
+            &mut pass.seat,
+            pass.carried,
+            place,
+            block,
+        );
+        pass.carried = without(pass.carried, place);
     }
 }

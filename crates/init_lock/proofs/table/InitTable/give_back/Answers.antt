@@ -1,4 +1,5 @@
-use Rattle.std.proofs.Common.{rules, sym, ap, ◌∙◌, subst}
+use Rattle.std.proofs.Common.{rules, ℕ, Option, sym, ap, ◌∙◌, subst}
+use Rattle.atomic_table.specs.Seated.{TableId}
 use Rattle.crossbeam_utils.specs.Padded.{padded_value}
 use Rattle.init_lock.specs.Known.{out_of, places_of}
 use Rattle.init_lock.specs.Steps.{PassHolds, modify, leave}
@@ -8,47 +9,47 @@ use Rattle.init_lock.proofs.table.InitTable.give_back.Goals as goal
 
 pub put_back-requires-clause-place : goal.put_back-requires-clause-place
 put_back-requires-clause-place g c =
-    let low = held_low _ _ _ _ c.held.inside.place c.held.inside.taken.value c.pass.inside.seat.me c.pass.invariant (search rules) in
+    let low = held_low _ _ _ _ _ c.held.inside.place c.held.inside.taken.value c.pass.inside.seat.me c.pass.invariant (search rules) in
     search rules
 
 pub put_back-requires-clause-held : goal.put_back-requires-clause-held
-put_back-requires-clause-held g c = may_return g.R.Keeps.kept g.R.Keeps.may_draw g.R.Keeps.follows _ _ _ _ c.held.inside.place c.held.inside.taken.value c.held.inside.block c.pass.inside.seat.me c.pass.invariant (search rules) (search rules) (search rules)
+put_back-requires-clause-held g c = may_return g.R.Keeps.kept g.R.Keeps.may_draw g.R.Keeps.follows _ _ _ _ _ c.held.inside.place c.held.inside.taken.value c.held.inside.block c.pass.inside.seat.me c.pass.invariant (search rules) (search rules) (search rules)
 
 pub invariant_of-pass : goal.invariant_of-pass
 invariant_of-pass g c =
-    let t = returned g.R.Keeps.kept _ _ _ _ c.held.inside.place c.held.inside.taken.value c.held.inside.block c.pass.inside.seat.me c.put_back.new.seat.me c.pass.invariant (search rules) c.put_back.ensures.freed in
-    subst (λ (z : _). PassHolds z.slots c.pass.inside.number (padded_value c.pass.inside.journal).events (padded_value c.pass.inside.journal).room c.put_back.new.seat.me) (sym c.put_back.ensures.table.0) t.holds
+    let t = returned g.R.Keeps.kept _ _ _ _ _ c.held.inside.place c.held.inside.taken.value c.held.inside.block c.pass.inside.seat.me c.put_back.new.seat.me c.pass.invariant (search rules) c.put_back.ensures.freed in
+    subst (λ (z : TableId × Option ℕ). PassHolds z.0.slots c.pass.inside.number z.1 (padded_value c.pass.inside.journal).events (padded_value c.pass.inside.journal).room c.put_back.new.seat.me) (λ i. (sym c.put_back.ensures.table.0 i, sym c.without-pass-inside.ensures i)) t.holds
 
 pub returns-clause-seen : goal.returns-clause-seen
 returns-clause-seen g c =
-    let t = returned g.R.Keeps.kept _ _ _ _ c.held.inside.place c.held.inside.taken.value c.held.inside.block c.pass.inside.seat.me c.put_back.new.seat.me c.pass.invariant (search rules) c.put_back.ensures.freed in
+    let t = returned g.R.Keeps.kept _ _ _ _ _ c.held.inside.place c.held.inside.taken.value c.held.inside.block c.pass.inside.seat.me c.put_back.new.seat.me c.pass.invariant (search rules) c.put_back.ensures.freed in
     let seen = t.seen in
     search rules
 
 pub returns-clause-out : goal.returns-clause-out
 returns-clause-out g c =
-    let t = returned g.R.Keeps.kept _ _ _ _ c.held.inside.place c.held.inside.taken.value c.held.inside.block c.pass.inside.seat.me c.put_back.new.seat.me c.pass.invariant (search rules) c.put_back.ensures.freed in
+    let t = returned g.R.Keeps.kept _ _ _ _ _ c.held.inside.place c.held.inside.taken.value c.held.inside.block c.pass.inside.seat.me c.put_back.new.seat.me c.pass.invariant (search rules) c.put_back.ensures.freed in
     let out = t.out in
     search rules
 
 pub returns-clause-last : goal.returns-clause-last
 returns-clause-last g c =
-    let t = returned g.R.Keeps.kept _ _ _ _ c.held.inside.place c.held.inside.taken.value c.held.inside.block c.pass.inside.seat.me c.put_back.new.seat.me c.pass.invariant (search rules) c.put_back.ensures.freed in
+    let t = returned g.R.Keeps.kept _ _ _ _ _ c.held.inside.place c.held.inside.taken.value c.held.inside.block c.pass.inside.seat.me c.put_back.new.seat.me c.pass.invariant (search rules) c.put_back.ensures.freed in
     let last = t.last in
     search rules
 
 pub returns-clause-looks : goal.returns-clause-looks
 returns-clause-looks g c =
-    let t = returned g.R.Keeps.kept _ _ _ _ c.held.inside.place c.held.inside.taken.value c.held.inside.block c.pass.inside.seat.me c.put_back.new.seat.me c.pass.invariant (search rules) c.put_back.ensures.freed in
+    let t = returned g.R.Keeps.kept _ _ _ _ _ c.held.inside.place c.held.inside.taken.value c.held.inside.block c.pass.inside.seat.me c.put_back.new.seat.me c.pass.invariant (search rules) c.put_back.ensures.freed in
     let looks = t.looks in
     search rules
 
 pub returns-clause-others : goal.returns-clause-others
 returns-clause-others g c =
-    let t = returned g.R.Keeps.kept _ _ _ _ c.held.inside.place c.held.inside.taken.value c.held.inside.block c.pass.inside.seat.me c.put_back.new.seat.me c.pass.invariant (search rules) c.put_back.ensures.freed in
+    let t = returned g.R.Keeps.kept _ _ _ _ _ c.held.inside.place c.held.inside.taken.value c.held.inside.block c.pass.inside.seat.me c.put_back.new.seat.me c.pass.invariant (search rules) c.put_back.ensures.freed in
     others_same c.args.pass.now.places _ c.args.held.place (leave c.held.inside.block) (t.places ∙ (λ i. modify ((c.held.view_is i).place) (leave c.held.inside.block) (c.pass.view_is i).places))
 
 pub returns-clause-away : goal.returns-clause-away
 returns-clause-away g c =
-    let t = returned g.R.Keeps.kept _ _ _ _ c.held.inside.place c.held.inside.taken.value c.held.inside.block c.pass.inside.seat.me c.put_back.new.seat.me c.pass.invariant (search rules) c.put_back.ensures.freed in
+    let t = returned g.R.Keeps.kept _ _ _ _ _ c.held.inside.place c.held.inside.taken.value c.held.inside.block c.pass.inside.seat.me c.put_back.new.seat.me c.pass.invariant (search rules) c.put_back.ensures.freed in
     gave_back c.args.pass.now.places _ c.args.held.place (leave c.held.inside.block) (t.places ∙ (λ i. modify ((c.held.view_is i).place) (leave c.held.inside.block) (c.pass.view_is i).places)) (ap (λ z. out_of z.place (places_of c.put_back.new.seat.me.0)) (sym c.held.view_is) ∙ t.out)

@@ -10,24 +10,24 @@ use Rattle.init_lock.proofs.table.InitTable.stamp.Goals as goal
 pub fetch_add-stamp-requires : goal.fetch_add-stamp-requires
 fetch_add-stamp-requires g c =
     let holds = c.pass.invariant in
-    let has = is_holding_at _ _ _ _ c.args.place c.pass.inside.seat.me holds (search rules) in
+    let has = is_holding_at _ _ _ _ _ c.args.place c.pass.inside.seat.me holds (search rules) in
     let short = holds.short in
-    (search rules, search rules, draw_allowed g.R.Keeps.kept g.R.Keeps.may_draw g.R.Keeps.follows g.R.Keeps.settles g.R.Keeps.follows_on g.R.Keeps.follows_itself _ _ _ (the_view c.pass.inside.number (padded_value c.pass.inside.journal).events c.pass.inside.seat.me) _ c.args.place c.args.event _ holds.tied c.requires.told (search rules) (search rules) has)
+    (search rules, search rules, draw_allowed g.R.Keeps.kept g.R.Keeps.may_draw g.R.Keeps.follows g.R.Keeps.settles g.R.Keeps.follows_on g.R.Keeps.follows_itself _ _ _ (the_view c.pass.inside.number (padded_value c.pass.inside.journal).events c.pass.inside.seat.me) _ _ c.args.place c.args.event _ holds.tied c.requires.told (search rules) (search rules) has)
 
 pub invariant_of-pass : goal.invariant_of-pass
 invariant_of-pass g c =
     let told = drew_said g.R.Keeps.kept g.R.Keeps.may_draw g.R.Keeps.follows g.R.Keeps.settles g.R.Keeps.follows_on g.R.Keeps.follows_itself c.self.inside.table.shared.key c.args.place c.args.event _ _ _ c.fetch_add-stamp.result _ c.requires.told c.fetch_add-stamp.ensures.2 in
     let events = c.push.ensures.events ∙ ap (λ j. j.events ++ stamped c.fetch_add-stamp.result c.args.place c.args.event ∷ []) c.deref_mut.ensures.value in
     let less = c.push.ensures.room ∙ ap (λ j. j.room) c.deref_mut.ensures.value in
-    let one = drew_one _ _ _ c.push.new.self.room _ c.args.place c.args.event c.fetch_add-stamp.result c.pass.inside.seat.me c.fetch_add-stamp.new.seat.me c.pass.invariant less told.0 in
-    subst (λ (z : _). PassHolds z.slots c.pass.inside.number c.push.new.self.events c.push.new.self.room c.fetch_add-stamp.new.seat.me) (sym c.fetch_add-stamp.ensures.0)
-    (subst (λ (z : _). PassHolds c.pass.inside.seat.table_id.slots c.pass.inside.number z c.push.new.self.room c.fetch_add-stamp.new.seat.me) (sym events) one.holds)
+    let one = drew_one _ _ _ c.push.new.self.room _ _ c.args.place c.args.event c.fetch_add-stamp.result c.pass.inside.seat.me c.fetch_add-stamp.new.seat.me c.pass.invariant less told.0 in
+    subst (λ (z : _). PassHolds z.slots c.pass.inside.number c.pass.inside.carried c.push.new.self.events c.push.new.self.room c.fetch_add-stamp.new.seat.me) (sym c.fetch_add-stamp.ensures.0)
+    (subst (λ (z : _). PassHolds c.pass.inside.seat.table_id.slots c.pass.inside.number c.pass.inside.carried z c.push.new.self.room c.fetch_add-stamp.new.seat.me) (sym events) one.holds)
 
 pub returns-clause-places : goal.returns-clause-places
 returns-clause-places g c =
     let told = drew_said g.R.Keeps.kept g.R.Keeps.may_draw g.R.Keeps.follows g.R.Keeps.settles g.R.Keeps.follows_on g.R.Keeps.follows_itself c.self.inside.table.shared.key c.args.place c.args.event _ _ _ c.fetch_add-stamp.result _ c.requires.told c.fetch_add-stamp.ensures.2 in
     let less = c.push.ensures.room ∙ ap (λ j. j.room) c.deref_mut.ensures.value in
-    let one = drew_one _ _ _ c.push.new.self.room _ c.args.place c.args.event c.fetch_add-stamp.result c.pass.inside.seat.me c.fetch_add-stamp.new.seat.me c.pass.invariant less told.0 in
+    let one = drew_one _ _ _ c.push.new.self.room _ _ c.args.place c.args.event c.fetch_add-stamp.result c.pass.inside.seat.me c.fetch_add-stamp.new.seat.me c.pass.invariant less told.0 in
     let places = one.places in
     one.places ∙ ap (λ z. drawn_places c.args.place c.args.event z.places) c.pass.view_is
 
