@@ -5,6 +5,8 @@
 #[cfg(test)]
 mod comparing;
 #[cfg(test)]
+mod handlers;
+#[cfg(test)]
 mod procedures;
 #[cfg(test)]
 mod programs;

@@ -2,6 +2,7 @@
 //! holds it costs its proof.
 
 use crate::comparing::{Case, agrees, differs};
+use crate::handlers::handlers;
 use crate::procedures::procedures;
 use crate::records::records;
 use crate::traces::traces;
@@ -18,6 +19,8 @@ pub(crate) enum Question {
     Records,
     /// One thread's procedure for one class.
     Procedures,
+    /// Handler tables, and step 11.
+    Handlers,
     /// The text of traces.
     Traces,
     /// World and the twin judge alike to this depth.
@@ -39,6 +42,7 @@ fn answers(alloc: Global, program: &Program, question: &Question) -> Result<bool
     match question {
         Question::Records => records(alloc, program),
         Question::Procedures => procedures(alloc, program),
+        Question::Handlers => Ok(handlers(program)),
         Question::Traces => traces(alloc, program),
         Question::Agrees(case, depth) => agrees(alloc, program, case, *depth),
         Question::Differs(case) => differs(alloc, program, case),

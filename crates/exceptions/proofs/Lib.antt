@@ -1,0 +1,2 @@
+pub mod Step11
+pub mod Rows
