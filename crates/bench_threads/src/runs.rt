@@ -3,6 +3,7 @@
 ghost use Rattle.std.specs.Prelude.{◌≡◌, true};
 ghost use Rattle.guest_threads.specs.ThreadRuns.{AreMains};
 
+use bodies::NoCode;
 use guest_threads::{Gate, run_threads};
 use hierarchy::{ClassId, Program, link};
 use jasmin_reader::read_class;
@@ -186,7 +187,8 @@ pub(crate) fn run_once<R: Threads + Wait + Sync, G: Gate + Sync>(
     if mains.is_empty() || mains.len() > 16 || !are_of_files(program, mains) {
         return None;
     }
-    run_threads(rt, alloc, program, mains, Limits::USUAL, gate).ok()
+    let bodies = vec![in alloc; NoCode; mains.len()].ok()?;
+    run_threads(rt, alloc, program, mains, bodies, Limits::USUAL, gate).ok()
 }
 
 pub(crate) fn events_of(report: &Report) -> usize {

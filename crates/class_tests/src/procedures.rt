@@ -91,7 +91,9 @@ fn is_refused(alloc: Global, program: &Program) -> Result<bool, AllocError> {
     let outcome = Outcome::Abrupt(program.built_in(BuiltIn::NoClassDefFoundError));
     let mut procedure = Procedure::new(alloc);
     let is_so = refuses(alloc, program, &mut procedure);
-    Ok(is_completed(&procedure, outcome) && is_so?)
+    let was_completed = is_completed(&procedure, outcome);
+    procedure.forget_last();
+    Ok(was_completed && procedure.last().is_none() && is_so?)
 }
 
 fn is_given_up(alloc: Global, program: &Program) -> Result<bool, AllocError> {

@@ -8,7 +8,7 @@ use Rattle.hierarchy.specs.FirstFault.{IsFirstFault, LinksTo}
 use Rattle.hierarchy.specs.LinkedProgram.{LinkedProgram, class_named}
 use Rattle.trace.specs.declared.report.Limits.{Limits}
 use Rattle.trace.specs.declared.report.Report.{Report}
-use Rattle.guest_threads.specs.ThreadRuns.{IsRunOf}
+use Rattle.guest_threads.specs.ThreadRuns.{IsEmptyRunOf}
 use Rattle.cli.specs.declared.fault.Fault.{Fault}
 use Rattle.cli.specs.declared.fault.Fault.TheVariants.{Body, Link, Mains, Memory, Threads}
 use Rattle.cli.specs.Bodiless.{holds_code}
@@ -65,7 +65,7 @@ limits_with patience = record { steps = 1000000; patience = patience }
 pub record IsRunOfNamed (mains : Option (List ℕ)) (limits : Limits) (p : LinkedProgram) (r : Report) : Type 0 where
   pub classes : List ClassId
   pub named : mains_in p mains ≡ Some classes
-  pub run : IsRunOf p classes limits r
+  pub run : IsEmptyRunOf p classes limits r
   pub bodiless : holds_code p ≡ false
 
 -- why a program isn't run: the first fault, in this order, or want of memory or of a thread

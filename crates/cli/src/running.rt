@@ -3,13 +3,14 @@
 ghost use Rattle.std.specs.Prelude.{◌≡◌, ◌⊎◌, ℕ, ◌<◌, ◌≤◌, IfErr, IfOk, IfSome, None, length, vec_len};
 ghost use Rattle.std.specs.Option.{option_map};
 ghost use Rattle.hierarchy.specs.FirstFault.{LinksTo};
-ghost use Rattle.guest_threads.specs.ThreadRuns.{AreMains, IsRunOf};
+ghost use Rattle.guest_threads.specs.ThreadRuns.{AreMains, IsEmptyRunOf};
 ghost use Rattle.cli.specs.declared.fault.Fault.TheVariants.{Memory, Patience, Threads};
 ghost use Rattle.cli.specs.Bodiless.{has_code, declares_code, holds_code};
 ghost use Rattle.cli.specs.CommandLine.{text_of};
 ghost use Rattle.cli.specs.Running.{IsLinkRefusal, IsNumber, IsPatience, IsRefusal, IsRunOfNamed, IsRunRefusal, limits_with, main_named as class_of_name, mains_in, mains_named as classes_of_names};
 
 use crate::fault::Fault;
+use bodies::NoCode;
 use guest_threads::{NoGate, RunFault, run_threads};
 use hierarchy::{Class, ClassId, LinkFaultKind, Program, link};
 use jasmin_text::{ClassText, Method};
@@ -132,7 +133,7 @@ fn has_body(program: &Program) -> bool
     program.classes().iter().any(is_class_with_code)
 }
 
-/// Runs these main classes, each on a thread of its own.
+/// Runs these main classes, each on a thread of its own, with no code.
 fn run_mains<'a, R: Threads + Wait + Sync>(
     rt: &R,
     alloc: Global,
@@ -143,10 +144,11 @@ fn run_mains<'a, R: Threads + Wait + Sync>(
     requires mains { AreMains program.now mains.now }
     requires some { 1 ≤ length mains.now }
     requires few { length mains.now ≤ 16 }
-    ensures ran { IfOk result (IsRunOf program.now mains.now limits) }
+    ensures ran { IfOk result (IsEmptyRunOf program.now mains.now limits) }
     ensures refused { IfErr result (λ fault. (fault ≡ Memory) ⊎ (fault ≡ Threads)) }
 {
-    match run_threads(rt, alloc, program, mains, limits, &NoGate) {
+    let bodies = vec![in alloc; NoCode; mains.len()]?;
+    match run_threads(rt, alloc, program, mains, bodies, limits, &NoGate) {
         Ok(report) => Ok(report),
         Err(RunFault::NoMemory) => Err(Fault::Memory),
         Err(RunFault::NoThread) => Err(Fault::Threads),

@@ -1,5 +1,5 @@
 -- What stands where a procedure asks for something, and what it is then told.
-use Rattle.std.proofs.Common.{◌≡◌, ◌≢◌, ℕ, List, [], ◌∷◌, Option, Some, None, Bool, true, false, refl, sym, subst, ap}
+use Rattle.std.proofs.Common.{◌≡◌, ◌≢◌, ℕ, List, [], ◌∷◌, Option, Some, None, Bool, true, false, refl, sym, subst, ap, ◌∙◌}
 use Rattle.std.specs.List.{AllByRecursion}
 use Rattle.hierarchy.specs.declared.built_in.BuiltIn.TheVariants.{OutOfMemoryError}
 use Rattle.hierarchy.specs.declared.class.ClassId.{ClassId}
@@ -8,20 +8,27 @@ use Rattle.init_core.specs.declared.event.Event.{Event}
 use Rattle.init_core.specs.declared.frames.Completed.{Completed}
 use Rattle.init_core.specs.declared.frames.Ending.{Ending}
 use Rattle.init_core.specs.declared.frames.Frame.{Frame}
-use Rattle.init_core.specs.declared.frames.Outcome.{Outcome}
-use Rattle.init_core.specs.declared.frames.Outcome.TheVariants.{Normal, Ended}
+use Rattle.init_core.specs.declared.frames.Outcome.TheVariants.{Ended}
 use Rattle.init_core.specs.declared.frames.Phase.{Phase}
 use Rattle.init_core.specs.declared.frames.Phase.TheVariants.{Looking, Needing, Running, EndingBy}
 use Rattle.init_core.specs.declared.procedure.Answer.{Answer}
 use Rattle.init_core.specs.declared.procedure.Answer.TheVariants as answer
 use Rattle.init_core.specs.declared.procedure.Next.TheVariants as next
-use Rattle.init_core.specs.Advance.{Advances, leaves_body, ends_class, gives_up_look, gives_up_body, Fits, LeavesAt, knows_all, IsAtEnd, FitsBody, after_body, after_word, is_running, next_of}
+use Rattle.init_core.specs.Advance.{Advances, ends_class, gives_up_look, gives_up_body, Fits, LeavesAt, knows_all, IsAtEnd, MayRequest, after_word, is_running, next_of, thread_ended}
 use Rattle.init_core.specs.Decisions.{event}
-use Rattle.init_core.specs.Leads.{frame, standing, kind_of_ending, outcome_of, outermost, needed, used, Before, Leads, idle, looking, not_run, running, ending_by, BeforeRequest, LeadsTo}
-use Rattle.init_core.specs.MainWord.{BeforeMain, before_first, MainDone, nothing, main_done}
-use Rattle.init_core.specs.ProcedureWord.{ProcedureWord, no_items, IsMachineError, IsOfFiles, completed, given_up}
+use Rattle.init_core.specs.Leads.{frame, standing, kind_of_ending, outcome_of, LeadsOf, idle, looking, not_run, running, ending_by}
+use Rattle.init_core.specs.ProcedureWord.{Maker, IsMachineError, IsOfFiles, given_up}
 use Rattle.init_core.specs.Standing.{Standing}
-use Rattle.init_core.specs.Stands.{NamesFiles}
+use Rattle.init_core.specs.Stands.{NamesFiles, ending_error}
+
+-- the innermost procedure asks for something
+abbrev pub AsksIn : Phase → Type 0
+AsksIn (Needing rest) = ⊥
+AsksIn phase = Unit {0}
+
+abbrev pub AreAsking : List Frame → Type 0
+AreAsking [] = Unit {0}
+AreAsking (f ∷ fs) = AsksIn f.phase
 
 -- the innermost class is c, in this phase
 pub record IsAt (s : Standing) (c : ClassId) (phase : Phase) : Type 0 where
@@ -82,19 +89,15 @@ module _ (p : LinkedProgram) (t : ℕ) (s : Standing) (c : ClassId) where
   as_is phase a made z at x = subst (λ (fs : List Frame). Advances p t (standing fs s.last) a made z) (sym at.frames) x
 
   -- a look may be given up
-  pub gives_up : (e : ClassId) → next_of s.frames ≡ next.Look c → IsMachineError p e → (z : Standing) × Advances p t s (answer.GaveUp e false) [] z
-  gives_up e q machine = let l = looks_at s c q in (after_word l.1.below c (Ended e), as_is (Looking l.0) (answer.GaveUp e false) [] _ l.1 (gives_up_look machine))
+  pub gives_up : (e : ClassId) (m : Standing) → next_of s.frames ≡ next.Look c → IsMachineError p e → m ≡ thread_ended s e → Advances p t s (answer.GaveUp e false) [] m
+  gives_up e m q machine is =
+      let l = looks_at s c q in
+      let same : thread_ended s e ≡ after_word l.1.below c (Ended e) = ap (λ (fs : List Frame). thread_ended (standing fs s.last) e) l.1.frames in
+      subst (λ (v : Standing). Advances p t s (answer.GaveUp e false) [] v) (sym (is ∙ same)) (as_is (Looking l.0) (answer.GaveUp e false) [] (after_word l.1.below c (Ended e)) l.1 (gives_up_look machine))
 
   -- and so may step 9, for want of memory
   pub gives_up_run : next_of s.frames ≡ next.Body c → is_running s.frames ≡ false → (z : Standing) × Advances p t s (answer.GaveUp (built_in p OutOfMemoryError) true) [] z
   gives_up_run q e = let l = runs_at s c false q e in (_, as_is (Running false) (answer.GaveUp (built_in p OutOfMemoryError) true) [] _ l gives_up_body)
-
-  -- a body ends normally, where the machine doesn't end the thread
-  pub ends_body : (m : Standing) → next_of s.frames ≡ next.Body c → is_running s.frames ≡ true → given_up s.last ≡ None → ((f : Frame) (fs : List Frame) → s.frames ≡ f ∷ fs → m ≡ after_body f.class fs Normal) → Advances p t s (answer.BodyEnded Normal) [] m
-  ends_body m q e on is =
-      let l = runs_at s c true q e in
-      let fits : FitsBody p (given_up s.last) Normal = subst (λ (o : Option ClassId). FitsBody p o Normal) (sym on) tt in
-      rw (is (frame c (Running true)) l.below l.frames) (as_is (Running true) (answer.BodyEnded Normal) [] _ l (leaves_body fits))
 
   -- the step that ends a class was made
   pub ends : (m : Standing) (k : Ending) → next_of s.frames ≡ next.End c k → ((d : ClassId) (j : Ending) (by_machine : Bool) (fs : List Frame) → s.frames ≡ frame d (EndingBy j by_machine) ∷ fs → m ≡ after_word fs d (outcome_of j by_machine)) → Advances p t s answer.Ended (event t c (kind_of_ending k) ∷ []) m
@@ -119,30 +122,17 @@ is_told p t s m a x is = rw (is t s [] x.0 x.1 knows_all) x.1
 
 -- ---- where the thread's own events lead
 
-module _ (p : LinkedProgram) (t : ℕ) {Outer : ClassId → List Event → Type 0} {Idle : Option Completed → List Event → Type 0} where
+module _ {p : LinkedProgram} {t : ℕ} {M : Maker} {Outer : ClassId → List Event → M.State → Type 0} {Idle : Option Completed → List Event → M.State → Type 0} where
   -- nothing was completed last before a look, and before step 9
-  pub look_last : {s : Standing} {c : ClassId} {w : Bool} {xs : List Event} (at : IsAt s c (Looking w)) → Leads p t Outer Idle s xs → s.last ≡ None
-  look_last {s = s} {xs = xs} at h = by (subst (λ (fs : List Frame). Leads p t Outer Idle (standing fs s.last) xs) at.frames h) where
-    by : {c : ClassId} {w : Bool} {fs : List Frame} {last : Option Completed} {ys : List Event} → Leads p t Outer Idle (standing (frame c (Looking w) ∷ fs) last) ys → last ≡ None
+  pub look_last : {s : Standing} {c : ClassId} {w : Bool} {xs : List Event} {z : M.State} (at : IsAt s c (Looking w)) → LeadsOf p t M Outer Idle s xs z → s.last ≡ None
+  look_last {s = s} {xs = xs} {z = z} at h = by (subst (λ (fs : List Frame). LeadsOf p t M Outer Idle (standing fs s.last) xs z) at.frames h) where
+    by : {c : ClassId} {w : Bool} {fs : List Frame} {last : Option Completed} {ys : List Event} {y : M.State} → LeadsOf p t M Outer Idle (standing (frame c (Looking w) ∷ fs) last) ys y → last ≡ None
     by (looking waited b) = refl
 
-  pub run_last : {s : Standing} {c : ClassId} {xs : List Event} (at : IsAt s c (Running false)) → Leads p t Outer Idle s xs → s.last ≡ None
-  run_last {s = s} {xs = xs} at h = by (subst (λ (fs : List Frame). Leads p t Outer Idle (standing fs s.last) xs) at.frames h) where
-    by : {c : ClassId} {fs : List Frame} {last : Option Completed} {ys : List Event} → Leads p t Outer Idle (standing (frame c (Running false) ∷ fs) last) ys → last ≡ None
+  pub run_last : {s : Standing} {c : ClassId} {xs : List Event} {z : M.State} (at : IsAt s c (Running false)) → LeadsOf p t M Outer Idle s xs z → s.last ≡ None
+  run_last {s = s} {xs = xs} {z = z} at h = by (subst (λ (fs : List Frame). LeadsOf p t M Outer Idle (standing fs s.last) xs z) at.frames h) where
+    by : {c : ClassId} {fs : List Frame} {last : Option Completed} {ys : List Event} {y : M.State} → LeadsOf p t M Outer Idle (standing (frame c (Running false) ∷ fs) last) ys y → last ≡ None
     by (not_run waited b g) = refl
-
-before_to : (p : LinkedProgram) (t : ℕ) (m : ClassId) → IsOfFiles p m → {fs : List Frame} {c : ClassId} {xs : List Event} → Before p t (BeforeMain p t m) fs c xs → Before p t (BeforeRequest p t) fs c xs
-before_to p t m within (outermost before_first) = outermost (None, no_items, refl, within)
-before_to p t m within (needed waited b e g) = needed waited (before_to p t m within b) e g
-before_to p t m within (used waited b g st i on known made) = used waited (before_to p t m within b) g st i on known made
-
--- a thread before the step that ends a class has done what may be done outside of any class
-pub end_leads : (p : LinkedProgram) (t : ℕ) (m : ClassId) → IsOfFiles p m → {c : ClassId} {k : Ending} {by_machine : Bool} {fs : List Frame} {last : Option Completed} {xs : List Event} → Leads p t (BeforeMain p t m) (MainDone p t m) (standing (frame c (EndingBy k by_machine) ∷ fs) last) xs → LeadsTo p t (standing (frame c (EndingBy k by_machine) ∷ fs) last) xs
-end_leads p t m within (ending_by k by_machine events b x) = ending_by k by_machine events (before_to p t m within b) x
-
-done_by : {p : LinkedProgram} {t : ℕ} {m : ClassId} {last : Option Completed} {xs : List Event} → MainDone p t m last xs → last ≢ None → (r : Outcome) × (last ≡ Some (completed m r)) × ProcedureWord p t m xs r
-done_by nothing n = absurd (n refl)
-done_by (main_done {r = r} x) n = (r, refl, x)
 
 idle_in : (phase : Phase) (c : ClassId) (fs : List Frame) → next_of (frame c phase ∷ fs) ≡ next.Idle → (rest : List ClassId) × (phase ≡ Needing rest)
 idle_in (Needing rest) c fs q = (rest, refl)
@@ -150,22 +140,70 @@ idle_in (Looking w) c fs q = cc
 idle_in (Running ran) c fs q = cc
 idle_in (EndingBy k m) c fs q = cc
 
-head_phase : (f g : Frame) (fs gs : List Frame) → f ∷ fs ≡ g ∷ gs → f.phase ≡ g.phase
-head_phase f g fs gs e = let q : f ≡ g = cc in ap (λ (x : Frame). x.phase) q
-
-none_needs : {p : LinkedProgram} {t : ℕ} {Outer : ClassId → List Event → Type 0} {Idle : Option Completed → List Event → Type 0} {s : Standing} {xs : List Event} (c : ClassId) (rest : List ClassId) (fs : List Frame) → Leads p t Outer Idle s xs → s.frames ≡ frame c (Needing rest) ∷ fs → ⊥
-none_needs c rest fs (idle i) e = cc
-none_needs c rest fs (looking waited b) e = let q : Looking waited ≡ Needing rest = head_phase _ _ _ _ e in cc
-none_needs c rest fs (not_run waited b g) e = let q : Running false ≡ Needing rest = head_phase _ _ _ _ e in cc
-none_needs c rest fs (running waited b g st i) e = let q : Running true ≡ Needing rest = head_phase _ _ _ _ e in cc
-none_needs c rest fs (ending_by k m events b x) e = let q : EndingBy k m ≡ Needing rest = head_phase _ _ _ _ e in cc
-
 -- where nothing is asked for no class is open
-pub is_idle : (p : LinkedProgram) (t : ℕ) {Outer : ClassId → List Event → Type 0} {Idle : Option Completed → List Event → Type 0} (fs : List Frame) (last : Option Completed) (xs : List Event) → next_of fs ≡ next.Idle → Leads p t Outer Idle (standing fs last) xs → (fs ≡ []) × Idle last xs
-is_idle p t [] last xs q (idle i) = (refl, i)
-is_idle p t {Outer = Outer} {Idle = Idle} (f ∷ fs) last xs q h =
-    let x = idle_in f.phase f.class fs q in absurd (none_needs f.class x.0 fs h (ap (λ (phase : Phase). frame f.class phase ∷ fs) x.1))
+pub is_idle : (fs : List Frame) → AreAsking fs → next_of fs ≡ next.Idle → fs ≡ []
+is_idle [] a q = refl
+is_idle (f ∷ fs) a q = let x = idle_in f.phase f.class fs q in absurd (subst AsksIn x.1 a)
 
--- the procedure for the main class is completed
-pub is_done : (p : LinkedProgram) (t : ℕ) (m : ClassId) (s : Standing) (xs : List Event) → next_of s.frames ≡ next.Idle → (s.frames ≡ [] → s.last ≢ None) → Leads p t (BeforeMain p t m) (MainDone p t m) s xs → (s.frames ≡ []) × (r : Outcome) × (s.last ≡ Some (completed m r)) × ProcedureWord p t m xs r
-is_done p t m s xs q begun h = let x = is_idle p t s.frames s.last xs q h in let d = done_by x.1 (begun x.0) in (x.0, d.0, d.1, d.2)
+module _ {p : LinkedProgram} {t : ℕ} {M : Maker} {Outer : ClassId → List Event → M.State → Type 0} {Idle : Option Completed → List Event → M.State → Type 0} where
+  -- the innermost class asks for something
+  pub are_asking : {s : Standing} {xs : List Event} {z : M.State} → LeadsOf p t M Outer Idle s xs z → AreAsking s.frames
+  are_asking (idle i) = tt
+  are_asking (looking waited b) = tt
+  are_asking (not_run waited b g) = tt
+  are_asking (running waited b g st i) = tt
+  are_asking (ending_by k m events b x) = tt
+
+-- ---- in a body
+
+-- where a request may be made: outside of any class, or in the body of one behind its step 9
+pub data IsBodyAt : List Frame → Type 0 where
+  of_main : IsBodyAt []
+  of_class : (c : ClassId) (fs : List Frame) → IsBodyAt (frame c (Running true) ∷ fs)
+
+body_in : (c : ClassId) (phase : Phase) (fs : List Frame) → MayRequest (frame c phase ∷ fs) → IsBodyAt (frame c phase ∷ fs)
+body_in c (Running true) fs b = of_class c fs
+body_in c (Running false) fs b = absurd b
+body_in c (Looking w) fs b = absurd b
+body_in c (Needing rest) fs b = absurd b
+body_in c (EndingBy k m) fs b = absurd b
+
+pub body_at : (fs : List Frame) → MayRequest fs → IsBodyAt fs
+body_at [] b = of_main
+body_at (f ∷ fs) b = body_in f.class f.phase fs b
+
+running_in : (c : ClassId) (phase : Phase) (fs : List Frame) → is_running (frame c phase ∷ fs) ≡ true → IsBodyAt (frame c phase ∷ fs)
+running_in c (Running true) fs q = of_class c fs
+running_in c (Running false) fs q = cc
+running_in c (Looking w) fs q = cc
+running_in c (Needing rest) fs q = cc
+running_in c (EndingBy k m) fs q = cc
+
+of_running : (fs : List Frame) → IsBodyAt fs → is_running fs ≡ true → (c : ClassId) × (below : List Frame) × (fs ≡ frame c (Running true) ∷ below)
+of_running [] of_main q = cc
+of_running (f ∷ fs) (of_class c gs) q = (c, gs, refl)
+
+-- the innermost class is in its body
+pub running_at : (fs : List Frame) → is_running fs ≡ true → (c : ClassId) × (below : List Frame) × (fs ≡ frame c (Running true) ∷ below)
+running_at [] q = cc
+running_at (f ∷ fs) q = of_running (f ∷ fs) (running_in f.class f.phase fs q) q
+
+-- so it may make a request
+pub running_requests : (fs : List Frame) → is_running fs ≡ true → MayRequest fs × (fs ≢ [])
+running_requests fs q = let x = running_at fs q in (subst MayRequest (sym x.2) tt, λ e. let z : frame x.0 (Running true) ∷ x.1 ≡ [] = sym x.2 ∙ e in cc)
+
+not_in : (fs : List Frame) → IsBodyAt fs → is_running fs ≡ false → fs ≡ []
+not_in [] of_main q = refl
+not_in (f ∷ fs) (of_class c gs) q = cc
+
+-- a body that is of no class is that of main
+pub not_running : (fs : List Frame) → MayRequest fs → is_running fs ≡ false → fs ≡ []
+not_running fs b q = not_in fs (body_at fs b) q
+
+error_in : (fs : List Frame) (last : Option Completed) → IsBodyAt fs → ending_error (standing fs last) ≡ given_up last
+error_in [] last of_main = refl
+error_in (f ∷ fs) last (of_class c gs) = refl
+
+-- in a body the machine ends the thread where it ended an active use
+pub body_error : (fs : List Frame) (last : Option Completed) → MayRequest fs → ending_error (standing fs last) ≡ given_up last
+body_error fs last b = error_in fs last (body_at fs b)

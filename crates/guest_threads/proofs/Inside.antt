@@ -8,7 +8,7 @@ use Rattle.init_core.specs.declared.event.Kind.TheVariants as kind
 use Rattle.init_core.specs.declared.frames.Outcome.{Outcome}
 use Rattle.init_core.specs.Decisions.{event}
 use Rattle.init_core.specs.declared.frames.Completed.{Completed}
-use Rattle.init_core.specs.ProcedureWord.{Maker, Word, word, AfterWait, recurs, finds_initialized, finds_erroneous, gives_up, completes, fails, is_ended, need_fails, need_is_ended, lacks_memory, Begun, begins, and_then, ItemsOf, no_items, requests, uses, prints, Body, stops, stops_ended, wait, IsUse, printed, ThreadWord, ran, threw, was_ended}
+use Rattle.init_core.specs.ProcedureWord.{Maker, Word, word, AfterWait, recurs, finds_initialized, finds_erroneous, gives_up, completes, fails, is_ended, need_fails, need_is_ended, lacks_memory, Begun, begins, and_then, ItemsOf, no_items, requests, uses, prints, Body, stops, stops_ended, wait, IsUse, printed, ThreadWordOf, ran, threw, was_ended, ThreadWord}
 use Rattle.hierarchy.specs.declared.built_in.BuiltIn.TheVariants.{OutOfMemoryError}
 
 -- an end of a class in progress: 7, 10, 12
@@ -196,10 +196,13 @@ module _ (t : ℕ) where
       body_alone (stops i on is made) = items_alone i
       body_alone (stops_ended i made) = items_alone i
 
+    whole_alone : {M : Maker} {s z : M.State} {m : ClassId} {w : List Event} {r : Outcome} → ThreadWordOf p t M s m w r z → Alone w
+    whole_alone (ran {w = w} {body = b} x enters y) = both w b (word_alone x) (body_alone y)
+    whole_alone (threw x) = word_alone x
+    whole_alone (was_ended x) = word_alone x
+
     pub thread_alone : {m : ClassId} {w : List Event} → ThreadWord p t m w → Alone w
-    thread_alone (ran {w = w} {body = b} x enters y) = both w b (word_alone x) (body_alone y)
-    thread_alone (threw x) = word_alone x
-    thread_alone (was_ended x) = word_alone x
+    thread_alone x = whole_alone x.1
 
   -- what it says of an event at its place
   placed : (before xs ys : List Event) (e : Event) → AllWithin t before (xs ++ e ∷ ys) [] → Within t (before ++ xs) e ys

@@ -3,10 +3,13 @@ pub mod Merged
 pub mod FieldValues
 pub mod Ended
 pub mod Headline
-pub mod EmptySteps
+pub mod Counting
 pub mod Finding
 pub mod Asking
 pub mod Passing
 pub mod Telling
+pub mod HeldValues
+pub mod Acting
+pub mod Viewing
 pub mod Joining
 pub mod Started

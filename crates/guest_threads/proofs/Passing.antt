@@ -1,5 +1,5 @@
 -- What the steps of a thread leave of what it knows.
-use Rattle.std.proofs.Common.{◌≡◌, ◌≢◌, ℕ, ◌<◌, ◌≤◌, List, [], ◌∷◌, ◌++◌, Bool, true, false, ◌==◌, cond, length, refl, sym, subst, ap, ◌∙◌, eq-eqb, append-nil}
+use Rattle.std.proofs.Common.{◌≡◌, ◌≢◌, ℕ, ◌+◌, ◌<◌, ◌≤◌, List, [], ◌∷◌, ◌++◌, Option, Some, None, Bool, true, false, ◌==◌, cond, length, refl, sym, subst, ap, ◌∙◌, eq-eqb, append-nil, arith}
 use Rattle.std.specs.List.{AllByRecursion}
 use Rattle.std.proofs.lemmas.Bool.{eqb-true}
 use Rattle.hierarchy.specs.declared.class.ClassId.{ClassId}
@@ -9,26 +9,31 @@ use Rattle.init_core.specs.declared.event.Decision.TheVariants as decision
 use Rattle.init_core.specs.declared.event.Event.{Event}
 use Rattle.init_core.specs.declared.event.Kind.{Kind}
 use Rattle.init_core.specs.declared.event.Kind.TheVariants as kind
+use Rattle.init_core.specs.declared.frames.Completed.{Completed}
+use Rattle.init_core.specs.declared.frames.Outcome.{Outcome}
 use Rattle.init_core.specs.declared.procedure.Answer.{Answer}
+use Rattle.init_core.specs.Advance.{Advances}
 use Rattle.init_core.specs.Decisions.{event, entered, Decides}
 use Rattle.init_core.specs.Interleaving.{of_class}
 use Rattle.init_core.specs.Label.{label_of}
 use Rattle.init_core.specs.Lawful.{Allows, AgreesAfter}
-use Rattle.init_core.specs.MainWord.{BeforeMain, MainDone}
-use Rattle.init_core.specs.ProcedureWord.{IsOfFiles}
+use Rattle.init_core.specs.ProcedureWord.{Word, IsOfFiles, completed}
 use Rattle.init_core.specs.ProgramEvents.{IsDoneAt, IsProgramEvent, at_class}
-use Rattle.init_core.specs.Advance.{Advances}
 use Rattle.init_core.specs.Standing.{Standing}
-use Rattle.init_core.specs.Stands.{Stands, SeesMore, AreOfOthers}
-use Rattle.init_core.proofs.Knowing.{others_go_on, takes_answer}
-use Rattle.init_core.proofs.Mains.{goes_main}
+use Rattle.init_core.specs.Stands.{SeesMore, AreOfOthers, begun_classes, ending_error}
+use Rattle.init_core.proofs.Knowing.{AreOuterBelow, leads_outer, others_go_on, takes_answer}
+use Rattle.init_core.proofs.Leading.{Makes}
+use Rattle.init_core.proofs.Mains.{goes_main_of, goes_item_of}
 use Rattle.init_lock.specs.declared.journal.Stamped.{Stamped}
 use Rattle.init_lock.specs.declared.views.PlaceView.{PlaceView}
 use Rattle.init_lock.specs.Known.{PassFacts, HeldFacts, TableFacts, seen_at, IsSamePass, IsAway}
-use Rattle.trace.specs.declared.report.Limits.{Limits}
+use Rattle.trace.specs.declared.report.Limit.{Limit}
+use Rattle.bodies.specs.Making.{Making, maker_of}
 use Rattle.guest_threads.specs.declared.guarded.Guarded.{Guarded}
-use Rattle.guest_threads.specs.Working.{Working, Works, Took, GaveBack, Finds, IsUnmoved, StandsEmpty, ArePrepared, drawn, seen_of}
-use Rattle.guest_threads.proofs.EmptySteps.{IsAnswer, takes, has_last}
+use Rattle.guest_threads.specs.declared.task.Work.{Work}
+use Rattle.guest_threads.specs.Tasks.{TaskFacts, IsWhy}
+use Rattle.guest_threads.specs.Working.{Working, Works, StandsAt, OuterOf, IdleOf, Took, GaveBack, Finds, ArePrepared, drawn, seen_of}
+use Rattle.guest_threads.proofs.Counting.{few_more, has_last}
 
 abbrev pub View : Type 0
 View = PassFacts Guarded Event
@@ -105,58 +110,96 @@ look_made p t c found decision.FindsInitialized ok = one kind.FindsInitialized o
 look_made p t c found decision.FindsErroneous ok = one kind.FindsErroneous ok tt
 look_made p t c found decision.Begins ok = one kind.Begins ok tt
 
-module _ (p : LinkedProgram) (table : TableFacts) (limits : Limits) (t : ℕ) (m : ClassId) where
-  -- the pass is unmoved
-  pub unmoved : (s : Standing) (x y : View) → IsUnmoved x y → Working p table limits t m s x → Working p table limits t m s y
-  unmoved s x y u w = record {
-    works = works_on p table t x y w.works u.same (subst IsAway (sym u.places) w.works.away);
-    stands = subst (λ (ps : List (PlaceView Guarded Event)). Stands p t (BeforeMain p t m) (MainDone p t m) s (drawn y.journal) (λ c. seen_at c.number ps)) (sym u.places)
-        (subst (λ (js : List (Stamped Event)). Stands p t (BeforeMain p t m) (MainDone p t m) s (drawn js) (seen_of x)) (sym u.journal) w.stands);
-    empty = subst (λ (js : List (Stamped Event)). StandsEmpty p limits t s (drawn js)) (sym u.journal) w.empty;
-    events = subst (λ (js : List (Stamped Event)). AllByRecursion (λ e. IsProgramEvent p table.threads e) (drawn js)) (sym u.journal) w.events;
-    main = w.main;
-    begun = w.begun;
+-- what a thread makes under no lock
+pub seen_same : (x y : View) → y.places ≡ x.places → SeesMore (seen_of x) (λ d. []) (seen_of y)
+seen_same x y e = record { adds = λ d. ap (λ (ps : List (PlaceView Guarded Event)). seen_at d.number ps) e ∙ sym (append-nil (seen_of x d)); agrees = λ d. tt }
+
+module _ {S : Type 0} (M : Making S) (k : TaskFacts S) where
+  -- the procedure for a class is completed outside of any class
+  pub goes_of : (b : Bool) (c : ClassId) (xs w : List Event) (r : Outcome) (y z : S) → OuterOf M k b c xs y → Word k.program k.number (maker_of k.program M) y c w r z → IdleOf M k b (Some (completed c r)) (xs ++ w) z
+  goes_of false = goes_main_of k.program k.number (maker_of k.program M) k.start k.main
+  goes_of true = goes_item_of k.program k.number (maker_of k.program M) k.start k.main
+
+  pub outer_of : (b : Bool) (s : Standing) (own : List Event) (seen : ClassId → List Event) (z : S) → StandsAt M k b s own seen z → AreOuterBelow s.frames
+  outer_of b s own seen z st = leads_outer k.program k.number (maker_of k.program M) st.leads
+
+  -- an answer
+  pub answered_at : (b : Bool) (s z : Standing) (a : Answer) (made own : List Event) (seen now : ClassId → List Event) (x y : S) → Advances k.program k.number s a made z → Makes k.program (maker_of k.program M) s.last a x y → SeesMore seen (λ c. of_class c made) now →
+      StandsAt M k b s own seen x → StandsAt M k b z (own ++ made) now y
+  answered_at b s z a made own seen now x y step makes sees st = takes_answer k.program k.number (maker_of k.program M) (OuterOf M k b) (IdleOf M k b) (goes_of b) step makes sees st
+
+  -- a step of the work
+  pub stepped : (w : Work S) (y : View) (s : Standing) (z : S) (why : Limit) (slack looks : ℕ) (made : List Event) → Working M k w → IsSamePass w.pass y → IsAway y.places → drawn y.journal ≡ drawn w.pass.journal ++ made →
+      AllByRecursion (λ e. IsProgramEvent k.program k.table.threads e) made → StandsAt M k w.in_main s (drawn w.pass.journal ++ made) (seen_of y) z →
+      (w.in_main ≡ false → s.frames ≡ [] → s.last ≢ None) → ((e : ClassId) → ending_error s ≡ Some e → IsWhy M k why e) → length (begun_classes s.frames) + slack ≤ y.room →
+      Working M k (record { pass = y; procedure = s; bodies = z; in_main = w.in_main; why = why; slack = slack; looks = looks })
+  stepped w y s z why slack looks made o same away own done st begun reason room = record {
+    main = o.main;
+    works = works_on k.program k.table k.number w.pass y o.works same away;
+    stands = subst (λ (es : List Event). StandsAt M k w.in_main s es (seen_of y) z) (sym own) st;
+    events = subst (λ (es : List Event). AllByRecursion (λ e. IsProgramEvent k.program k.table.threads e) es) (sym own) (all_both (λ e. IsProgramEvent k.program k.table.threads e) (drawn w.pass.journal) made o.events done);
+    begun = begun;
+    reason = reason;
+    room = room;
+  }
+
+  -- nothing is drawn
+  pub still : (w : Work S) (s : Standing) (z : S) (why : Limit) → Working M k w → StandsAt M k w.in_main s (drawn w.pass.journal) (seen_of w.pass) z → (w.in_main ≡ false → s.frames ≡ [] → s.last ≢ None) → ((e : ClassId) → ending_error s ≡ Some e → IsWhy M k why e) →
+      length (begun_classes s.frames) ≤ length (begun_classes w.procedure.frames) → Working M k (record w { procedure = s; bodies = z; why = why })
+  still w s z why o st begun reason few = record {
+    main = o.main;
+    works = o.works;
+    stands = st;
+    events = o.events;
+    begun = begun;
+    reason = reason;
+    room = (let r = o.room in omega arith);
   }
 
   -- the procedure is told an answer that adds no event
-  pub told : (s z : Standing) (a : Answer) (x : View) → IsAnswer p limits a → Advances p t s a [] z → Working p table limits t m s x → Working p table limits t m z x
-  told s z a x is step w = record {
-    works = w.works;
-    stands = subst (λ (es : List Event). Stands p t (BeforeMain p t m) (MainDone p t m) z es (seen_of x)) (append-nil (drawn x.journal))
-        (takes_answer p t (BeforeMain p t m) (MainDone p t m) (goes_main p t m) step (record { adds = λ c. sym (append-nil (seen_of x c)); agrees = λ c. tt }) w.stands);
-    empty = subst (λ (es : List Event). StandsEmpty p limits t z es) (append-nil (drawn x.journal)) (takes p limits t is step w.empty);
-    events = w.events;
-    main = w.main;
-    begun = has_last p limits t step;
-  }
+  pub told : (w : Work S) (s : Standing) (a : Answer) (z : S) (why : Limit) → Advances k.program k.number w.procedure a [] s → Makes k.program (maker_of k.program M) w.procedure.last a w.bodies z →
+      ((e : ClassId) → ending_error s ≡ Some e → IsWhy M k why e) → Working M k w → Working M k (record w { procedure = s; bodies = z; why = why })
+  told w s a z why step makes reason o =
+      let outer = outer_of w.in_main w.procedure (drawn w.pass.journal) (seen_of w.pass) w.bodies o.stands in
+      let st : StandsAt M k w.in_main s (drawn w.pass.journal) (seen_of w.pass) z = subst (λ (es : List Event). StandsAt M k w.in_main s es (seen_of w.pass) z) (append-nil (drawn w.pass.journal))
+      (answered_at w.in_main w.procedure s a [] (drawn w.pass.journal) (seen_of w.pass) (seen_of w.pass) w.bodies z step makes (seen_same w.pass w.pass refl) o.stands) in
+      still w s z why o st (λ b. has_last k.program k.number step) reason (let f = few_more k.program k.number step outer in omega arith)
 
   -- what the thread knows while it has a record
-  pub with_record : (s : Standing) (c : ClassId) (x y : View) (h : HeldFacts Guarded) → Took p c x y h → Working p table limits t m s x → Stands p t (BeforeMain p t m) (MainDone p t m) s (drawn x.journal) (seen_of y)
-  with_record s c x y h took w =
-      let f : Finds t (seen_of x c) h.kept.record.events = subst (λ (k : ℕ). Finds k (seen_of x c) h.kept.record.events) w.works.number took.finds in
-      others_go_on p t (BeforeMain p t m) (MainDone p t m) (goes_main p t m)
-      (sees_here c (seen_of x) (seen_of y) f.more (took.seen ∙ f.begins) (λ d other. (took.others d.number other).seen) f.agrees)
-      (λ d. others_at f (c.number == d.number)) w.stands where
-        others_at : (f : Finds t (seen_of x c) h.kept.record.events) (b : Bool) → AreOfOthers t (cond b f.more [])
+  pub with_record : (w : Work S) (c : ClassId) (y : View) (h : HeldFacts Guarded) → Took k.program c w.pass y h → Working M k w → StandsAt M k w.in_main w.procedure (drawn w.pass.journal) (seen_of y) w.bodies
+  with_record w c y h took o =
+      let f : Finds k.number (seen_of w.pass c) h.kept.record.events = subst (λ (n : ℕ). Finds n (seen_of w.pass c) h.kept.record.events) o.works.number took.finds in
+      others_go_on k.program k.number (maker_of k.program M) (OuterOf M k w.in_main) (IdleOf M k w.in_main) (goes_of w.in_main)
+      (sees_here c (seen_of w.pass) (seen_of y) f.more (took.seen ∙ f.begins) (λ d other. (took.others d.number other).seen) f.agrees)
+      (λ d. others_at f (c.number == d.number)) o.stands where
+        others_at : (f : Finds k.number (seen_of w.pass c) h.kept.record.events) (b : Bool) → AreOfOthers k.number (cond b f.more [])
         others_at f true = f.others
         others_at f false = tt
 
   -- a record was taken, and went back with what the thread made of its class
-  pub visited : (s z : Standing) (a : Answer) (c : ClassId) (x y v : View) (h : HeldFacts Guarded) (n : ℕ) (events made : List Event) → n ≡ c.number → Took p c x y h → GaveBack n events y v → events ≡ h.kept.record.events ++ made → drawn v.journal ≡ drawn y.journal ++ made →
-      IsMade p t c h.kept.record.events made → IsOfFiles p c → IsAnswer p limits a → Advances p t s a made z → Working p table limits t m s x → Working p table limits t m z v
-  visited s z a c x y v h n events made place took back more journal is_made within is step w =
-      let own : drawn v.journal ≡ drawn x.journal ++ made = journal ∙ ap (λ (js : List (Stamped Event)). drawn js ++ made) took.journal in
-      let here : seen_of v c ≡ h.kept.record.events ++ made = ap (λ (k : ℕ). seen_at k v.places) (sym place) ∙ (back.seen ∙ more) in
-      let sees : SeesMore (seen_of y) (λ d. of_class d made) (seen_of v) = sees_made p t c (seen_of y) (seen_of v) is_made took.seen here (λ d other. (back.others d.number (λ q. other (q ∙ place))).seen) in
-      record {
-        works = works_on p table t x v w.works (same_on x y v took.same back.same) back.away;
-        stands = subst (λ (es : List Event). Stands p t (BeforeMain p t m) (MainDone p t m) z es (seen_of v)) (sym own) (takes_answer p t (BeforeMain p t m) (MainDone p t m) (goes_main p t m) step sees (with_record s c x y h took w));
-        empty = subst (λ (es : List Event). StandsEmpty p limits t z es) (sym own) (takes p limits t is step w.empty);
-        events = subst (λ (es : List Event). AllByRecursion (λ e. IsProgramEvent p table.threads e) es) (sym own) (all_both (λ e. IsProgramEvent p table.threads e) (drawn x.journal) made w.events (made_events p table.threads t c w.works.within within is_made));
-        main = w.main;
-        begun = has_last p limits t step;
-      }
+  pub visited : (w : Work S) (s : Standing) (z : S) (slack looks : ℕ) (c : ClassId) (y v : View) (h : HeldFacts Guarded) (n : ℕ) (events made : List Event) → n ≡ c.number → Took k.program c w.pass y h → GaveBack n events y v →
+      events ≡ h.kept.record.events ++ made → drawn v.journal ≡ drawn y.journal ++ made → IsMade k.program k.number c h.kept.record.events made → IsOfFiles k.program c →
+      (SeesMore (seen_of y) (λ d. of_class d made) (seen_of v) → StandsAt M k w.in_main w.procedure (drawn w.pass.journal) (seen_of y) w.bodies → StandsAt M k w.in_main s (drawn w.pass.journal ++ made) (seen_of v) z) →
+      (w.in_main ≡ false → s.frames ≡ [] → s.last ≢ None) → ((e : ClassId) → ending_error s ≡ Some e → IsWhy M k w.why e) → length (begun_classes s.frames) + slack ≤ v.room → Working M k w →
+      Working M k (record { pass = v; procedure = s; bodies = z; in_main = w.in_main; why = w.why; slack = slack; looks = looks })
+  visited w s z slack looks c y v h n events made place took back more journal is_made within step begun reason room o =
+      let own : drawn v.journal ≡ drawn w.pass.journal ++ made = journal ∙ ap (λ (js : List (Stamped Event)). drawn js ++ made) took.journal in
+      let here : seen_of v c ≡ h.kept.record.events ++ made = ap (λ (i : ℕ). seen_at i v.places) (sym place) ∙ (back.seen ∙ more) in
+      let sees : SeesMore (seen_of y) (λ d. of_class d made) (seen_of v) = sees_made k.program k.number c (seen_of y) (seen_of v) is_made took.seen here (λ d other. (back.others d.number (λ q. other (q ∙ place))).seen) in
+      stepped w v s z w.why slack looks made o (same_on w.pass y v took.same back.same) back.away own (made_events k.program k.table.threads k.number c o.works.within within is_made) (step sees (with_record w c y h took o)) begun reason room
 
-  -- the number of the pass is the thread's
-  pub renumbered : (s : Standing) (x : View) → Working p table limits t m s x → Working p table limits x.number m s x
-  renumbered s x w = subst (λ (v : ℕ). Working p table limits v m s x) (sym w.works.number) w
+  -- an event was drawn under no lock
+  pub drew : (w : Work S) (s : Standing) (z : S) (slack looks : ℕ) (y : View) (made : Stamped Event) (e : Event) → made.event ≡ e → IsSamePass w.pass y → y.journal ≡ w.pass.journal ++ made ∷ [] → y.places ≡ w.pass.places → IsProgramEvent k.program k.table.threads e →
+      (StandsAt M k w.in_main w.procedure (drawn w.pass.journal) (seen_of w.pass) w.bodies → StandsAt M k w.in_main s (drawn w.pass.journal ++ e ∷ []) (seen_of w.pass) z) →
+      (w.in_main ≡ false → s.frames ≡ [] → s.last ≢ None) → ((x : ClassId) → ending_error s ≡ Some x → IsWhy M k w.why x) → length (begun_classes s.frames) + slack ≤ y.room → Working M k w →
+      Working M k (record { pass = y; procedure = s; bodies = z; in_main = w.in_main; why = w.why; slack = slack; looks = looks })
+  drew w s z slack looks y made e is same journal places done step begun reason room o =
+      let own : drawn y.journal ≡ drawn w.pass.journal ++ e ∷ [] = ap drawn journal ∙ (drawn_more w.pass.journal made ∙ ap (λ (x : Event). drawn w.pass.journal ++ x ∷ []) is) in
+      stepped w y s z w.why slack looks (e ∷ []) o same (subst IsAway (sym places) o.works.away) own (done, tt)
+      (subst (λ (ps : List (PlaceView Guarded Event)). StandsAt M k w.in_main s (drawn w.pass.journal ++ e ∷ []) (λ d. seen_at d.number ps) z) (sym places) (step o.stands)) begun reason room
+
+  -- there is room for more events
+  pub roomier : (w : Work S) (y : View) (slack : ℕ) → IsSamePass w.pass y → y.journal ≡ w.pass.journal → y.places ≡ w.pass.places → length (begun_classes w.procedure.frames) + slack ≤ y.room → Working M k w → Working M k (record w { pass = y; slack = slack })
+  roomier w y slack same journal places room o = stepped w y w.procedure w.bodies w.why slack w.looks [] o same (subst IsAway (sym places) o.works.away) (ap drawn journal ∙ sym (append-nil (drawn w.pass.journal))) tt
+      (subst (λ (ps : List (PlaceView Guarded Event)). StandsAt M k w.in_main w.procedure (drawn w.pass.journal ++ []) (λ d. seen_at d.number ps) w.bodies) (sym places) (subst (λ (es : List Event). StandsAt M k w.in_main w.procedure es (seen_of w.pass) w.bodies) (sym (append-nil (drawn w.pass.journal))) o.stands))
+      o.begun o.reason room

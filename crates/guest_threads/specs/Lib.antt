@@ -1,4 +1,7 @@
 pub mod Drawing
 pub mod Following
 pub mod ThreadRuns
+pub mod Tasks
 pub mod Working
+pub mod ThreadWork
+pub mod AllWork

@@ -1,36 +1,32 @@
 -- What a thread knows while it works: where its procedures stand, which of its events lead there, and what it has seen of
 -- each class.
-use Rattle.std.specs.Prelude.{◌≡◌, ◌≢◌, ℕ, ◌<◌, ◌≤◌, ◌⊎◌, length, List, [], ◌∷◌, ◌++◌, Some, None, true, map, slice_get}
+use Rattle.std.specs.Prelude.{◌≡◌, ◌≢◌, ℕ, ◌+◌, ◌<◌, ◌≤◌, length, List, [], ◌∷◌, ◌++◌, Option, Some, None, Bool, true, false, map}
 use Rattle.std.specs.List.{AllByRecursion}
 use Rattle.hierarchy.specs.declared.class.ClassId.{ClassId}
-use Rattle.hierarchy.specs.declared.built_in.BuiltIn.TheVariants.{InternalError, OutOfMemoryError}
-use Rattle.hierarchy.specs.LinkedProgram.{LinkedProgram, id, built_in}
+use Rattle.hierarchy.specs.LinkedProgram.{LinkedProgram, id}
 use Rattle.statics.specs.Statics.{statics_of}
 use Rattle.init_core.specs.declared.event.Event.{Event}
-use Rattle.init_core.specs.declared.event.Kind.TheVariants as kind
 use Rattle.init_core.specs.declared.event.TheConstants.{THREADS}
-use Rattle.init_core.specs.declared.frames.Ending.TheVariants as ending
-use Rattle.init_core.specs.declared.frames.Frame.{Frame}
+use Rattle.init_core.specs.declared.frames.Completed.{Completed}
 use Rattle.init_core.specs.declared.frames.Outcome.{Outcome}
 use Rattle.init_core.specs.declared.frames.Outcome.TheVariants.{Ended}
-use Rattle.init_core.specs.declared.frames.Phase.{Phase}
-use Rattle.init_core.specs.declared.frames.Phase.TheVariants.{Needing, Running, EndingBy}
-use Rattle.init_core.specs.Advance.{is_running}
-use Rattle.init_core.specs.Decisions.{event}
+use Rattle.init_core.specs.Advance.{MayRequest}
 use Rattle.init_core.specs.Lawful.{AgreesAfter}
-use Rattle.init_core.specs.MainWord.{BeforeMain, MainDone}
-use Rattle.init_core.specs.ProcedureWord.{IsOfFiles}
+use Rattle.init_core.specs.MainWord.{BeforeMainOf, MainDoneOf, BeforeItemOf, MainItemsOf}
+use Rattle.init_core.specs.ProcedureWord.{ThreadWordOf, GoesOn, IsOfFiles}
 use Rattle.init_core.specs.ProgramEvents.{IsProgramEvent}
 use Rattle.init_core.specs.Standing.{Standing}
-use Rattle.init_core.specs.Stands.{Stands, AreOfOthers, ending_error}
+use Rattle.init_core.specs.Stands.{StandsOf, AreOfOthers, ending_error, begun_classes}
 use Rattle.init_lock.specs.declared.journal.Stamped.{Stamped}
 use Rattle.init_lock.specs.Known.{PassFacts, HeldFacts, TableFacts, seen_at, out_of, IsSamePass, IsSameBut, IsAway, IsAwayBut}
 use Rattle.init_lock.specs.Rule.{element_at}
-use Rattle.trace.specs.declared.report.Limits.{Limits}
-use Rattle.trace.specs.EmptyBodies.{HaveEmptyBodies}
+use Rattle.bodies.specs.declared.does.Does.{Does}
+use Rattle.bodies.specs.Doing.{MayDo}
+use Rattle.bodies.specs.Making.{Making, HasCome, maker_of}
 use Rattle.guest_threads.specs.declared.guarded.Guarded.{Guarded}
-use Rattle.guest_threads.specs.declared.work.Worked.{Worked}
-use Rattle.guest_threads.specs.ThreadRuns.{IsThreadRun}
+use Rattle.guest_threads.specs.declared.task.Work.{Work}
+use Rattle.guest_threads.specs.Drawing.{WritesHeld}
+use Rattle.guest_threads.specs.Tasks.{TaskFacts, IsWhy}
 
 -- the events of a journal
 abbrev pub drawn : List (Stamped Event) → List Event
@@ -81,6 +77,8 @@ pub record Took (p : LinkedProgram) (c : ClassId) (before after : PassFacts Guar
   pub place : h.place ≡ c.number
   pub untouched : h.taken ≡ h.kept
   pub class : h.kept.record.class ≡ c
+  pub fields : h.kept.record.fields ≡ statics_of p c
+  pub held : AllByRecursion (λ e. WritesHeld (statics_of p c) e) h.kept.record.events
   pub finds : Finds before.number (seen_at c.number before.places) h.kept.record.events
   pub seen : seen_at c.number after.places ≡ h.kept.record.events
   pub out : out_of c.number after.places ≡ Some h.kept
@@ -94,72 +92,65 @@ pub record GaveBack (n : ℕ) (events : List Event) (before after : PassFacts Gu
   pub others : IsSameBut n before.places after.places
   pub away : IsAway after.places
 
--- below the innermost class each waits for one that it needs: no body asks for a class
-abbrev pub IsNeeding : Phase → Type 0
-IsNeeding (Needing rest) = Unit {0}
-IsNeeding phase = ⊥
+-- what may stand before a request from outside of any class, before main's body and in it
+abbrev pub OuterOf : {S : Type 0} → Making S → TaskFacts S → Bool → ClassId → List Event → S → Type 0
+OuterOf M k false = BeforeMainOf k.program k.number (maker_of k.program M) k.start k.main
+OuterOf M k true = BeforeItemOf k.program k.number (maker_of k.program M) k.start k.main
 
-abbrev pub AreNeedingBelow : List Frame → Type 0
-AreNeedingBelow [] = Unit {0}
-AreNeedingBelow (f ∷ fs) = AllByRecursion (λ g. IsNeeding g.phase) fs
+-- what stands there where no class is open
+abbrev pub IdleOf : {S : Type 0} → Making S → TaskFacts S → Bool → Option Completed → List Event → S → Type 0
+IdleOf M k false = MainDoneOf k.program k.number (maker_of k.program M) k.start k.main
+IdleOf M k true = MainItemsOf k.program k.number (maker_of k.program M) k.start k.main
 
--- the step 10 that the empty body of an open class still lacks
-abbrev pub closing_in : ℕ → ClassId → Phase → List Event
-closing_in t c (Running true) = event t c kind.Completes ∷ []
-closing_in t c (EndingBy ending.Completes by_machine) = event t c kind.Completes ∷ []
-closing_in t c phase = []
+-- before main's body or in it, what stands of its procedures after these events of its own
+abbrev pub StandsAt : {S : Type 0} → Making S → TaskFacts S → Bool → Standing → List Event → (ClassId → List Event) → S → Type 0
+StandsAt M k in_main s own seen z = StandsOf k.program k.number (maker_of k.program M) (OuterOf M k in_main) (IdleOf M k in_main) s own seen z
 
-abbrev pub closing : ℕ → List Frame → List Event
-closing t [] = []
-closing t (f ∷ fs) = closing_in t f.class f.phase
+-- Where the work of a thread stands, by bodies of M.
+pub record Working {S : Type 0} (M : Making S) (k : TaskFacts S) (w : Work S) : Type 0 where
+  pub main : IsOfFiles k.program k.main
+  pub works : Works k.program k.table k.number w.pass
+  pub stands : StandsAt M k w.in_main w.procedure (drawn w.pass.journal) (seen_of w.pass) w.bodies
+  pub events : AllByRecursion (λ e. IsProgramEvent k.program k.table.threads e) (drawn w.pass.journal)
+  -- its first request was made
+  pub begun : w.in_main ≡ false → w.procedure.frames ≡ [] → w.procedure.last ≢ None
+  pub reason : (e : ClassId) → ending_error w.procedure ≡ Some e → IsWhy M k w.why e
+  pub room : length (begun_classes w.procedure.frames) + w.slack ≤ w.pass.room
 
--- by what the machine ends a thread: where its patience has a limit, and where memory is refused
-abbrev pub IsReason : LinkedProgram → Limits → ClassId → Type 0
-IsReason p limits e = ((e ≡ built_in p InternalError) × (limits.patience ≢ 0)) ⊎ (e ≡ built_in p OutOfMemoryError)
+-- it has room for more events than before, and else nothing changed
+pub record IsRoomier {S : Type 0} (before after : Work S) : Type 0 where
+  pub procedure : after.procedure ≡ before.procedure
+  pub bodies : after.bodies ≡ before.bodies
+  pub in_main : after.in_main ≡ before.in_main
 
--- a result that the machine brought about has such a reason
-abbrev pub HasReason : LinkedProgram → Limits → Outcome → Type 0
-HasReason p limits (Ended e) = IsReason p limits e
-HasReason p limits r = Unit {0}
+-- it looked in vain, and else nothing changed
+pub record HasLooked {S : Type 0} (before after : Work S) : Type 0 where
+  pub procedure : after.procedure ≡ before.procedure
 
--- with empty bodies thread t stands so after these events of its own
-pub record StandsEmpty (p : LinkedProgram) (limits : Limits) (t : ℕ) (s : Standing) (own : List Event) : Type 0 where
-  pub needing : AreNeedingBelow s.frames
-  pub bodies : HaveEmptyBodies (own ++ closing t s.frames)
-  pub reason : (e : ClassId) → ending_error s ≡ Some e → IsReason p limits e
-  -- nothing was completed in a body
-  pub quiet : is_running s.frames ≡ true → s.last ≡ None
+-- it is in a body: of an initializer behind step 9, or of main
+pub record IsInBody {S : Type 0} (w : Work S) : Type 0 where
+  pub requests : MayRequest w.procedure.frames
+  pub main : w.procedure.frames ≡ [] → w.in_main ≡ true
 
--- the pass works, and its thread, of main class m, stands so
-pub record Working (p : LinkedProgram) (table : TableFacts) (limits : Limits) (t : ℕ) (m : ClassId) (s : Standing) (x : PassFacts Guarded Event) : Type 0 where
-  pub works : Works p table t x
-  pub stands : Stands p t (BeforeMain p t m) (MainDone p t m) s (drawn x.journal) (seen_of x)
-  pub empty : StandsEmpty p limits t s (drawn x.journal)
-  pub events : AllByRecursion (λ e. IsProgramEvent p table.threads e) (drawn x.journal)
-  pub main : IsOfFiles p m
-  -- its request was made
-  pub begun : s.frames ≡ [] → s.last ≢ None
+-- what runs its bodies has come from where they stand to where the machine may end the innermost
+pub record HasComeTo {S : Type 0} (M : Making S) (k : TaskFacts S) (w : Work S) : Type 0 where
+  pub from : S
+  pub working : Working M k (record w { bodies = from })
+  pub body : IsInBody w
+  pub come : HasCome M from w.procedure.last w.bodies
 
--- a new pass of the table
-pub record MayWork (p : LinkedProgram) (table : TableFacts) (x : PassFacts Guarded Event) : Type 0 where
-  pub works : Works p table x.number x
-  pub none : x.journal ≡ []
-  pub unseen : (n : ℕ) → seen_at n x.places ≡ []
+-- what runs its bodies has come to what the innermost does next
+pub record IsDoing {S : Type 0} (M : Making S) (k : TaskFacts S) (d : Does) (w : Work S) : Type 0 where
+  pub from : S
+  pub working : Working M k (record w { bodies = from })
+  pub body : IsInBody w
+  pub goes_on : GoesOn w.procedure.last
+  pub does : M.does from w.procedure.last d w.bodies
+  pub fits : MayDo k.program M w.procedure.last d
 
--- what a thread of main class m did with its pass, and how it ended
-pub record IsDone (p : LinkedProgram) (table : TableFacts) (limits : Limits) (m : ClassId) (w : Worked) : Type 0 where
-  pub run : IsThreadRun p limits w.pass.number m (drawn w.pass.journal) w.outcome
-  pub bodies : HaveEmptyBodies (drawn w.pass.journal)
-  pub events : AllByRecursion (λ e. IsProgramEvent p table.threads e) (drawn w.pass.journal)
-
--- what a thread promises of its own pass and outcome
-pub record Did (p : LinkedProgram) (table : TableFacts) (limits : Limits) (mains : List ClassId) (x : PassFacts Guarded Event) (w : Worked) : Type 0 where
-  pub number : w.pass.number ≡ x.number
-  pub works : Works p table w.pass.number w.pass
-  pub done : (m : ClassId) → slice_get mains w.pass.number ≡ Some m → IsDone p table limits m w
-
--- something of each pair
-abbrev pub Pairs : {A B : Type 0} → (A → B → Type 0) → List A → List B → Type 0
-Pairs P [] [] = Unit {0}
-Pairs P (x ∷ xs) (y ∷ ys) = P x y × Pairs P xs ys
-Pairs P xs ys = ⊥
+-- the thread has ended with this result
+pub record IsOver {S : Type 0} (M : Making S) (k : TaskFacts S) (r : Outcome) (w : Work S) : Type 0 where
+  pub works : Works k.program k.table k.number w.pass
+  pub word : ThreadWordOf k.program k.number (maker_of k.program M) k.start k.main (drawn w.pass.journal) r w.bodies
+  pub events : AllByRecursion (λ e. IsProgramEvent k.program k.table.threads e) (drawn w.pass.journal)
+  pub reason : (e : ClassId) → r ≡ Ended e → IsWhy M k w.why e

@@ -1,7 +1,8 @@
 //! Threads of the machine, each a host thread, that initialize classes at once.
 //!
 //! Enter by [`run_threads`]: it takes main classes, starts a host thread for each, and answers what all of them did.
-//! Each thread does the procedure for its main class, with all that it needs (JLS SE 8 12.4.2), and all bodies are empty.
+//! Each thread does the procedure for its main class, with all that it needs (JLS SE 8 12.4.2), and then `main`. What its
+//! bodies do it is told by a [`bodies::Bodies`] of its own.
 //! The records of the classes lie in a table of locks ([`init_lock`]), each a [`Guarded`] under the initialization lock of
 //! its class.
 //!
@@ -15,12 +16,16 @@
 //! The definition of what a run makes stands in `specs/ThreadRuns.antt`.
 #![tactic(auto)]
 
+mod body;
 mod gate;
 mod guarded;
+mod launch;
+mod report;
 mod run;
 mod signals;
 mod steps;
 mod take;
+mod task;
 mod work;
 
 pub use gate::{Gate, NoGate};

@@ -3,8 +3,9 @@
 ghost use Rattle.std.specs.Prelude.{◌≡◌, ◌≢◌, ◌+◌, ◌<◌, ◌++◌, ◌∷◌, [], Some, IfOk, OnErr};
 ghost use Rattle.init_core.specs.declared.event.TheConstants.{THREADS};
 ghost use Rattle.init_lock.specs.Known.{seen_at, out_of, IsAwayBut};
+ghost use Rattle.init_core.specs.History.{AreOfOneClass};
 ghost use Rattle.init_core.specs.ProcedureWord.{IsOfFiles};
-ghost use Rattle.guest_threads.specs.Drawing.{MayDraw, Follows};
+ghost use Rattle.guest_threads.specs.Drawing.{MayDraw, WritesHeld};
 ghost use Rattle.guest_threads.specs.Working.{Works, Took, GaveBack, IsUnmoved, drawn};
 
 use crate::guarded::Guarded;
@@ -48,8 +49,10 @@ pub(crate) fn give_back_with(
     requires room { 0 < pass.old.room }
     requires allowed { MayDraw pass.old.number (Some held.place) event }
     requires out { out_of held.place pass.old.places ≡ Some held.taken }
+    requires found { held.taken.record.events ≡ seen_at held.place pass.old.places }
     requires keeps { held.kept.record.events ≡ seen_at held.place pass.old.places ++ event ∷ [] }
-    requires follows { Follows held.taken.record held.kept.record }
+    requires class { AreOfOneClass held.taken.record held.kept.record }
+    requires writes { WritesHeld held.taken.record.fields event }
     requires alone { IsAwayBut held.place pass.old.places }
     ensures back { GaveBack held.place held.kept.record.events pass.old pass.new }
     ensures journal { drawn pass.new.journal ≡ drawn pass.old.journal ++ event ∷ [] }
@@ -67,8 +70,9 @@ pub(crate) fn give_back_untouched(
 )
     requires table { pass.old.table ≡ table.now.id }
     requires out { out_of held.place pass.old.places ≡ Some held.taken }
+    requires found { held.taken.record.events ≡ seen_at held.place pass.old.places }
     requires keeps { held.kept.record.events ≡ seen_at held.place pass.old.places }
-    requires follows { Follows held.taken.record held.kept.record }
+    requires class { AreOfOneClass held.taken.record held.kept.record }
     requires alone { IsAwayBut held.place pass.old.places }
     ensures back { GaveBack held.place held.kept.record.events pass.old pass.new }
     ensures journal { pass.new.journal ≡ pass.old.journal }
@@ -87,8 +91,9 @@ pub(crate) fn give_back_asleep(
     requires thread { thread < THREADS }
     requires table { pass.old.table ≡ table.now.id }
     requires out { out_of held.place pass.old.places ≡ Some held.taken }
+    requires found { held.taken.record.events ≡ seen_at held.place pass.old.places }
     requires keeps { held.kept.record.events ≡ seen_at held.place pass.old.places }
-    requires follows { Follows held.taken.record held.kept.record }
+    requires class { AreOfOneClass held.taken.record held.kept.record }
     requires alone { IsAwayBut held.place pass.old.places }
     ensures back { GaveBack held.place held.kept.record.events pass.old pass.new }
     ensures journal { pass.new.journal ≡ pass.old.journal }

@@ -24,123 +24,17 @@ use Rattle.init_core.specs.Advance.{Advances, step_2, still_step_2, step_3, step
 use Rattle.init_core.specs.Decisions.{event, is_wait, waits, waits_from}
 use Rattle.init_core.specs.Interleaving.{of_class}
 use Rattle.init_core.specs.Label.{label_of}
-use Rattle.init_core.specs.Lawful.{Allows, AgreesAfter}
-use Rattle.init_core.specs.Leads.{frame, standing, kind_of_ending, outcome_of, Before, outermost, needed, used, Leads, idle, looking, not_run, running, ending_by}
-use Rattle.init_core.specs.ProcedureWord.{free, ProcedureWord, completed, ended_by, given_up, GoesOn, IsOfFiles}
+use Rattle.init_core.specs.Lawful.{MayUse}
+use Rattle.init_core.specs.Leads.{frame, standing, kind_of_ending, outcome_of, BeforeOf, outermost, needed, used, LeadsOf, idle, looking, not_run, running, ending_by}
+use Rattle.init_core.specs.ProcedureWord.{Maker, Word, completed, ended_by, given_up, GoesOn, IsOfFiles}
 use Rattle.init_core.specs.Standing.{Standing}
-use Rattle.init_core.specs.Stands.{begun_in, begun_classes, AreDifferent, NamesFiles, ending_error, ending_error_in, Stands, SeesMore, AreOfOthers}
-use Rattle.init_core.proofs.Bodies.{freely}
+use Rattle.init_core.specs.Stands.{begun_in, begun_classes, AreDifferent, NamesFiles, ending_error, ending_error_in, StandsOf, SeesMore, AreOfOthers}
 use Rattle.init_order.proofs.NeedsAbove.{needs_in_files}
 use Rattle.init_core.proofs.Labels.{label_after}
 use Rattle.init_core.specs.ClassState.{next_label}
 use Rattle.init_core.proofs.States.{waits_more}
-use Rattle.init_core.proofs.Leading.{is_answered, is_requested, has_run}
-
--- ---- what is seen
-
--- these classes are in progress by t, in what it has seen of each
-abbrev pub AreMine : ℕ → (ClassId → List Event) → List ClassId → Type 0
-AreMine t seen cs = AllByRecursion (λ c. label_of (seen c) ≡ InProgress t) cs
-
-still_mine : (t u : ℕ) (k : Kind) → u ≢ t → Allows (InProgress t) u k → next_label (InProgress t) u k ≡ InProgress t
-still_mine t u kind.Begins n a = cc
-still_mine t u kind.Completes n a = absurd (n (let q : t ≡ u = cc in sym q))
-still_mine t u (kind.SuperFails e) n a = absurd (n (let q : t ≡ u = cc in sym q))
-still_mine t u (kind.Fails e) n a = absurd (n (let q : t ≡ u = cc in sym q))
-still_mine t u kind.Waits n a = refl
-still_mine t u kind.Recurs n a = refl
-still_mine t u kind.FindsInitialized n a = refl
-still_mine t u kind.FindsErroneous n a = refl
-still_mine t u kind.Runs n a = refl
-still_mine t u (kind.Gets f v) n a = refl
-still_mine t u (kind.Puts f v) n a = refl
-still_mine t u (kind.Prints x) n a = refl
-
--- a class in progress by t stays so while only others go on
-stays_mine : (t : ℕ) (h more : List Event) → label_of h ≡ InProgress t → AgreesAfter h more → AreOfOthers t more → label_of (h ++ more) ≡ InProgress t
-stays_mine t h [] q l o = ap label_of (append-nil h) ∙ q
-stays_mine t h (x ∷ xs) q l o =
-    let a : Allows (InProgress t) x.thread x.kind = subst (λ (z : Label). Allows z x.thread x.kind) q l.0 in
-    let same : label_of (h ++ x ∷ []) ≡ InProgress t = label_after h x l.0 ∙ (ap (λ (z : Label). next_label z x.thread x.kind) q ∙ still_mine t x.thread x.kind o.0 a) in
-    let e : (h ++ x ∷ []) ++ xs ≡ h ++ x ∷ xs = simp append_assoc in
-    subst (λ (z : List Event). label_of z ≡ InProgress t) e (stays_mine t (h ++ x ∷ []) xs same l.1 o.1)
-
-waits_others_from : (b : Bool) (t : ℕ) (h more : List Event) → AreOfOthers t more → waits_from b t (h ++ more) ≡ waits_from b t h
-waits_others_from b t [] [] o = refl
-waits_others_from b t [] (x ∷ xs) o = ap (λ (z : Bool). waits_from (if z then is_wait x.kind else b) t xs) (ne_eqb x.thread t o.0) ∙ waits_others_from b t [] xs o.1
-waits_others_from b t (x ∷ h) more o = waits_others_from (if x.thread == t then is_wait x.kind else b) t h more o
-
--- whether the last event of t is a wait, with one more of its own
-waits_own : (t : ℕ) (xs : List Event) (c : ClassId) (k : Kind) → waits t (xs ++ event t c k ∷ []) ≡ is_wait k
-waits_own t xs c k = waits_more t xs (event t c k) ∙ rw (eq-eqb t t refl) refl
-
-same_number : (c d : ClassId) → (c.number == d.number) ≡ true → c ≡ d
-same_number c d e = ap (λ (n : ℕ). let r : ClassId = record { number = n } in r) (eqb-true c.number d.number e)
-
-all_mine : (t : ℕ) (seen now : ClassId → List Event) (cs : List ClassId) → ((c : ClassId) → label_of (seen c) ≡ InProgress t → label_of (now c) ≡ InProgress t) → AreMine t seen cs → AreMine t now cs
-all_mine t seen now [] go h = tt
-all_mine t seen now (c ∷ cs) go h = (go c h.0, all_mine t seen now cs go h.1)
-
-module _ (t : ℕ) {seen now : ClassId → List Event} where
-  -- nothing more is seen
-  module _ (sees : SeesMore seen (λ c. []) now) where
-    same_seen : (d : ClassId) → now d ≡ seen d
-    same_seen d = sees.adds d ∙ append-nil (seen d)
-
-    mine_same : (cs : List ClassId) → AreMine t seen cs → AreMine t now cs
-    mine_same cs h = all_mine t seen now cs (λ d q. ap label_of (same_seen d) ∙ q) h
-
-    waits_same : (d : ClassId) → waits t (now d) ≡ waits t (seen d)
-    waits_same d = ap (waits t) (same_seen d)
-
-  -- an event of t on c
-  module _ (c : ClassId) (k : Kind) (sees : SeesMore seen (λ d. of_class d (event t c k ∷ [])) now) where
-    more_at : (d : ClassId) (b : Bool) → (c.number == d.number) ≡ b → now d ≡ (if b then seen d ++ event t c k ∷ [] else seen d)
-    more_at d true e = sees.adds d ∙ rw e refl
-    more_at d false e = sees.adds d ∙ rw e (append-nil (seen d))
-
-    here : now c ≡ seen c ++ event t c k ∷ []
-    here = more_at c true (eq-eqb c.number c.number refl)
-
-    allowed : Allows (label_of (seen c)) t k
-    allowed =
-        let same : of_class c (event t c k ∷ []) ≡ event t c k ∷ [] = rw (eq-eqb c.number c.number refl) refl in
-        let a : AgreesAfter (seen c) (event t c k ∷ []) = subst (λ (es : List Event). AgreesAfter (seen c) es) same (sees.agrees c) in
-        a.0
-
-    label_here : label_of (now c) ≡ next_label (label_of (seen c)) t k
-    label_here = ap label_of here ∙ label_after (seen c) (event t c k) allowed
-
-    -- it leaves the label
-    mine_still : (cs : List ClassId) → next_label (label_of (seen c)) t k ≡ label_of (seen c) → AreMine t seen cs → AreMine t now cs
-    mine_still cs still h = all_mine t seen now cs (λ d q. at d (c.number == d.number) refl q) h where
-      at : (d : ClassId) (b : Bool) → (c.number == d.number) ≡ b → label_of (seen d) ≡ InProgress t → label_of (now d) ≡ InProgress t
-      at d true e q = let same : c ≡ d = same_number c d e in subst (λ (x : ClassId). label_of (now x) ≡ InProgress t) same (label_here ∙ (still ∙ (ap (λ (x : ClassId). label_of (seen x)) same ∙ q)))
-      at d false e q = ap label_of (more_at d false e) ∙ q
-
-    -- or moves a class that is none of these
-    mine_but : (cs : List ClassId) → AllByRecursion (λ d. d ≢ c) cs → AreMine t seen cs → AreMine t now cs
-    mine_but [] n h = tt
-    mine_but (d ∷ cs) n h = (at (c.number == d.number) refl, mine_but cs n.1 h.1) where
-      at : (b : Bool) → (c.number == d.number) ≡ b → label_of (now d) ≡ InProgress t
-      at true e = absurd (n.0 (sym (same_number c d e)))
-      at false e = ap label_of (more_at d false e) ∙ h.0
-
-    waits_at : (d : ClassId) (b : Bool) → (c.number == d.number) ≡ b → waits t (now d) ≡ (if b then is_wait k else waits t (seen d))
-    waits_at d true e = ap (waits t) (more_at d true e) ∙ waits_own t (seen d) c k
-    waits_at d false e = ap (waits t) (more_at d false e)
-
-    -- it is no wait, and t waits nowhere else
-    calm : is_wait k ≡ false → ((d : ClassId) → (c.number == d.number) ≡ false → waits t (seen d) ≡ false) → (d : ClassId) → waits t (now d) ≡ false
-    calm none others d = at (c.number == d.number) refl where
-      at : (b : Bool) → (c.number == d.number) ≡ b → waits t (now d) ≡ false
-      at true e = waits_at d true e ∙ none
-      at false e = waits_at d false e ∙ others d e
-
--- a class that isn't mine is none of those
-none_is : (t : ℕ) (seen : ClassId → List Event) (c : ClassId) (cs : List ClassId) → label_of (seen c) ≡ Prepared → AreMine t seen cs → AllByRecursion (λ d. d ≢ c) cs
-none_is t seen c [] p h = tt
-none_is t seen c (d ∷ cs) p h = ((λ e. let q : label_of (seen c) ≡ InProgress t = ap (λ (x : ClassId). label_of (seen x)) (sym e) ∙ h.0 in let z : Prepared ≡ InProgress t = sym p ∙ q in cc), none_is t seen c cs p h.1)
+use Rattle.init_core.proofs.Leading.{Makes, is_answered, is_requested, has_run}
+use Rattle.init_core.proofs.Seeing.{AreMine, all_mine, stays_so, waits_others_from, none_is, mine_same, waits_same, allowed, label_here, mine_still, mine_but, waits_at, calm}
 
 -- ---- the frames
 
@@ -157,20 +51,20 @@ abbrev pub AreOuterBelow : List Frame → Type 0
 AreOuterBelow [] = Unit {0}
 AreOuterBelow (f ∷ fs) = AreOuter fs
 
-before_outer : (p : LinkedProgram) (t : ℕ) {Outer : ClassId → List Event → Type 0} {fs : List Frame} {c : ClassId} {xs : List Event} → Before p t Outer fs c xs → AreOuter fs
-before_outer p t (outermost o) = tt
-before_outer p t (needed waited b e g) = (tt, before_outer p t b)
-before_outer p t (used waited b g st i on within made) = (tt, before_outer p t b)
+before_outer : (p : LinkedProgram) (t : ℕ) (M : Maker) {Outer : ClassId → List Event → M.State → Type 0} {z : M.State} {fs : List Frame} {c : ClassId} {xs : List Event} → BeforeOf p t M Outer fs c xs z → AreOuter fs
+before_outer p t M (outermost o) = tt
+before_outer p t M (needed waited b e g) = (tt, before_outer p t M b)
+before_outer p t M (used waited b g st i on within made) = (tt, before_outer p t M b)
 
-module _ (p : LinkedProgram) (t : ℕ) {Outer : ClassId → List Event → Type 0} {Idle : Option Completed → List Event → Type 0} where
-  pub leads_outer : {s : Standing} {xs : List Event} → Leads p t Outer Idle s xs → AreOuterBelow s.frames
+module _ (p : LinkedProgram) (t : ℕ) (M : Maker) {Outer : ClassId → List Event → M.State → Type 0} {Idle : Option Completed → List Event → M.State → Type 0} where
+  pub leads_outer : {z : M.State} {s : Standing} {xs : List Event} → LeadsOf p t M Outer Idle s xs z → AreOuterBelow s.frames
   leads_outer (idle i) = tt
-  leads_outer (looking waited b) = before_outer p t b
-  leads_outer (not_run waited b g) = before_outer p t b
-  leads_outer (running waited b g st i) = before_outer p t b
-  leads_outer (ending_by k m events b x) = before_outer p t b
+  leads_outer (looking waited b) = before_outer p t M b
+  leads_outer (not_run waited b g) = before_outer p t M b
+  leads_outer (running waited b g st i) = before_outer p t M b
+  leads_outer (ending_by k m events b x) = before_outer p t M b
 
-  look_last : {c : ClassId} {w : Bool} {fs : List Frame} {last : Option Completed} {xs : List Event} → Leads p t Outer Idle (standing (frame c (Looking w) ∷ fs) last) xs → last ≡ None
+  look_last : {z : M.State} {c : ClassId} {w : Bool} {fs : List Frame} {last : Option Completed} {xs : List Event} → LeadsOf p t M Outer Idle (standing (frame c (Looking w) ∷ fs) last) xs z → last ≡ None
   look_last (looking waited b) = refl
 
 pub needs_begun : (b : ClassId) (rest : List ClassId) (fs : List Frame) → begun_classes (after_needs b rest fs).frames ≡ b ∷ begun_classes fs
@@ -210,7 +104,7 @@ in_error (Running false) b fs c r o = absurd o
 in_error (Looking w) b fs c r o = absurd o
 in_error (EndingBy k e) b fs c r o = absurd o
 
-word_error : (fs : List Frame) (c : ClassId) (r : Outcome) → AreOuter fs → ending_error (after_word fs c r) ≡ ended_by r
+pub word_error : (fs : List Frame) (c : ClassId) (r : Outcome) → AreOuter fs → ending_error (after_word fs c r) ≡ ended_by r
 word_error [] c r o = refl
 word_error (f ∷ fs) c r o = in_error f.phase f.class fs c r o.0
 
@@ -231,13 +125,42 @@ word_calm : (d : ClassId) (fs : List Frame) (c : ClassId) (r : Outcome) → AreO
 word_calm d [] c r o = refl
 word_calm d (f ∷ fs) c r o = in_calm d f.phase f.class fs c r o.0
 
+needs_last : (b : ClassId) (rest : List ClassId) (fs : List Frame) → (after_needs b rest fs).last ≡ None
+needs_last b [] fs = refl
+needs_last b (d ∷ rest) fs = refl
+
+same_last : (c d : ClassId) (r : Outcome) → Some (completed c r) ≡ Some (completed d Normal) → (c ≡ d) × (r ≡ Normal)
+same_last c d r e = let q : completed c r ≡ completed d Normal = cc in (ap (λ (x : Completed). x.class) q, ap (λ (x : Completed). x.outcome) q)
+
+in_last : (phase : Phase) (b : ClassId) (fs : List Frame) (c d : ClassId) (r : Outcome) → IsOuter phase → (after_in phase b fs c r).last ≡ Some (completed d Normal) → (c ≡ d) × (r ≡ Normal)
+in_last (Needing rest) b fs c d Normal o e = absurd (let none : None ≡ Some (completed d Normal) = sym (needs_last b rest fs) ∙ e in cc)
+in_last (Needing rest) b fs c d (Abrupt x) o e = cc
+in_last (Needing rest) b fs c d (Ended x) o e = cc
+in_last (Running true) b fs c d r o e = same_last c d r e
+in_last (Running false) b fs c d r o e = absurd o
+in_last (Looking w) b fs c d r o e = absurd o
+in_last (EndingBy k m) b fs c d r o e = absurd o
+
+-- what is completed last is the procedure that was
+word_last : (fs : List Frame) (c d : ClassId) (r : Outcome) → AreOuter fs → (after_word fs c r).last ≡ Some (completed d Normal) → (c ≡ d) × (r ≡ Normal)
+word_last [] c d r o e = same_last c d r e
+word_last (f ∷ fs) c d r o e = in_last f.phase f.class fs c d r o.0 e
+
+-- a class that is ended normally may be used
+ended_so : (t : ℕ) (l : Label) (k : Ending) (m : Bool) → outcome_of k m ≡ Normal → MayUse t (next_label l t (kind_of_ending k))
+ended_so t l ending.Completes m e = tt
+ended_so t l (ending.SuperFails x) true e = absurd (let z : Ended x ≡ Normal = e in cc)
+ended_so t l (ending.SuperFails x) false e = absurd (let z : Abrupt x ≡ Normal = e in cc)
+ended_so t l (ending.Fails x) true e = absurd (let z : Ended x ≡ Normal = e in cc)
+ended_so t l (ending.Fails x) false e = absurd (let z : Abrupt x ≡ Normal = e in cc)
+
 -- a look elsewhere waits not here
 look_calm : (c d : ClassId) (w : Bool) (fs : List Frame) → (c.number == d.number) ≡ false → is_waiting d (frame c (Looking w) ∷ fs) ≡ false
 look_calm c d true fs e = e
 look_calm c d false fs e = refl
 
 -- before a request nothing waits, and the machine doesn't end the thread
-request_calm : (d : ClassId) (frames : List Frame) → MayRequest frames → is_waiting d frames ≡ false
+pub request_calm : (d : ClassId) (frames : List Frame) → MayRequest frames → is_waiting d frames ≡ false
 request_calm d [] body = refl
 request_calm d (f ∷ fs) body = at f.class f.phase body where
   at : (b : ClassId) (phase : Phase) → MayRequest (frame b phase ∷ fs) → is_waiting d (frame b phase ∷ fs) ≡ false
@@ -247,7 +170,7 @@ request_calm d (f ∷ fs) body = at f.class f.phase body where
   at b (Needing rest) body = absurd body
   at b (EndingBy k m) body = absurd body
 
-request_error : (frames : List Frame) (last : Option Completed) → MayRequest frames → GoesOn last → ending_error (standing frames last) ≡ None
+pub request_error : (frames : List Frame) (last : Option Completed) → MayRequest frames → GoesOn last → ending_error (standing frames last) ≡ None
 request_error [] last body on = on
 request_error (f ∷ fs) last body on = at f.class f.phase body where
   at : (b : ClassId) (phase : Phase) → MayRequest (frame b phase ∷ fs) → ending_error_in phase last ≡ None
@@ -288,47 +211,53 @@ module _ (p : LinkedProgram) where
 
 -- ---- the steps
 
-module _ (p : LinkedProgram) (t : ℕ) (Outer : ClassId → List Event → Type 0) (Idle : Option Completed → List Event → Type 0)
-    (goes : (c : ClassId) (xs w : List Event) (r : Outcome) (y z : Unit {0}) → Outer c xs → ProcedureWord p t c w r → Idle (Some (completed c r)) (xs ++ w)) where
+module _ (p : LinkedProgram) (t : ℕ) (M : Maker) (Outer : ClassId → List Event → M.State → Type 0) (Idle : Option Completed → List Event → M.State → Type 0)
+    (goes : (c : ClassId) (xs w : List Event) (r : Outcome) (y z : M.State) → Outer c xs y → Word p t M y c w r z → Idle (Some (completed c r)) (xs ++ w) z) where
   -- other threads go on
-  pub others_go_on : {s : Standing} {own : List Event} {seen more now : ClassId → List Event} → SeesMore seen more now → ((c : ClassId) → AreOfOthers t (more c)) → Stands p t Outer Idle s own seen → Stands p t Outer Idle s own now
+  pub others_go_on : {s : Standing} {own : List Event} {seen more now : ClassId → List Event} {z : M.State} → SeesMore seen more now → ((c : ClassId) → AreOfOthers t (more c)) → StandsOf p t M Outer Idle s own seen z → StandsOf p t M Outer Idle s own now z
   others_go_on {s = s} {seen = seen} {more = more} {now = now} sees others st = record {
     leads = st.leads;
     files = st.files;
-    mine = all_mine t seen now (begun_classes s.frames) (λ c q. ap label_of (sees.adds c) ∙ stays_mine t (seen c) (more c) q (sees.agrees c) (others c)) st.mine;
+    mine = all_mine t seen now (begun_classes s.frames) (λ c q. ap label_of (sees.adds c) ∙ stays_so t (InProgress t) (seen c) (more c) refl q (sees.agrees c) (others c)) st.mine;
     different = st.different;
     waiting = λ e c. ap (waits t) (sees.adds c) ∙ (waits_others_from false t (seen c) (more c) (others c) ∙ st.waiting e c);
+    used = λ c q.
+        let may : MayUse t (label_of (seen c)) = st.used c q in
+        let same : label_of (now c) ≡ label_of (seen c) = ap label_of (sees.adds c) ∙ stays_so t (label_of (seen c)) (seen c) (more c) may refl (sees.agrees c) (others c) in
+        subst (λ (l : Label). MayUse t l) (sym same) may;
   }
 
   -- a request of c
-  pub requests_one : {s : Standing} {own : List Event} {seen : ClassId → List Event} (c : ClassId) → MayRequest s.frames → GoesOn s.last → IsOfFiles p c → (Idle s.last own → Outer c own) → Stands p t Outer Idle s own seen →
-      Stands p t Outer Idle (standing (frame c (Looking false) ∷ s.frames) None) own seen
-  requests_one {s = s} c body on within outer st = record {
-    leads = is_requested p t free (λ d ys z. Outer d ys) (λ last ys z. Idle last ys) goes c body on within tt outer st.leads;
+  pub requests_one : {s : Standing} {own : List Event} {seen : ClassId → List Event} {y z : M.State} (c : ClassId) → MayRequest s.frames → GoesOn s.last → IsOfFiles p c → M.asks y s.last c z → (Idle s.last own y → Outer c own z) → StandsOf p t M Outer Idle s own seen y →
+      StandsOf p t M Outer Idle (standing (frame c (Looking false) ∷ s.frames) None) own seen z
+  requests_one {s = s} c body on within ask outer st = record {
+    leads = is_requested p t M Outer Idle goes c body on within ask outer st.leads;
     files = ((within, tt), st.files);
     mine = st.mine;
     different = st.different;
     waiting = λ e d. st.waiting (request_error s.frames s.last body on) d ∙ request_calm d s.frames body;
+    used = λ d q. cc;
   }
 
   -- step 9
-  pub runs_body : {c : ClassId} {fs : List Frame} {own : List Event} {seen : ClassId → List Event} → Stands p t Outer Idle (standing (frame c (Running false) ∷ fs) None) own seen →
-      Stands p t Outer Idle (standing (frame c (Running true) ∷ fs) None) (own ++ event t c kind.Runs ∷ []) seen
-  runs_body st = record {
-    leads = has_run p t free (λ d ys z. Outer d ys) (λ last ys z. Idle last ys) goes tt st.leads;
+  pub runs_body : {c : ClassId} {fs : List Frame} {own : List Event} {seen : ClassId → List Event} {y z : M.State} → M.starts y c z → StandsOf p t M Outer Idle (standing (frame c (Running false) ∷ fs) None) own seen y →
+      StandsOf p t M Outer Idle (standing (frame c (Running true) ∷ fs) None) (own ++ event t c kind.Runs ∷ []) seen z
+  runs_body start st = record {
+    leads = has_run p t M Outer Idle goes start st.leads;
     files = st.files;
     mine = st.mine;
     different = st.different;
     waiting = st.waiting;
+    used = λ d q. cc;
   }
 
-  told : {s m : Standing} {a : Answer} {made own : List Event} {seen : ClassId → List Event} → Advances p t s a made m → Stands p t Outer Idle s own seen → Leads p t Outer Idle m (own ++ made)
-  told {s = s} {a = a} x st = is_answered p t free (λ d ys z. Outer d ys) (λ last ys z. Idle last ys) goes x (freely p s.last a) st.leads
+  told : {s m : Standing} {a : Answer} {made own : List Event} {seen : ClassId → List Event} {y z : M.State} → Advances p t s a made m → Makes p M s.last a y z → StandsOf p t M Outer Idle s own seen y → LeadsOf p t M Outer Idle m (own ++ made) z
+  told x by st = is_answered p t M Outer Idle goes x by st.leads
 
   -- the innermost procedure is completed
-  is_completed : (fs : List Frame) {own : List Event} {now : ClassId → List Event} (c : ClassId) (r : Outcome) → AreOuter fs → Leads p t Outer Idle (after_word fs c r) own → AllByRecursion (λ f. NamesFiles p f) fs → AreMine t now (begun_classes fs) → AreDifferent (begun_classes fs) →
-      (ended_by r ≡ None → (d : ClassId) → waits t (now d) ≡ false) → Stands p t Outer Idle (after_word fs c r) own now
-  is_completed fs {now = now} c r outer leads files mine different calm_now =
+  is_completed : (fs : List Frame) {own : List Event} {now : ClassId → List Event} {z : M.State} (c : ClassId) (r : Outcome) → AreOuter fs → LeadsOf p t M Outer Idle (after_word fs c r) own z → AllByRecursion (λ f. NamesFiles p f) fs → AreMine t now (begun_classes fs) → AreDifferent (begun_classes fs) →
+      (ended_by r ≡ None → (d : ClassId) → waits t (now d) ≡ false) → (r ≡ Normal → MayUse t (label_of (now c))) → StandsOf p t M Outer Idle (after_word fs c r) own now z
+  is_completed fs {now = now} c r outer leads files mine different calm_now may =
       let cs : begun_classes fs ≡ begun_classes (after_word fs c r).frames = sym (word_begun fs c r outer) in
       record {
         leads = leads;
@@ -336,16 +265,18 @@ module _ (p : LinkedProgram) (t : ℕ) (Outer : ClassId → List Event → Type 
         mine = subst (λ (z : List ClassId). AreMine t now z) cs mine;
         different = subst AreDifferent cs different;
         waiting = λ e d. calm_now (sym (word_error fs c r outer) ∙ e) d ∙ sym (word_calm d fs c r outer);
+        used = λ d q. let x = word_last fs c d r outer q in subst (λ (b : ClassId). MayUse t (label_of (now b))) x.0 (may x.1);
       }
 
-  look_goes_on : {c : ClassId} {w : Bool} {fs : List Frame} {last : Option Completed} {own : List Event} {seen : ClassId → List Event} → Stands p t Outer Idle (standing (frame c (Looking w) ∷ fs) last) own seen → (d : ClassId) → waits t (seen d) ≡ is_waiting d (frame c (Looking w) ∷ fs)
-  look_goes_on st d = st.waiting (ap given_up (look_last p t st.leads)) d
+  look_goes_on : {c : ClassId} {w : Bool} {fs : List Frame} {last : Option Completed} {own : List Event} {seen : ClassId → List Event} {z : M.State} → StandsOf p t M Outer Idle (standing (frame c (Looking w) ∷ fs) last) own seen z → (d : ClassId) → waits t (seen d) ≡ is_waiting d (frame c (Looking w) ∷ fs)
+  look_goes_on st d = st.waiting (ap given_up (look_last p t M st.leads)) d
 
   -- a look that completes the procedure by an event
-  looks_once : {c : ClassId} {w : Bool} {fs : List Frame} {last : Option Completed} {own : List Event} {seen now : ClassId → List Event} (k : Kind) (r : Outcome) → is_wait k ≡ false → next_label (label_of (seen c)) t k ≡ label_of (seen c) →
-      Leads p t Outer Idle (after_word fs c r) (own ++ event t c k ∷ []) → SeesMore seen (λ d. of_class d (event t c k ∷ [])) now → Stands p t Outer Idle (standing (frame c (Looking w) ∷ fs) last) own seen → Stands p t Outer Idle (after_word fs c r) (own ++ event t c k ∷ []) now
-  looks_once {c = c} {w = w} {fs = fs} k r none still leads sees st =
-      is_completed fs c r (leads_outer p t st.leads) leads st.files.1 (mine_still t c k sees (begun_classes fs) still st.mine) st.different (λ e d. calm t c k sees none (λ x q. look_goes_on st x ∙ look_calm c x w fs q) d)
+  looks_once : {c : ClassId} {w : Bool} {fs : List Frame} {last : Option Completed} {own : List Event} {seen now : ClassId → List Event} {y z : M.State} (k : Kind) (r : Outcome) → is_wait k ≡ false → next_label (label_of (seen c)) t k ≡ label_of (seen c) → (r ≡ Normal → MayUse t (label_of (seen c))) →
+      LeadsOf p t M Outer Idle (after_word fs c r) (own ++ event t c k ∷ []) z → SeesMore seen (λ d. of_class d (event t c k ∷ [])) now → StandsOf p t M Outer Idle (standing (frame c (Looking w) ∷ fs) last) own seen y → StandsOf p t M Outer Idle (after_word fs c r) (own ++ event t c k ∷ []) now z
+  looks_once {c = c} {w = w} {fs = fs} k r none still may leads sees st =
+      is_completed fs c r (leads_outer p t M st.leads) leads st.files.1 (mine_still t c k sees (begun_classes fs) still st.mine) st.different (λ e d. calm t c k sees none (λ x q. look_goes_on st x ∙ look_calm c x w fs q) d)
+      (λ e. subst (λ (l : Label). MayUse t l) (sym (label_here t c k sees ∙ still)) (may e))
 
   -- step 6
   has_become_mine : (c : ClassId) (cs : List ClassId) {seen now : ClassId → List Event} → SeesMore seen (λ d. of_class d (event t c kind.Begins ∷ [])) now → AreMine t seen cs → AllByRecursion (λ d. d ≢ c) cs × AreMine t now (c ∷ cs)
@@ -354,61 +285,68 @@ module _ (p : LinkedProgram) (t : ℕ) (Outer : ClassId → List Event → Type 
       (apart, (label_here t c kind.Begins sees, mine_but t c kind.Begins sees cs apart mine))
 
   -- an answer
-  pub takes_answer : {s m : Standing} {a : Answer} {made own : List Event} {seen now : ClassId → List Event} → Advances p t s a made m → SeesMore seen (λ c. of_class c made) now → Stands p t Outer Idle s own seen → Stands p t Outer Idle m (own ++ made) now
-  takes_answer {seen = seen} {now = now} (step_2 {c = c} {fs = fs}) sees st = record {
-    leads = told step_2 st;
+  pub takes_answer : {s m : Standing} {a : Answer} {made own : List Event} {seen now : ClassId → List Event} {y z : M.State} → Advances p t s a made m → Makes p M s.last a y z → SeesMore seen (λ c. of_class c made) now → StandsOf p t M Outer Idle s own seen y → StandsOf p t M Outer Idle m (own ++ made) now z
+  takes_answer {seen = seen} {now = now} (step_2 {c = c} {fs = fs}) by sees st = record {
+    leads = told step_2 by st;
     files = st.files;
     mine = mine_still t c kind.Waits sees (begun_classes fs) refl st.mine;
     different = st.different;
     waiting = λ e d. waits_here d (c.number == d.number) refl;
+    used = λ d q. cc;
   } where
     waits_here : (d : ClassId) (b : Bool) → (c.number == d.number) ≡ b → waits t (now d) ≡ (c.number == d.number)
     waits_here d true e = waits_at t c kind.Waits sees d true e ∙ sym e
     waits_here d false e = waits_at t c kind.Waits sees d false e ∙ (look_goes_on st d ∙ sym e)
-  takes_answer (still_step_2 {c = c} {fs = fs}) sees st = record {
-    leads = told still_step_2 st;
+  takes_answer (still_step_2 {c = c} {fs = fs}) by sees st = record {
+    leads = told still_step_2 by st;
     files = st.files;
     mine = mine_same t sees (begun_classes fs) st.mine;
     different = st.different;
     waiting = λ e d. waits_same t sees d ∙ look_goes_on st d;
+    used = λ d q. cc;
   }
-  takes_answer step_3 sees st = looks_once kind.Recurs Normal refl refl (told step_3 st) sees st
-  takes_answer step_4 sees st = looks_once kind.FindsInitialized Normal refl refl (told step_4 st) sees st
-  takes_answer step_5 sees st = looks_once kind.FindsErroneous _ refl refl (told step_5 st) sees st
-  takes_answer {now = now} (step_6 {c = c} {fs = fs} {waited = w}) sees st =
+  takes_answer (step_3 {c = c}) by sees st = looks_once kind.Recurs Normal refl refl (λ e. subst (λ (l : Label). MayUse t l) (sym (allowed t c kind.Recurs sees)) refl) (told step_3 by st) sees st
+  takes_answer (step_4 {c = c}) by sees st = looks_once kind.FindsInitialized Normal refl refl (λ e. subst (λ (l : Label). MayUse t l) (sym (allowed t c kind.FindsInitialized sees)) tt) (told step_4 by st) sees st
+  takes_answer step_5 by sees st = looks_once kind.FindsErroneous _ refl refl (λ e. cc) (told step_5 by st) sees st
+  takes_answer {now = now} (step_6 {c = c} {fs = fs} {waited = w}) by sees st =
       let x = has_become_mine c (begun_classes fs) sees st.mine in
       let cs : c ∷ begun_classes fs ≡ begun_classes (after_needs c (needs p c) fs).frames = sym (needs_begun c (needs p c) fs) in
       record {
-        leads = told step_6 st;
+        leads = told step_6 by st;
         files = needs_files p c (needs p c) fs st.files.0.0 (needs_in_files p c) st.files.1;
         mine = subst (λ (z : List ClassId). AreMine t now z) cs x.1;
         different = subst AreDifferent cs (x.0, st.different);
         waiting = λ e d. calm t c kind.Begins sees refl (λ y q. look_goes_on st y ∙ look_calm c y w fs q) d ∙ sym (needs_calm d c (needs p c) fs);
+        used = λ d q. absurd (let none : None ≡ Some (completed d Normal) = sym (needs_last c (needs p c) fs) ∙ q in cc);
       }
-  takes_answer (leaves_body {c = c} {fs = fs} {last = last} {r = r} fits) sees st = record {
-    leads = told (leaves_body fits) st;
+  takes_answer (leaves_body {c = c} {fs = fs} {last = last} {r = r} fits) by sees st = record {
+    leads = told (leaves_body fits) by st;
     files = st.files;
     mine = mine_same t sees (c ∷ begun_classes fs) st.mine;
     different = st.different;
     waiting = λ e d. waits_same t sees d ∙ st.waiting (body_error p (given_up last) r fits e) d;
+    used = λ d q. cc;
   }
-  takes_answer (ends_class {c = c} {fs = fs} {k = k} {by_machine = m}) sees st =
-      is_completed fs c (outcome_of k m) (leads_outer p t st.leads) (told ends_class st) st.files.1 (mine_but t c (kind_of_ending k) sees (begun_classes fs) st.different.0 st.mine.1) st.different.1 (λ e d. calm t c (kind_of_ending k) sees (ending_is_no_wait k) (λ y q. st.waiting e y) d)
-  takes_answer (gives_up_look {c = c} {e = e} {fs = fs} machine) sees st =
-      is_completed fs c (Ended e) (leads_outer p t st.leads) (told (gives_up_look machine) st) st.files.1 (mine_same t sees (begun_classes fs) st.mine) st.different (λ q d. cc)
-  takes_answer (gives_up_begun {c = c} {fs = fs}) sees st =
+  takes_answer {seen = seen} (ends_class {c = c} {fs = fs} {k = k} {by_machine = m}) by sees st =
+      is_completed fs c (outcome_of k m) (leads_outer p t M st.leads) (told ends_class by st) st.files.1 (mine_but t c (kind_of_ending k) sees (begun_classes fs) st.different.0 st.mine.1) st.different.1 (λ e d. calm t c (kind_of_ending k) sees (ending_is_no_wait k) (λ y q. st.waiting e y) d)
+      (λ e. subst (λ (l : Label). MayUse t l) (sym (label_here t c (kind_of_ending k) sees)) (ended_so t (label_of (seen c)) k m e))
+  takes_answer (gives_up_look {c = c} {e = e} {fs = fs} machine) by sees st =
+      is_completed fs c (Ended e) (leads_outer p t M st.leads) (told (gives_up_look machine) by st) st.files.1 (mine_same t sees (begun_classes fs) st.mine) st.different (λ q d. cc) (λ q. cc)
+  takes_answer (gives_up_begun {c = c} {fs = fs}) by sees st =
       let x = has_become_mine c (begun_classes fs) sees st.mine in
       record {
-        leads = told gives_up_begun st;
+        leads = told gives_up_begun by st;
         files = st.files;
         mine = x.1;
         different = (x.0, st.different);
         waiting = λ e d. cc;
+        used = λ d q. cc;
       }
-  takes_answer (gives_up_body {c = c} {fs = fs}) sees st = record {
-    leads = told gives_up_body st;
+  takes_answer (gives_up_body {c = c} {fs = fs}) by sees st = record {
+    leads = told gives_up_body by st;
     files = st.files;
     mine = mine_same t sees (c ∷ begun_classes fs) st.mine;
     different = st.different;
     waiting = λ e d. cc;
+    used = λ d q. cc;
   }

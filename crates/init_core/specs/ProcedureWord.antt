@@ -136,11 +136,11 @@ mutual
     -- an active use in it was ended by the machine
     stops_ended : {s u z : M.State} {items : List Event} {c e : ClassId} → ItemsOf p t M s (Some (completed c (Ended e))) items u → M.stops u (Some (completed c (Ended e))) (Ended e) z → Body p t M s items (Ended e) z
 
--- what a thread of main class m does: the procedure for m, and then a body if that was normal
-pub data ThreadWordOf (p : LinkedProgram) (t : ℕ) (M : Maker) : M.State → ClassId → List Event → M.State → Type 0 where
-  ran : {s u v z : M.State} {m : ClassId} {w body : List Event} {r : Outcome} → Word p t M s m w Normal u → M.enters u m v → Body p t M v body r z → ThreadWordOf p t M s m (w ++ body) z
-  threw : {s z : M.State} {m : ClassId} {w : List Event} {e : ClassId} → Word p t M s m w (Abrupt e) z → ThreadWordOf p t M s m w z
-  was_ended : {s z : M.State} {m : ClassId} {w : List Event} {e : ClassId} → Word p t M s m w (Ended e) z → ThreadWordOf p t M s m w z
+-- what a thread of main class m does, and its result: the procedure for m, and then a body if that was normal
+pub data ThreadWordOf (p : LinkedProgram) (t : ℕ) (M : Maker) : M.State → ClassId → List Event → Outcome → M.State → Type 0 where
+  ran : {s u v z : M.State} {m : ClassId} {w body : List Event} {r : Outcome} → Word p t M s m w Normal u → M.enters u m v → Body p t M v body r z → ThreadWordOf p t M s m (w ++ body) r z
+  threw : {s z : M.State} {m : ClassId} {w : List Event} {e : ClassId} → Word p t M s m w (Abrupt e) z → ThreadWordOf p t M s m w (Abrupt e) z
+  was_ended : {s z : M.State} {m : ClassId} {w : List Event} {e : ClassId} → Word p t M s m w (Ended e) z → ThreadWordOf p t M s m w (Ended e) z
 
 -- what makes any body
 abbrev pub free : Maker
@@ -163,4 +163,4 @@ abbrev pub Items : LinkedProgram → ℕ → Option Completed → List Event →
 Items p t last events = ItemsOf p t free tt last events tt
 
 abbrev pub ThreadWord : LinkedProgram → ℕ → ClassId → List Event → Type 0
-ThreadWord p t m events = ThreadWordOf p t free tt m events tt
+ThreadWord p t m events = (r : Outcome) × ThreadWordOf p t free tt m events r tt

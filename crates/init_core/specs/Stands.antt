@@ -1,5 +1,5 @@
 -- What one thread knows: where its own events have led it, and what it has seen of each class.
-use Rattle.std.specs.Prelude.{◌≡◌, ◌≢◌, ℕ, List, [], ◌∷◌, ◌++◌, Option, None}
+use Rattle.std.specs.Prelude.{◌≡◌, ◌≢◌, ℕ, List, [], ◌∷◌, ◌++◌, Option, Some, None}
 use Rattle.std.specs.List.{AllByRecursion}
 use Rattle.hierarchy.specs.declared.class.ClassId.{ClassId}
 use Rattle.hierarchy.specs.LinkedProgram.{LinkedProgram}
@@ -7,14 +7,16 @@ use Rattle.init_core.specs.declared.event.Event.{Event}
 use Rattle.init_core.specs.declared.event.Label.TheVariants.{InProgress}
 use Rattle.init_core.specs.declared.frames.Completed.{Completed}
 use Rattle.init_core.specs.declared.frames.Frame.{Frame}
+use Rattle.init_core.specs.declared.frames.Outcome.TheVariants.{Normal}
 use Rattle.init_core.specs.declared.frames.Phase.{Phase}
 use Rattle.init_core.specs.declared.frames.Phase.TheVariants.{Looking, Needing, EndingBy}
 use Rattle.init_core.specs.Advance.{is_waiting}
 use Rattle.init_core.specs.Decisions.{waits}
 use Rattle.init_core.specs.Label.{label_of}
-use Rattle.init_core.specs.Lawful.{AgreesAfter}
-use Rattle.init_core.specs.Leads.{Leads, outcome_of}
-use Rattle.init_core.specs.ProcedureWord.{IsOfFiles, ended_by, given_up}
+use Rattle.init_core.specs.Lawful.{AgreesAfter, MayUse}
+use Rattle.init_core.specs.Leads.{LeadsOf, outcome_of}
+use Rattle.init_core.specs.MainWord.{BeforeMainOf, MainDoneOf, BeforeItemOf, MainItemsOf}
+use Rattle.init_core.specs.ProcedureWord.{Maker, free, IsOfFiles, completed, ended_by, given_up}
 use Rattle.init_core.specs.Standing.{Standing}
 
 -- the open classes whose step 6 was made, innermost first
@@ -48,16 +50,29 @@ ending_error_in phase last = given_up last
 abbrev pub ending_error : Standing → Option ClassId
 ending_error s = elim s.frames [ [] ↦ given_up s.last | f ∷ fs ↦ ending_error_in f.phase s.last ]
 
--- After these events of its own thread t stands so, where it has seen this history of each class. Outer says what may
--- stand before a request from outside of any class, and Idle what stands where no class is open.
-pub record Stands (p : LinkedProgram) (t : ℕ) (Outer : ClassId → List Event → Type 0) (Idle : Option Completed → List Event → Type 0) (s : Standing) (own : List Event) (seen : ClassId → List Event) : Type 0 where
-  pub leads : Leads p t Outer Idle s own
+-- After these events of its own, by what makes its bodies, thread t stands so, where it has seen this history of each
+-- class. Outer says what may stand before a request from outside of any class, and Idle what stands where no class is open.
+pub record StandsOf (p : LinkedProgram) (t : ℕ) (M : Maker) (Outer : ClassId → List Event → M.State → Type 0) (Idle : Option Completed → List Event → M.State → Type 0) (s : Standing) (own : List Event) (seen : ClassId → List Event) (z : M.State) : Type 0 where
+  pub leads : LeadsOf p t M Outer Idle s own z
   pub files : AllByRecursion (λ f. NamesFiles p f) s.frames
   -- what it has begun is in progress by it
   pub mine : AllByRecursion (λ c. label_of (seen c) ≡ InProgress t) (begun_classes s.frames)
   pub different : AreDifferent (begun_classes s.frames)
   -- it waits where its last event was a wait, while the machine isn't ending it
   pub waiting : ending_error s ≡ None → (c : ClassId) → waits t (seen c) ≡ is_waiting c s.frames
+  -- a class whose procedure was completed last, normally, may be used
+  pub used : (c : ClassId) → s.last ≡ Some (completed c Normal) → MayUse t (label_of (seen c))
+
+-- the same whatever the bodies do
+abbrev pub Stands : LinkedProgram → ℕ → (ClassId → List Event → Type 0) → (Option Completed → List Event → Type 0) → Standing → List Event → (ClassId → List Event) → Type 0
+Stands p t Outer Idle s own seen = StandsOf p t free (λ d ys z. Outer d ys) (λ last ys z. Idle last ys) s own seen tt
+
+-- A thread of main class m, from a first state of what makes its bodies: before main's body, and in it.
+abbrev pub StandsBeforeMain : LinkedProgram → ℕ → (M : Maker) → M.State → ClassId → Standing → List Event → (ClassId → List Event) → M.State → Type 0
+StandsBeforeMain p t M first m s own seen z = StandsOf p t M (BeforeMainOf p t M first m) (MainDoneOf p t M first m) s own seen z
+
+abbrev pub StandsInMain : LinkedProgram → ℕ → (M : Maker) → M.State → ClassId → Standing → List Event → (ClassId → List Event) → M.State → Type 0
+StandsInMain p t M first m s own seen z = StandsOf p t M (BeforeItemOf p t M first m) (MainItemsOf p t M first m) s own seen z
 
 -- these events are seen of each class besides, and agree with its labels
 pub record SeesMore (seen : ClassId → List Event) (more : ClassId → List Event) (now : ClassId → List Event) : Type 0 where

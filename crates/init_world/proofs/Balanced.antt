@@ -10,7 +10,7 @@ use Rattle.init_core.specs.declared.frames.Completed.{Completed}
 use Rattle.init_core.specs.declared.frames.Outcome.{Outcome}
 use Rattle.init_core.specs.Decisions.{event}
 use Rattle.init_core.specs.Interleaving.{is_class}
-use Rattle.init_core.specs.ProcedureWord.{Maker, Word, word, AfterWait, recurs, finds_initialized, finds_erroneous, gives_up, completes, fails, is_ended, need_fails, need_is_ended, lacks_memory, Begun, begins, and_then, ItemsOf, no_items, requests, uses, prints, Body, stops, stops_ended, ran, threw, was_ended, ThreadWord, wait, IsUse, printed}
+use Rattle.init_core.specs.ProcedureWord.{Maker, Word, word, AfterWait, recurs, finds_initialized, finds_erroneous, gives_up, completes, fails, is_ended, need_fails, need_is_ended, lacks_memory, Begun, begins, and_then, ItemsOf, no_items, requests, uses, prints, Body, stops, stops_ended, ran, threw, was_ended, ThreadWordOf, wait, IsUse, printed}
 
 abbrev pub total : (Event → ℕ) → List Event → ℕ
 total f [] = 0
@@ -130,7 +130,7 @@ module _ (u : ℕ) (c : ClassId) where
       body_even (stops i on is made) = items_even i
       body_even (stops_ended i made) = items_even i
 
-    pub thread_even : {m : ClassId} {w : List Event} → ThreadWord p t m w → Even w
+    pub thread_even : {M : Maker} {y z : M.State} {m : ClassId} {w : List Event} {r : Outcome} → ThreadWordOf p t M y m w r z → Even w
     thread_even (ran {w = xs} {body = ys} x st b) = even_append xs ys (word_even x) (body_even b)
     thread_even (threw x) = word_even x
     thread_even (was_ended x) = word_even x

@@ -17,12 +17,12 @@ use Rattle.init_world.proofs.Finishing.{can_finish}
 module _ (p : LinkedProgram) (t : ℕ) (m : ClassId) where
   by_result : (r : Outcome) {w : List Event} → ProcedureWord p t m w r → ThreadWord p t m w
   by_result Normal x = thread_word p t m x
-  by_result (Abrupt e) x = threw x
-  by_result (Ended e) x = was_ended x
+  by_result (Abrupt e) x = (Abrupt e, threw x)
+  by_result (Ended e) x = (Ended e, was_ended x)
 
   -- the thread may stop where no class is open: at the start the request is given up, and main's body may do nothing
   main_stops : (last : Option Completed) (xs : List Event) → MainDone p t m last xs → ThreadWord p t m xs
-  main_stops last xs nothing = was_ended {e = built_in p InternalError} (word false (gives_up (inl refl)))
+  main_stops last xs nothing = (Ended (built_in p InternalError), was_ended (word false (gives_up (inl refl))))
   main_stops last xs (main_done {r = r} x) = by_result r x
 
   body_is_over : (gone : Option ClassId) (last : Option Completed) (items : List Event) → given_up last ≡ gone → Items p t last items → (r : Outcome) × Body p t free tt items r tt
@@ -30,7 +30,7 @@ module _ (p : LinkedProgram) (t : ℕ) (m : ClassId) where
   body_is_over (Some e) last items gone i = (Ended e, body_stops p t free (λ d ys z. BeforeMain p t m d ys) (λ last ys z. MainDone p t m last ys) (goes_main p t m) e gone i tt)
 
   items_stop : (last : Option Completed) (xs : List Event) → MainItems p t m last xs → ThreadWord p t m xs
-  items_stop last xs (main_items {items = items} x i) = let b = body_is_over (given_up last) last items refl i in ran {v = tt} x tt b.1
+  items_stop last xs (main_items {items = items} x enters i) = let b = body_is_over (given_up last) last items refl i in (b.0, ran {v = tt} x tt b.1)
 
   pub begun_can_finish : (xs : List Event) → BeginsMain p t m xs → (ys : List Event) × AreEndings t ys × ThreadWord p t m (xs ++ ys)
   begun_can_finish xs (in_procedure s h) = can_finish p t (BeforeMain p t m) (MainDone p t m) (goes_main p t m) (ThreadWord p t m) main_stops s xs h

@@ -131,7 +131,7 @@ module _ (p : LinkedProgram) (mains : List ClassId) where
   -- how much a thread has left to end
   left : (t : ℕ) (m : ClassId) (c : ClassId) (events w : List Event) → AreLawful events → AreEndings t w → ThreadWord p t m (of_thread t events ++ w) → total (ended t c) w ≡ mine t (label_at events c)
   left t m c events w lawful a x =
-      let even : total (begun t c) (of_thread t events ++ w) ≡ total (ended t c) (of_thread t events ++ w) = thread_even t c p t x in
+      let even : total (begun t c) (of_thread t events ++ w) ≡ total (ended t c) (of_thread t events ++ w) = thread_even t c p t x.1 in
       let b : total (begun t c) (of_thread t events ++ w) ≡ total (begun t c) (of_thread t events) + total (begun t c) w = total-append (begun t c) (of_thread t events) w in
       let e : total (ended t c) (of_thread t events ++ w) ≡ total (ended t c) (of_thread t events) + total (ended t c) w = total-append (ended t c) (of_thread t events) w in
       let part = counted_by_part p t c events in

@@ -1,2 +1,3 @@
 pub mod TraceText
 pub mod EmptyBodies
+pub mod Output

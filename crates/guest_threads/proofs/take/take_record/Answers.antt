@@ -10,13 +10,16 @@ returns-clause-took g c =
     let h = c.in_ok-held.held in
     let k : c.kept.result.now ≡ h.kept = c.kept.ensures.record in
     let w = c.requires.works in
+    let found = class_found c.args.program.now c.args.class c.args.pass.now.opening h.kept w.prepared w.whole c.requires.class e.opening in
     subst (λ (x : Guarded). Took c.args.program.now c.args.class c.args.pass.now c.take-taken.new.pass (record { place = h.place; taken = h.taken; kept = x })) (sym k) (record {
       same = e.pass;
       journal = e.journal;
       room = e.room;
       place = e.place;
       untouched = e.taken;
-      class = class_found c.args.program.now c.args.class c.args.pass.now.opening h.kept w.prepared w.whole c.requires.class e.opening;
+      class = found.0;
+      fields = found.1;
+      held = found.2;
       finds = finds c.args.pass.now.number c.args.class.number _ h.kept.record.events c.kept.result.now.record e.grew (ap (λ (x : Guarded). x.record.events) k) c.is_lawful.ensures.lawful;
       seen = e.seen;
       out = e.out;

@@ -1,0 +1,38 @@
+//! Bodies that are empty.
+
+ghost use Rattle.std.specs.Prelude.{◌≡◌};
+ghost use Rattle.hierarchy.specs.Subclasses.{IsError, IsThrowable};
+ghost use Rattle.init_core.specs.ProcedureWord.{GoesOn, IsOfFiles};
+
+use crate::does::{Bodies, Does};
+use hierarchy::{BuiltIn, ClassId, Program, Value};
+use init_core::Completed;
+use std::alloc::Global;
+
+/// Each class is run as if it had no initializer, and a main class as if it had no `main`.
+#[derive(Clone, Copy, Debug, PartialEq, Eq, Drop)]
+pub struct NoCode;
+
+impl Bodies for NoCode {
+    ghost use Rattle.bodies.specs.Making.{empty_bodies, waits_for_nothing};
+
+    ghost making = { λ p. empty_bodies };
+
+    fn start(&mut self, _alloc: Global, _program: &Program, _class: ClassId) {}
+
+    fn enter(&mut self, _alloc: Global, _program: &Program, _class: ClassId) {}
+
+    fn next(&mut self, _alloc: Global, _program: &Program, _last: Option<Completed>) -> Does {
+        Does::Over(None)
+    }
+
+    fn get(&mut self, _program: &Program, _value: Value) {}
+
+    fn leave(&mut self, _program: &Program) {}
+
+    fn replace(&mut self, _alloc: Global, program: &Program, _thrown: ClassId) -> ClassId {
+        program.built_in(BuiltIn::ExceptionInInitializerError)
+    }
+
+    ghost waits_on = { waits_for_nothing };
+}

@@ -1,0 +1,39 @@
+-- What a task is seen as, and its fields: a fact of the one is one of the other.
+use Rattle.std.proofs.Common.{◌≡◌, Option, subst}
+use Rattle.hierarchy.specs.declared.class.ClassId.{ClassId}
+use Rattle.hierarchy.specs.LinkedProgram.{LinkedProgram}
+use Rattle.init_core.specs.declared.frames.Completed.{Completed}
+use Rattle.init_core.specs.declared.frames.Outcome.{Outcome}
+use Rattle.init_core.specs.Advance.{FitsBody}
+use Rattle.trace.specs.declared.report.Limit.{Limit}
+use Rattle.bodies.specs.declared.does.Does.{Does}
+use Rattle.bodies.specs.Making.{Making}
+use Rattle.guest_threads.specs.declared.task.Work.{Work}
+use Rattle.guest_threads.specs.Tasks.{TaskFacts, IsWhy, IsLimitOf}
+use Rattle.guest_threads.proofs.Acting.{HasWaited}
+use Rattle.guest_threads.specs.Working.{Working, HasComeTo, IsDoing, IsOver}
+
+module _ {S : Type 0} (F : LinkedProgram → Making S) {k j : TaskFacts S} (e : k ≡ j) where
+  pub working_at : {w : Work S} → Working (F k.program) k w → Working (F j.program) j w
+  working_at {w = w} o = subst (λ (x : TaskFacts S). Working (F x.program) x w) e o
+
+  pub come_at : {w : Work S} → HasComeTo (F k.program) k w → HasComeTo (F j.program) j w
+  come_at {w = w} o = subst (λ (x : TaskFacts S). HasComeTo (F x.program) x w) e o
+
+  pub doing_at : {d : Does} {w : Work S} → IsDoing (F k.program) k d w → IsDoing (F j.program) j d w
+  doing_at {d = d} {w = w} o = subst (λ (x : TaskFacts S). IsDoing (F x.program) x d w) e o
+
+  pub over_at : {r : Outcome} {w : Work S} → IsOver (F k.program) k r w → IsOver (F j.program) j r w
+  over_at {r = r} {w = w} o = subst (λ (x : TaskFacts S). IsOver (F x.program) x r w) e o
+
+  pub limit_at : (l : Limit) → IsLimitOf (F k.program) k l → IsLimitOf (F j.program) j l
+  limit_at l o = subst (λ (x : TaskFacts S). IsLimitOf (F x.program) x l) e o
+
+  pub why_at : (l : Limit) (c : ClassId) → IsWhy (F k.program) k l c → IsWhy (F j.program) j l c
+  why_at l c o = subst (λ (x : TaskFacts S). IsWhy (F x.program) x l c) e o
+
+  pub fits_at : (o : Option ClassId) (r : Outcome) → FitsBody k.program o r → FitsBody j.program o r
+  fits_at o r f = subst (λ (x : TaskFacts S). FitsBody x.program o r) e f
+
+  pub waited_at : {last : Option Completed} {from now : S} → HasWaited (F k.program) last from now → HasWaited (F j.program) last from now
+  waited_at {last = last} {from = from} {now = now} h = subst (λ (x : TaskFacts S). HasWaited (F x.program) last from now) e h

@@ -1,0 +1,218 @@
+//! What a body does, of an initializer behind step 9 or of `main`.
+
+ghost use Rattle.std.specs.Prelude.{◌≡◌, ◌≢◌, ◌≤◌, MatchOption};
+ghost use Rattle.init_core.specs.Advance.{FitsBody};
+ghost use Rattle.init_core.specs.ProcedureWord.{GoesOn, given_up};
+ghost use Rattle.init_core.specs.declared.frames.Outcome.TheVariants.{Ended};
+ghost use Rattle.bodies.specs.declared.does.Does.TheVariants as does;
+ghost use Rattle.guest_threads.specs.Tasks.{IsLimitOf, IsWhy};
+ghost use Rattle.guest_threads.specs.Working.{Working, IsInBody, HasComeTo, IsDoing, IsOver};
+
+use crate::gate::Gate;
+use crate::take::{give_back_untouched, give_back_with, take_record};
+use crate::task::{Task, Work, error_at};
+use bodies::{Bodies, Does};
+use hierarchy::{ClassId, Value};
+use init_core::{Event, Kind, Outcome};
+use sequence::Text;
+use std::alloc::AllocError;
+use std::sync::Wait;
+use std::thread;
+use trace::Limit;
+
+impl<'a, G: Gate, B: Bodies> Task<'a, G, B> {
+    /// What the innermost body does next. Where it waits the thread lets others run, and asks again; an answer
+    /// [`Does::Waits`] is the end of its patience.
+    fn next<W: Wait>(&self, rt: &W, work: &mut Work<B>) -> Does
+        requires working { Working (B.making self.now.program) self.now work.old }
+        requires body { IsInBody work.old }
+        requires goes_on { GoesOn work.old.procedure.last }
+        ensures doing { IsDoing (B.making self.now.program) self.now result work.new }
+        ensures patience { result ≡ does.Waits → self.now.limits.patience ≢ 0 }
+        ensures room { work.new.slack ≡ work.old.slack }
+    {
+        let last = work.procedure.last();
+        let mut looks: u32 = 0;
+        'asking: for _ in rt.forever() {
+            let does = work.bodies.next(self.alloc, self.program, last);
+            let Does::Waits = does else {
+                return does;
+            };
+            if self.limits.patience != 0 {
+                looks = looks.saturating_add(1);
+                if looks >= self.limits.patience {
+                    return Does::Waits;
+                }
+            }
+            thread::yield_now();
+        }
+        unreachable!()
+    }
+
+    /// The body is ended by this error of the machine. In `main` that is how the thread ends.
+    fn leave(&self, work: &mut Work<B>, error: ClassId) -> Option<Outcome>
+        requires come { HasComeTo (B.making self.now.program) self.now work.old }
+        requires fits { FitsBody self.now.program (given_up work.old.procedure.last) (Ended error) }
+        requires why { IsWhy (B.making self.now.program) self.now work.old.why error }
+        ensures { MatchOption result (Working (B.making self.now.program) self.now work.new) (λ r. IsOver (B.making self.now.program) self.now r work.new) }
+    {
+        work.bodies.leave(self.program);
+        if work.procedure.is_running() {
+            work.procedure.end_body(Outcome::Ended(error));
+            return None;
+        }
+        Some(Outcome::Ended(error))
+    }
+
+    /// The machine ends the thread at this limit, in a body.
+    fn leave_at(&self, work: &mut Work<B>, limit: Limit) -> Option<Outcome>
+        requires come { HasComeTo (B.making self.now.program) self.now work.old }
+        requires goes_on { GoesOn work.old.procedure.last }
+        requires limit { IsLimitOf (B.making self.now.program) self.now limit }
+        ensures { MatchOption result (Working (B.making self.now.program) self.now work.new) (λ r. IsOver (B.making self.now.program) self.now r work.new) }
+    {
+        work.why = limit;
+        self.leave(work, error_at(self.program, limit))
+    }
+
+    /// An active use of a class. Where memory is refused the machine ends the thread.
+    fn use_class(&self, work: &mut Work<B>, class: ClassId) -> Option<Outcome>
+        requires doing { IsDoing (B.making self.now.program) self.now (does.Asks class) work.old }
+        ensures { MatchOption result (Working (B.making self.now.program) self.now work.new) (λ r. IsOver (B.making self.now.program) self.now r work.new) }
+    {
+        let asked = work.procedure.request(class);
+        let Ok(()) = asked else {
+            return self.leave_at(work, Limit::Memory);
+        };
+        None
+    }
+
+    /// A read of a static field. It waits for the lock without limit. Where memory is refused the machine ends the thread.
+    fn read<W: Wait>(
+        &self,
+        rt: &W,
+        work: &mut Work<B>,
+        class: ClassId,
+        field: usize,
+    ) -> Option<Outcome>
+        requires doing { IsDoing (B.making self.now.program) self.now (does.Gets class field) work.old }
+        requires room { 1 ≤ work.old.slack }
+        ensures { MatchOption result (Working (B.making self.now.program) self.now work.new) (λ r. IsOver (B.making self.now.program) self.now r work.new) }
+    {
+        let taken = take_record(rt, self.program, self.table, &mut work.pass, class, 0);
+        let Ok(mut held) = taken else { unreachable!() };
+        let record = &mut held.kept().record;
+        let read = record.read_static(self.number, field);
+        let Ok(value) = read else {
+            give_back_untouched(self.table, &mut work.pass, held);
+            return self.leave_at(work, Limit::Memory);
+        };
+        record.is_lawful();
+        let event = Event::new(self.number, class, Kind::Gets { field, value });
+        give_back_with(self.table, &mut work.pass, held, event);
+        work.bodies.get(self.program, value);
+        work.procedure.forget_last();
+        work.slack -= 1;
+        self.gate.at(&Event::new(self.number, class, Kind::Gets { field, value }));
+        None
+    }
+
+    /// A write of a static field. It waits for the lock without limit. Where memory is refused the machine ends the thread.
+    fn write<W: Wait>(
+        &self,
+        rt: &W,
+        work: &mut Work<B>,
+        class: ClassId,
+        field: usize,
+        given: Value,
+    ) -> Option<Outcome>
+        requires doing { IsDoing (B.making self.now.program) self.now (does.Puts class field given) work.old }
+        requires room { 1 ≤ work.old.slack }
+        ensures { MatchOption result (Working (B.making self.now.program) self.now work.new) (λ r. IsOver (B.making self.now.program) self.now r work.new) }
+    {
+        let taken = take_record(rt, self.program, self.table, &mut work.pass, class, 0);
+        let Ok(mut held) = taken else { unreachable!() };
+        let record = &mut held.kept().record;
+        let written = record.write_static(self.number, field, given);
+        let Ok(()) = written else {
+            give_back_untouched(self.table, &mut work.pass, held);
+            return self.leave_at(work, Limit::Memory);
+        };
+        record.is_lawful();
+        let value = record.value(field);
+        let event = Event::new(self.number, class, Kind::Puts { field, value });
+        give_back_with(self.table, &mut work.pass, held, event);
+        work.procedure.forget_last();
+        work.slack -= 1;
+        self.gate.at(&Event::new(self.number, class, Kind::Puts { field, value }));
+        None
+    }
+
+    /// A print. Where memory is refused the machine ends the thread.
+    fn print(&self, work: &mut Work<B>, text: Text) -> Option<Outcome>
+        requires doing { IsDoing (B.making self.now.program) self.now (does.Prints text) work.old }
+        requires room { 1 ≤ work.old.slack }
+        ensures { MatchOption result (Working (B.making self.now.program) self.now work.new) (λ r. IsOver (B.making self.now.program) self.now r work.new) }
+    {
+        let made = Event::print(self.alloc, self.number, text);
+        let Ok(event) = made else {
+            return self.leave_at(work, Limit::Memory);
+        };
+        let copied: Result<Event, AllocError> = event.clone();
+        let Ok(copy) = copied else {
+            return self.leave_at(work, Limit::Memory);
+        };
+        self.table.draw(&mut work.pass, event);
+        work.procedure.forget_last();
+        work.slack -= 1;
+        self.gate.at(&copy);
+        None
+    }
+
+    /// The body is over: it returned, or it threw, and then step 11 comes. In `main` that is how the thread ends.
+    fn end_body(&self, work: &mut Work<B>, thrown: Option<ClassId>) -> Option<Outcome>
+        requires doing { IsDoing (B.making self.now.program) self.now (does.Over thrown) work.old }
+        ensures { MatchOption result (Working (B.making self.now.program) self.now work.new) (λ r. IsOver (B.making self.now.program) self.now r work.new) }
+    {
+        if !work.procedure.is_running() {
+            return Some(match thrown {
+                None => Outcome::Normal,
+                Some(throwable) => Outcome::Abrupt(throwable),
+            });
+        }
+        let Some(throwable) = thrown else {
+            work.procedure.end_body(Outcome::Normal);
+            return None;
+        };
+        let error = work.bodies.replace(self.alloc, self.program, throwable);
+        work.procedure.end_body(Outcome::Abrupt(error));
+        None
+    }
+
+    /// What the innermost body does next, and how the thread ended where that was its end.
+    pub(crate) fn go_on<W: Wait>(&self, rt: &W, work: &mut Work<B>) -> Option<Outcome>
+        requires working { Working (B.making self.now.program) self.now work.old }
+        requires body { IsInBody work.old }
+        ensures { MatchOption result (Working (B.making self.now.program) self.now work.new) (λ r. IsOver (B.making self.now.program) self.now r work.new) }
+    {
+        if let Some(error) = work.procedure.ending_error() {
+            return self.leave(work, error);
+        }
+        if !self.has_room(work, 1) {
+            return self.leave_at(work, Limit::Memory);
+        }
+        match self.next(rt, work) {
+            Does::Asks(class) => self.use_class(work, class),
+            Does::Gets { class, field } => self.read(rt, work, class, field),
+            Does::Puts {
+                class,
+                field,
+                value,
+            } => self.write(rt, work, class, field, value),
+            Does::Prints(text) => self.print(work, text),
+            Does::Waits => self.leave_at(work, Limit::Patience),
+            Does::Over(thrown) => self.end_body(work, thrown),
+            Does::Ended(limit) => self.leave_at(work, limit),
+        }
+    }
+}
