@@ -53,7 +53,7 @@ fn steps_of(events: &[Event]) -> Result<Steps, AllocError> {
 }
 
 /// Whether each main class is one of the files.
-fn are_of_files(program: &Program, mains: &[ClassId]) -> bool
+pub(crate) fn are_of_files(program: &Program, mains: &[ClassId]) -> bool
     ensures { result ≡ true → AreMains program.now mains.now }
 {
     for main in mains {
@@ -87,7 +87,7 @@ fn add(alloc: Global, file: &[u8], classes: &mut Vec<ClassText>) -> Result<(), A
     Ok(())
 }
 
-fn linked(alloc: Global, files: &[&[u8]]) -> Option<Program> {
+pub(crate) fn linked(alloc: Global, files: &[&[u8]]) -> Option<Program> {
     let mut classes = Vec::new(alloc);
     for file in files {
         if add(alloc, file, &mut classes).is_err() {
