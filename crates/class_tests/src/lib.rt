@@ -13,6 +13,8 @@ mod programs;
 #[cfg(test)]
 mod records;
 #[cfg(test)]
+mod resolved;
+#[cfg(test)]
 mod schedules;
 #[cfg(test)]
 mod static_values;

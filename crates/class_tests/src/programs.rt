@@ -5,6 +5,7 @@ use crate::comparing::{Case, agrees, differs};
 use crate::handlers::handlers;
 use crate::procedures::procedures;
 use crate::records::records;
+use crate::resolved::resolved;
 use crate::traces::traces;
 use crate::worlds::{a_thread_ends, a_waiter_ends, superclass_is_first, two_threads_end};
 use hierarchy::{Program, link};
@@ -21,6 +22,8 @@ pub(crate) enum Question {
     Procedures,
     /// Handler tables, and step 11.
     Handlers,
+    /// Resolved instructions.
+    Resolved,
     /// The text of traces.
     Traces,
     /// World and the twin judge alike to this depth.
@@ -43,6 +46,7 @@ fn answers(alloc: Global, program: &Program, question: &Question) -> Result<bool
         Question::Records => records(alloc, program),
         Question::Procedures => procedures(alloc, program),
         Question::Handlers => Ok(handlers(program)),
+        Question::Resolved => Ok(resolved(program)),
         Question::Traces => traces(alloc, program),
         Question::Agrees(case, depth) => agrees(alloc, program, case, *depth),
         Question::Differs(case) => differs(alloc, program, case),

@@ -4,7 +4,9 @@ pub mod BuiltIns
 pub mod ClassMembership
 pub mod ClassNames
 pub mod ClassSets
+pub mod CodeOfClasses
 pub mod Counts
+pub mod DeclaredMembers
 pub mod DistinctMembers
 pub mod EmptyProgram
 pub mod Enumerations
@@ -16,11 +18,14 @@ pub mod MemberOrder
 pub mod MemberPlaces
 pub mod Named
 pub mod ObjectCells
+pub mod OpTargets
 pub mod PlaceTables
 pub mod Positions
 pub mod ProvedByLinking
 pub mod Resolved
 pub mod Searches
+pub mod SmallNumbers
+pub mod SpellableMembers
 pub mod Subtypes
 pub mod Superclasses
 pub mod TextLists

@@ -1,8 +1,8 @@
 -- The first element that passes a test.
-use Rattle.std.proofs.Common.{◌≡◌, ℕ, zero, suc, ◌+◌, Bool, true, false, cond, ◌&&◌, not, inl, inr, Some, None, List, [], ◌∷◌, take, slice_get, refl, ap, ◌∙◌, subst, arith}
+use Rattle.std.proofs.Common.{◌≡◌, ℕ, zero, suc, ◌+◌, Bool, true, false, cond, ◌&&◌, not, inl, inr, Some, None, List, [], ◌∷◌, length, take, slice_get, refl, ap, ◌∙◌, subst, arith}
 use Rattle.std.proofs.lemmas.Bool.{cases_Bool, or_parts}
 use Rattle.std.proofs.lemmas.Iterator.Adapters.{position_from-zero}
-use Rattle.std.specs.List.{list_any, position, position_from}
+use Rattle.std.specs.List.{filter, list_any, position, position_from}
 use Rattle.std.specs.Str.{bytes_eq}
 use Rattle.hierarchy.specs.BuiltIn.{place_from}
 
@@ -71,3 +71,11 @@ place_by_steps k (n ∷ ns) name = ap (cond (bytes_eq n name) (Some k)) (place_b
 abbrev pub are_different : List (List ℕ) → Bool
 are_different [] = true
 are_different (n ∷ ns) = not (list_any (bytes_eq n) ns) && are_different ns
+
+-- what passes stands among those that pass behind those that do before it
+pub filtered_there : {X : Type 0} (q : X → Bool) (xs : List X) (place : ℕ) (x : X) → slice_get xs place ≡ Some x → q x ≡ true → slice_get (filter q xs) (length (filter q (take place xs))) ≡ Some x
+filtered_there q [] place x e t = absurd cc
+filtered_there q (y ∷ ys) zero x e t = let same : y ≡ x = cc in let own : q y ≡ true = ap q same ∙ t in rw own (ap Some same)
+filtered_there q (y ∷ ys) (suc place) x e t =
+    let r = filtered_there q ys place x e t in
+    elim (cases_Bool (q y)) [ inl own ↦ rw own r | inr own ↦ rw own r ]

@@ -2,6 +2,7 @@ pub mod Ancestry
 pub mod BuiltIn
 pub mod BuiltInMethods
 pub mod ClassLists
+pub mod Code
 pub mod Fields
 pub mod FirstFault
 pub mod Found
@@ -15,11 +16,14 @@ pub mod Members
 pub mod MethodResolution
 pub mod Methods
 pub mod Objects
+pub mod OpTargets
+pub mod Ops
 pub mod OwnNames
 pub mod Quoted
 pub mod Searched
 pub mod Selection
 pub mod SpellableClass
+pub mod StaticMembers
 pub mod Subclasses
 pub mod Superinterfaces
 pub mod Supertypes

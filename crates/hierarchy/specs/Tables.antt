@@ -1,8 +1,11 @@
 -- What a program keeps beside its classes.
-use Rattle.std.specs.Prelude.{◌≡◌, ◌≤◌, List, length}
+use Rattle.std.specs.Prelude.{◌≡◌, ℕ, ◌≤◌, List, Some, length, slice_get}
 use Rattle.hierarchy.specs.declared.class.Class.{Class}
+use Rattle.hierarchy.specs.declared.code.ClassCode.{ClassCode}
 use Rattle.hierarchy.specs.declared.tables.Tables.{Tables}
 use Rattle.hierarchy.specs.ClassLists.{distinct}
+use Rattle.hierarchy.specs.Code.{code_at}
+use Rattle.hierarchy.specs.LinkedProgram.{linked}
 use Rattle.hierarchy.specs.Searched.{HasSupertypes}
 use Rattle.hierarchy.specs.Superinterfaces.{IsTable, superinterfaces}
 use Rattle.hierarchy.specs.Fields.{field_order}
@@ -19,3 +22,7 @@ pub record AreTables (classes : List Class) (t : Tables) : Type 0 where
   pub quoted : t.quoted ≡ quoted_texts classes
   pub cells : cells_of classes ≤ 1000000
   pub members : HavePlaces classes t.members.items
+
+-- each entry is that of its class
+abbrev pub AreCodeOf : List Class → List ClassCode → Type 0
+AreCodeOf classes code = (n : ℕ) (found : ClassCode) → slice_get code n ≡ Some found → code_at (linked classes) n ≡ Some found

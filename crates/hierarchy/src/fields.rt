@@ -1,9 +1,10 @@
 //! Field resolution.
 
-ghost use Rattle.std.specs.Prelude.{◌≡◌, ◌≤◌, length};
+ghost use Rattle.std.specs.Prelude.{◌≡◌, ◌≤◌, filter, length};
+ghost use Rattle.hierarchy.specs.Ops.{is_static_field};
 ghost use Rattle.hierarchy.specs.Ancestry.{first_given, superclasses};
 ghost use Rattle.hierarchy.specs.MemberOrder.{key_of_field, AreSortedPlaces};
-ghost use Rattle.hierarchy.specs.Fields.{field_order, field_from, is_class_type, is_out, built_in_field, declared_field, is_of_kind, resolved_field};
+ghost use Rattle.hierarchy.specs.Fields.{field_order, field_from, is_class_element as is_class_element_of, is_class_type, is_out, built_in_field, declared_field, is_of_kind, resolved_field};
 
 use crate::built_in::BuiltIn;
 use crate::class::ClassId;
@@ -64,14 +65,37 @@ fn field_among(
     })
 }
 
+/// How many of these fields are static. Takes no memory.
+pub fn static_count(fields: &[Field]) -> usize
+    ensures count { result ≡ length (filter is_static_field fields.now) }
+    ensures within { result ≤ length fields.now }
+{
+    let mut count = 0;
+    let mut rest = fields;
+    while let [field, after @ ..] = rest {
+        if field.access.is_static {
+            count += 1;
+        }
+        rest = after;
+    }
+    count
+}
+
+/// Whether what stands behind a type's dimensions is the class of that internal name.
+pub(crate) fn is_class_element(name: &[u8], element: &ElementType) -> bool
+    ensures { result ≡ is_class_element_of name.now element.now }
+{
+    match element {
+        ElementType::Base(_) => false,
+        ElementType::Class(class) => class.as_slice() == name,
+    }
+}
+
 /// Whether a type is the class of that internal name.
 pub(crate) fn is_class(name: &[u8], field_type: &FieldType) -> bool
     ensures { result ≡ is_class_type name.now field_type.now }
 {
-    match &field_type.element {
-        ElementType::Base(_) => false,
-        ElementType::Class(class) => field_type.dimensions == 0 && class.as_slice() == name,
-    }
+    field_type.dimensions == 0 && is_class_element(name, &field_type.element)
 }
 
 /// Whether these are the name and descriptor of java/lang/System's field.

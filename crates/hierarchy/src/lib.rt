@@ -22,7 +22,9 @@ mod assembly;
 pub mod built_in;
 pub mod built_in_method;
 pub mod class;
+mod class_code;
 mod class_set;
+pub mod code;
 pub mod declared_method;
 pub mod fault;
 mod field_order;
@@ -35,6 +37,8 @@ mod member_places;
 pub mod methods;
 mod naming;
 pub mod objects;
+pub mod op;
+mod ops;
 mod order;
 pub mod program;
 mod quoted;
@@ -51,15 +55,18 @@ mod walk;
 pub use built_in::{BUILT_IN_COUNT, BuiltIn};
 pub use built_in_method::{BuiltInMethod, Printed};
 pub use class::{Class, ClassId};
+pub use code::{ClassCode, Element, MethodCode, ResolvedType};
 pub use declared_method::MethodId;
 pub use fault::{LinkFault, LinkFaultKind};
-pub use fields::{FieldId, FieldKind};
+pub use fields::{FieldId, FieldKind, static_count};
 pub use laws::{
-    classes_are_found_by_name, fields_keep_their_cells, members_are_looked_up_upward,
-    members_have_own_descriptors, texts_have_own_references, throwables_are_subclasses,
+    classes_are_found_by_name, fields_keep_their_cells, instructions_name_what_is_there,
+    members_are_looked_up_upward, members_have_own_descriptors, texts_have_own_references,
+    throwables_are_subclasses,
 };
 pub use linking::link;
 pub use methods::Invoke;
+pub use op::Op;
 pub use program::Program;
 pub use ready::ReadyObject;
 pub use selection::Call;

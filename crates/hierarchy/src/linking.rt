@@ -17,6 +17,7 @@ ghost use Rattle.hierarchy.specs.declared.fault.LinkFaultKind.TheVariants as bec
 
 use crate::assembly::linked_classes;
 use crate::class::Class;
+use crate::class_code::code_of;
 use crate::class_set::ClassSet;
 use crate::fault::{LinkFault, LinkFaultKind};
 use crate::member_places::{MemberPlaces, MemberSearch, search_members};
@@ -195,6 +196,21 @@ fn name_of_class(classes: Vec<Class>, place: usize) -> ClassName
     classes.swap_remove(place).name
 }
 
+/// The program with what running its classes needs, their instructions resolved.
+fn resolved(alloc: Global, program: Program) -> Result<Program, LinkFault>
+    requires some { 0 < length program.classes }
+    ensures same { IfOk result (λ made. made ≡ program) }
+    ensures fault { IfErr result IsMemory }
+{
+    match code_of(alloc, &program) {
+        Ok(code) => Ok(program.with_code(code)),
+        Err(_) => Err(LinkFault {
+            kind: LinkFaultKind::NoMemory,
+            class: name_of_class(program.into_classes(), 0),
+        }),
+    }
+}
+
 /// The program of classes whose supertypes' names are resolved.
 fn program_of(alloc: Global, names: Texts, classes: Vec<Class>) -> Result<Program, LinkFault>
     requires some { 0 < vec_len classes }
@@ -207,7 +223,7 @@ fn program_of(alloc: Global, names: Texts, classes: Vec<Class>) -> Result<Progra
     ensures fault { IfErr result (λ f. IsMemory f ⊎ ((i : ℕ) × IsClassFault classes.items f.kind i × (name_in_class (slice_get classes.items i) ≡ Some f.class))) }
 {
     match tables_of(alloc, &classes) {
-        Ok(tables) => Ok(Program::new(classes, names, tables)),
+        Ok(tables) => resolved(alloc, Program::new(alloc, classes, names, tables)),
         Err(at) => Err(LinkFault {
             kind: at.kind,
             class: name_of_class(classes, at.place),

@@ -58,7 +58,7 @@ pub(crate) fn is_init(name: &[u8]) -> bool
 
 impl Program {
     /// Class or interface. The built-in ones are classes.
-    fn kind_of(&self, id: ClassId) -> ClassKind
+    pub(crate) fn kind_of(&self, id: ClassId) -> ClassKind
         ensures { result ≡ kind_of self.now id }
     {
         match self.class(id) {

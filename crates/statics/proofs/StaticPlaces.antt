@@ -1,5 +1,5 @@
 -- Where a static field stands among the static ones.
-use Rattle.std.proofs.Common.{◌≡◌, ℕ, zero, suc, Bool, true, false, inl, inr, Option, Some, None, List, [], ◌∷◌, length, take, slice_get, refl, sym, ap, subst, ◌∙◌}
+use Rattle.std.proofs.Common.{◌≡◌, ℕ, inl, inr, Option, Some, None, List, slice_get, refl, sym, subst, ◌∙◌}
 use Rattle.std.proofs.lemmas.Bool.{cases_Bool}
 use Rattle.std.specs.Prelude.{filter, IfSome}
 use Rattle.jasmin_text.specs.declared.class_text.Field.{Field}
@@ -7,15 +7,9 @@ use Rattle.hierarchy.specs.declared.class.Class.{Class}
 use Rattle.hierarchy.specs.declared.class.ClassId.{ClassId}
 use Rattle.hierarchy.specs.LinkedProgram.{LinkedProgram, class_at}
 use Rattle.hierarchy.specs.OwnNames.{fields_in, fields_of}
-use Rattle.statics.specs.Statics.{is_static_field, static_fields_in, static_fields, static_place_in, static_place}
-
--- what passes stands among those that pass behind those that do before it
-pub filtered_there : {X : Type 0} (q : X → Bool) (xs : List X) (place : ℕ) (x : X) → slice_get xs place ≡ Some x → q x ≡ true → slice_get (filter q xs) (length (filter q (take place xs))) ≡ Some x
-filtered_there q [] place x e t = absurd cc
-filtered_there q (y ∷ ys) zero x e t = let same : y ≡ x = cc in let own : q y ≡ true = ap q same ∙ t in rw own (ap Some same)
-filtered_there q (y ∷ ys) (suc place) x e t =
-    let r = filtered_there q ys place x e t in
-    elim (cases_Bool (q y)) [ inl own ↦ rw own r | inr own ↦ rw own r ]
+use Rattle.hierarchy.specs.Ops.{is_static_field}
+use Rattle.hierarchy.proofs.Positions.{filtered_there}
+use Rattle.statics.specs.Statics.{static_fields_in, static_fields, static_place_in, static_place}
 
 among : (fs : List Field) (place : ℕ) (o : Option Field) → slice_get fs place ≡ o → IfSome (static_place_in fs place o) (λ k. slice_get (filter is_static_field fs) k ≡ slice_get fs place)
 among fs place None g = tt

@@ -1,5 +1,5 @@
 -- The static fields of a class, with their defaults (JVMS SE 8 2.3, 2.4) and constants (4.7.2, 5.5 step 6).
-use Rattle.std.specs.Prelude.{ℕ, ℤ, pos, ◌+ℤ◌, ◌-ℤ◌, int_lt, ◌==◌, Bool, List, [], ◌∷◌, Option, Some, None, map, filter, length, slice_get, take, if◌then◌else◌}
+use Rattle.std.specs.Prelude.{ℕ, ℤ, pos, ◌+ℤ◌, ◌-ℤ◌, int_lt, ◌==◌, List, [], ◌∷◌, Option, Some, None, map, filter, length, slice_get, take, if◌then◌else◌}
 use Rattle.std.specs.Option.{option_map, unwrap_or}
 use Rattle.std.specs.Int.{int_rem_euclid}
 use Rattle.descriptors.specs.declared.base.BaseType.{BaseType}
@@ -15,6 +15,7 @@ use Rattle.hierarchy.specs.declared.class.ClassId.{ClassId}
 use Rattle.hierarchy.specs.declared.value.Value.{Value}
 use Rattle.hierarchy.specs.declared.value.Value.TheVariants as value
 use Rattle.hierarchy.specs.LinkedProgram.{LinkedProgram, class_at}
+use Rattle.hierarchy.specs.Ops.{is_static_field}
 use Rattle.hierarchy.specs.OwnNames.{fields_of}
 use Rattle.hierarchy.specs.Quoted.{text_reference}
 use Rattle.statics.specs.declared.static_field.StaticField.{StaticField}
@@ -66,9 +67,6 @@ constant_value p base (constant.Text text) = text_value p text
 
 abbrev pub static_field : LinkedProgram → Field → StaticField
 static_field p f = record { base = base_in f.field_type; constant = option_map (constant_value p (base_in f.field_type)) f.value }
-
-abbrev pub is_static_field : Field → Bool
-is_static_field f = f.access.is_static
 
 abbrev pub static_fields_in : Option Class → List Field
 static_fields_in None = []

@@ -1,11 +1,12 @@
 //! What is known of a static field before the program runs.
 
-ghost use Rattle.std.specs.Prelude.{◌≡◌, ◌≤◌, pos, ◌<ℤ◌, ◌≤ℤ◌, filter, length, option_copied, slice_get, IfSome};
+ghost use Rattle.std.specs.Prelude.{◌≡◌, pos, ◌<ℤ◌, ◌≤ℤ◌, filter, length, option_copied, slice_get, IfSome};
+ghost use Rattle.hierarchy.specs.Ops.{is_static_field};
 ghost use Rattle.hierarchy.specs.OwnNames.{fields_of};
-ghost use Rattle.statics.specs.Statics.{static_place as static_place_of, base_in, default_of, signed_low, narrowed_int, narrowed as narrowed_value, constant_value, with_constant, static_field as static_field_of, static_fields, is_static_field, text_value};
+ghost use Rattle.statics.specs.Statics.{static_place as static_place_of, base_in, default_of, signed_low, narrowed_int, narrowed as narrowed_value, constant_value, with_constant, static_field as static_field_of, static_fields, text_value};
 
 use descriptors::{BaseType, ElementType, FieldType};
-use hierarchy::{ClassId, Program, Value};
+use hierarchy::{ClassId, Program, Value, static_count};
 use jasmin_text::{Constant, Field};
 
 /// A static field of one class.
@@ -44,8 +45,8 @@ fn signed_low_bits(number: i32, half: i32) -> i32
 }
 
 /// What a field of a base type keeps of an int: of byte, char and short the low bits, as `i2b`, `i2c` and `i2s` do
-/// (JVMS SE 8 6.5), of boolean the lowest bit.
-fn narrowed_int_of(base: BaseType, number: i32) -> i32
+/// (JVMS SE 8 6.5), of boolean the lowest bit. Takes no memory.
+pub fn narrowed_int(base: BaseType, number: i32) -> i32
     ensures { result ≡ narrowed_int base number }
 {
     match base {
@@ -62,7 +63,7 @@ pub fn narrowed(base: Option<BaseType>, value: Value) -> Value
     ensures { result ≡ narrowed_value base value }
 {
     match (base, value) {
-        (Some(base), Value::Int(number)) => Value::Int(narrowed_int_of(base, number)),
+        (Some(base), Value::Int(number)) => Value::Int(narrowed_int(base, number)),
         _ => value,
     }
 }
@@ -135,22 +136,6 @@ fn static_among(fields: &[Field], place: usize) -> Option<&Field>
         rest = after;
     }
     None
-}
-
-/// How many of these are static.
-fn static_count(fields: &[Field]) -> usize
-    ensures count { result ≡ length (filter is_static_field fields.now) }
-    ensures within { result ≤ length fields.now }
-{
-    let mut count = 0;
-    let mut rest = fields;
-    while let [field, after @ ..] = rest {
-        if field.access.is_static {
-            count += 1;
-        }
-        rest = after;
-    }
-    count
 }
 
 /// The place of a static field among the static ones of its class: the number of those before it.

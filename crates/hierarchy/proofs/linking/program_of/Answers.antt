@@ -1,3 +1,6 @@
+use Rattle.std.proofs.Common.{◌≡◌}
+use Rattle.std.proofs.lemmas.Result.{IfOk-weaker}
+use Rattle.hierarchy.specs.FirstFault.{HasNoCycle}
 use Rattle.hierarchy.specs.LinkedProgram.{id}
 use Rattle.hierarchy.proofs.Acyclic.{not_cyclic}
 use Rattle.hierarchy.proofs.ProvedByLinking.{resolved_few, resolved_in_range, resolved_linked}
@@ -15,4 +18,6 @@ new-requires-clause-linked c =
     (rw c.deref.ensures.value at c.in-Ok.ensures.members) (rw c.deref.ensures.value at c.in-Ok.ensures.heap)
 
 pub returns-in-Ok-clause-cycles : goal.returns-in-Ok-clause-cycles
-returns-in-Ok-clause-cycles c = λ n. not_cyclic c.args.classes.items (rw c.deref.ensures.value at c.in-Ok.ensures.acyclic) (id n)
+returns-in-Ok-clause-cycles c =
+    let none : HasNoCycle c.args.classes.items = λ n. not_cyclic c.args.classes.items (rw c.deref.ensures.value at c.in-Ok.ensures.acyclic) (id n) in
+    IfOk-weaker c.resolved.result (λ made. made ≡ c.new.result) (λ made. HasNoCycle c.args.classes.items) (λ made same. none) c.resolved.ensures.same

@@ -1,6 +1,7 @@
 use Rattle.std.proofs.Common.{◌≡◌, ◌++◌, length}
 use Rattle.std.specs.Prelude.{map, filter}
-use Rattle.statics.specs.Statics.{static_field, is_static_field}
+use Rattle.hierarchy.specs.Ops.{is_static_field}
+use Rattle.statics.specs.Statics.{static_field}
 use Rattle.statics.proofs.bank.static_fields.Given as goal
 
 abbrev pub invariant-loop-rest : goal.invariant-loop-rest
