@@ -1,0 +1,126 @@
+//! Calls and returns.
+
+use crate::steps::{begin, call, method, push};
+use frames::{Cell, FramePlace, Frames, Stop};
+use hierarchy::{MethodCode, Op};
+use std::alloc::{AllocError, Global};
+
+/// Pushes 7 and 3 and calls a method with them, at place 2.
+const CALLER: [Op; 4] = [
+    Op::PushInt(7),
+    Op::PushInt(3),
+    Op::InvokeStatic(0, 1),
+    Op::ReturnInt,
+];
+
+/// Subtracts the second argument from the first.
+const SUBTRACT: [Op; 4] = [Op::LoadInt(0), Op::LoadInt(1), Op::Subtract, Op::ReturnInt];
+
+/// Leaves the innermost frame with its result, and goes on past the call.
+fn come_back(frames: &mut Frames) {
+    let result = frames.operand(0).unwrap_or(Cell::Unset);
+    if frames.has_room_below() {
+        frames.leave();
+        push(frames, result);
+        frames.step_over();
+    }
+}
+
+/// Why two frames stop.
+type Stops = (Stop, Stop);
+
+/// Runs the innermost frame, calls a method with two operands and runs it: what each came to.
+fn run_both(
+    frames: &mut Frames,
+    caller: &MethodCode,
+    callee: &MethodCode,
+) -> Result<Stops, AllocError> {
+    begin(frames, 0, caller, &[])?;
+    let (_, calls) = frames.go_on(caller.ops.as_slice(), 100);
+    call(frames, 1, callee, 2)?;
+    let (_, returns) = frames.go_on(callee.ops.as_slice(), 100);
+    Ok((calls, returns))
+}
+
+/// Where the caller of a method goes on with its result.
+type Returned = (Stops, Option<FramePlace>, Option<Cell>);
+
+/// Calls a method with two operands, and returns from it.
+fn call_and_return(
+    alloc: Global,
+    caller: &MethodCode,
+    callee: &MethodCode,
+) -> Result<Returned, AllocError> {
+    let mut frames = Frames::new(alloc);
+    let stops = run_both(&mut frames, caller, callee)?;
+    come_back(&mut frames);
+    Ok((stops, frames.at(), frames.operand(0)))
+}
+
+fn difference(alloc: Global) -> Result<Returned, AllocError> {
+    let caller = method(alloc, 2, 0, &CALLER)?;
+    let callee = method(alloc, 2, 2, &SUBTRACT)?;
+    call_and_return(alloc, &caller, &callee)
+}
+
+#[test]
+fn a_call_gives_its_result(rt: HostRuntime) {
+    let at = FramePlace {
+        class: 0,
+        method: 0,
+        place: 3,
+        is_first: true,
+    };
+    let stops = (
+        Stop::LeadsOut(Op::InvokeStatic(0, 1)),
+        Stop::LeadsOut(Op::ReturnInt),
+    );
+    assert!(rt; difference(rt.alloc()) == Ok((stops, Some(at), Some(Cell::Int(4)))));
+}
+
+/// Begins a body and calls methods, each with one operand, until there are so many frames.
+fn go_down(frames: &mut Frames, code: &MethodCode, depth: usize) -> Result<(), AllocError> {
+    begin(frames, 0, code, &[Cell::Null])?;
+    for number in 1..depth {
+        push(frames, Cell::Int(5));
+        call(frames, number, code, 1)?;
+    }
+    Ok(())
+}
+
+/// Leaves frames until there is none, at most so many.
+fn go_up(frames: &mut Frames, depth: usize) {
+    for _ in 0..depth {
+        frames.leave();
+    }
+}
+
+/// How many frames there are where so many were reached before and left; `None`: memory was taken that wasn't there.
+fn reach_again(
+    frames: &mut Frames,
+    code: &MethodCode,
+    depth: usize,
+) -> Result<Option<usize>, AllocError> {
+    go_down(frames, code, depth)?;
+    go_up(frames, depth);
+    if frames.len() != 0 {
+        return Ok(Some(0));
+    }
+    match go_down(frames, code, depth) {
+        Ok(()) => Ok(Some(frames.len())),
+        Err(_) => Ok(None),
+    }
+}
+
+fn reached_again(alloc: Global, depth: usize) -> Result<Option<usize>, AllocError> {
+    let code = method(alloc, 1, 2, &[])?;
+    let mut frames = Frames::new(alloc);
+    reach_again(&mut frames, &code, depth)
+}
+
+#[test]
+fn a_depth_that_was_reached_takes_no_memory(rt: HostRuntime) {
+    // Where memory is refused at the first time, the second one isn't reached.
+    let frames = reached_again(rt.alloc(), 20);
+    assert!(rt; matches!(frames, Ok(Some(20)) | Err(_)));
+}

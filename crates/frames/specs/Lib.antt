@@ -1,0 +1,6 @@
+pub mod Frame
+pub mod Rows
+pub mod Kinds
+pub mod Activations
+pub mod Running
+pub mod Unwinding

@@ -1,0 +1,252 @@
+//! One thread's frames.
+
+ghost use Rattle.std.specs.Prelude.{◌≡◌, ◌≢◌, ◌∷◌, ◌<◌, ◌≤◌, ◌+◌, [], List, true, IfNone, IfOk, IfSome, OnErr, OnOk, length, reverse, slice_get, vec_capacity, vec_len};
+ghost use Rattle.frames.specs.Activations.{Activation, activation, at_handler, at_place, called, dropped, has_room, in_innermost, left, next_place, operands_of, place_of, pushed};
+ghost use Rattle.frames.specs.Running.{GoesOn, IsAtNext};
+ghost use Rattle.frames.specs.declared.cell.Cell.TheVariants as cell;
+ghost use Rattle.frames.specs.declared.run.Stop.TheVariants as stop;
+
+use crate::cell::Cell;
+use crate::place::FramePlace;
+use crate::run::Stop;
+use crate::slot::{Cells, Slot};
+use hierarchy::{MethodCode, Op};
+use std::alloc::{AllocError, Global};
+use std::marker::Model;
+
+/// The frames of one thread (JVMS SE 8 2.6), of the bodies that it runs, one within the other.
+///
+/// Contracts see the list of them, the innermost first. The cells of a frame that was left are kept for the next one, so that
+/// no call takes memory at a depth that was reached before.
+#[derive(Debug, Drop)]
+pub struct Frames {
+    innermost: Option<Slot>,
+    below: Vec<Slot>,
+    spare: Vec<Cells>,
+    alloc: Global,
+}
+
+impl Model for Frames {
+    ghost use Rattle.std.specs.Prelude.{List};
+    ghost use Rattle.frames.specs.Activations.{Activation, frames_in, IsEmptyWithout};
+
+    ghost Value = { List Activation };
+
+    ghost view = { λ f. frames_in f.innermost f.below.items };
+
+    ghost invariant = { λ f. IsEmptyWithout f.innermost f.below.items };
+}
+
+fn push_below(below: &mut Vec<Slot>, slot: Slot)
+    requires { vec_len below.old < vec_capacity below.old }
+    ensures { reverse below.new.items ≡ slot ∷ reverse below.old.items }
+{
+    let _ = below.push(slot);
+}
+
+/// Takes the frame that waits for the innermost.
+fn pop_below(below: &mut Vec<Slot>) -> Option<Slot>
+    ensures some { IfSome result (λ slot. reverse below.old.items ≡ slot ∷ reverse below.new.items) }
+    ensures none { IfNone result (below.old.items ≡ []) }
+    ensures empty { IfNone result (below.new.items ≡ []) }
+{
+    below.pop()
+}
+
+impl Frames {
+    /// No frame. Takes no memory.
+    pub fn new(alloc: Global) -> Self
+        ensures { result ≡ [] }
+    {
+        Frames {
+            innermost: None,
+            below: Vec::new(alloc),
+            spare: Vec::new(alloc),
+            alloc,
+        }
+    }
+
+    /// How many frames there are.
+    pub fn len(&self) -> usize
+        ensures { result ≡ length self.now }
+    {
+        match self.innermost {
+            None => 0,
+            Some(_) => self.below.len() + 1,
+        }
+    }
+
+    /// Where the innermost frame is.
+    pub fn at(&self) -> Option<FramePlace>
+        ensures { result ≡ place_of self.now }
+    {
+        match &self.innermost {
+            None => None,
+            Some(slot) => Some(slot.place()),
+        }
+    }
+
+    /// An operand of the innermost frame, that on top at 0.
+    pub fn operand(&self, depth: usize) -> Option<Cell>
+        ensures { result ≡ slice_get (operands_of self.now) depth }
+    {
+        match &self.innermost {
+            None => None,
+            Some(slot) => slot.operand(depth),
+        }
+    }
+
+    /// Whether one more operand fits the innermost frame.
+    pub fn has_room(&self) -> bool
+        ensures { result ≡ has_room self.now }
+    {
+        match &self.innermost {
+            None => false,
+            Some(slot) => slot.has_room(),
+        }
+    }
+
+    /// Whether one more operand fits the frame that waits for the innermost one.
+    pub fn has_room_below(&self) -> bool
+        ensures { result ≡ has_room (left self.now) }
+    {
+        match self.below.as_slice().last() {
+            None => false,
+            Some(waiting) => waiting.has_room(),
+        }
+    }
+
+    /// Cells for a frame more, and room to keep the cells of all frames.
+    fn spare_cells(&mut self) -> Result<Cells, AllocError>
+        ensures { self.new ≡ self.old }
+    {
+        self.spare.reserve(self.below.len().saturating_add(2))?;
+        match self.spare.pop() {
+            Some(cells) => Ok(cells),
+            None => Ok(Cells::new(self.alloc)),
+        }
+    }
+
+    /// Begins a body: a method's first frame is the innermost, with these arguments, the lowest first (JVMS SE 8 2.6.1).
+    /// An `Err` is want of memory and changes nothing.
+    pub fn begin(
+        &mut self,
+        class: usize,
+        method: usize,
+        code: &MethodCode,
+        given: &[Cell],
+    ) -> Result<(), AllocError>
+        requires { length given.now ≤ code.now.locals }
+        ensures ok { OnOk result (self.new ≡ activation class method true code.now given.now ∷ self.old) }
+        ensures err { OnErr result (self.new ≡ self.old) }
+    {
+        let cells = self.spare_cells()?;
+        let first = Slot::enter(cells, class, method, true, code, given)?;
+        self.below.reserve(1)?;
+        if let Some(waiting) = std::mem::replace(&mut self.innermost, Some(first)) {
+            push_below(&mut self.below, waiting);
+        }
+        Ok(())
+    }
+
+    /// Calls a method with so many operands of the innermost frame, which leave it: the method's frame is then the innermost
+    /// (JVMS SE 8 2.6.1). An `Err` is want of memory and changes nothing.
+    pub fn call(
+        &mut self,
+        class: usize,
+        method: usize,
+        code: &MethodCode,
+        count: usize,
+    ) -> Result<(), AllocError>
+        requires few { count ≤ length (operands_of self.old) }
+        requires fits { count ≤ code.now.locals }
+        requires frame { self.old ≢ [] }
+        ensures ok { OnOk result (self.new ≡ called class method code.now count self.old) }
+        ensures err { OnErr result (self.new ≡ self.old) }
+    {
+        let cells = self.spare_cells()?;
+        let Some(caller) = &mut self.innermost else {
+            return Ok(());
+        };
+        let callee = caller.call(cells, class, method, code, count)?;
+        self.below.reserve(1)?;
+        caller.drop_operands(count);
+        if let Some(waiting) = std::mem::replace(&mut self.innermost, Some(callee)) {
+            push_below(&mut self.below, waiting);
+        }
+        Ok(())
+    }
+
+    /// Leaves the innermost frame (JVMS SE 8 2.6.4, 2.6.5). Takes no memory.
+    pub fn leave(&mut self)
+        ensures { self.new ≡ left self.old }
+    {
+        let waiting = pop_below(&mut self.below);
+        if let Some(slot) = std::mem::replace(&mut self.innermost, waiting) {
+            let _ = self.spare.push(slot.into_cells());
+        }
+    }
+
+    /// So many operands of the innermost frame are dropped.
+    pub fn drop_operands(&mut self, count: usize)
+        requires { count ≤ length (operands_of self.old) }
+        ensures { self.new ≡ in_innermost (dropped count) self.old }
+    {
+        if let Some(slot) = &mut self.innermost {
+            slot.drop_operands(count);
+        }
+    }
+
+    /// One operand more in the innermost frame.
+    pub fn push(&mut self, value: Cell)
+        requires { has_room self.old ≡ true }
+        ensures { self.new ≡ in_innermost (pushed value) self.old }
+    {
+        if let Some(slot) = &mut self.innermost {
+            slot.push(value);
+        }
+    }
+
+    /// The innermost frame goes on at that place.
+    pub fn go_to(&mut self, place: u16)
+        ensures { self.new ≡ in_innermost (at_place place) self.old }
+    {
+        if let Some(slot) = &mut self.innermost {
+            slot.go_to(place);
+        }
+    }
+
+    /// The innermost frame goes on at the next place.
+    pub fn step_over(&mut self)
+        ensures { self.new ≡ in_innermost next_place self.old }
+    {
+        if let Some(slot) = &mut self.innermost {
+            slot.step_over();
+        }
+    }
+
+    /// The innermost frame goes on at a handler.
+    pub(crate) fn go_to_handler(&mut self, place: u16, reference: u32)
+        ensures { self.new ≡ in_innermost (at_handler place (cell.Reference reference)) self.old }
+    {
+        if let Some(slot) = &mut self.innermost {
+            slot.go_to_handler(place, reference);
+        }
+    }
+
+    /// Does the instructions at the innermost frame's place, one after the other (JVMS SE 8 2.11), until one throws or asks
+    /// something of what lies outside of the frame, or until as many as the limit are done: how many were done, and why no
+    /// more. `ops` are the frame's method's. Takes no memory.
+    pub fn go_on(&mut self, ops: &[Op], limit: u64) -> (u64, Stop)
+        ensures goes { (a : Activation) (below : List Activation) → self.old ≡ a ∷ below → GoesOn ops.now a below result.0 result.1 self.new }
+        ensures limit { result.0 ≤ limit }
+        ensures reached { result.1 ≡ stop.Limit → result.0 ≡ limit }
+        ensures before { IsAtNext result.1 → result.0 < limit }
+        ensures none { self.old ≡ [] → self.new ≡ [] }
+    {
+        match &mut self.innermost {
+            None => (0, Stop::PastTheEnd),
+            Some(slot) => slot.go_on(ops, limit),
+        }
+    }
+}
