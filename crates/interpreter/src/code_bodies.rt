@@ -1,0 +1,239 @@
+//! Bodies made by code.
+
+ghost use Rattle.std.specs.Prelude.{◌≡◌, ◌↔◌, ◌⊎◌, IsTrue, OnErr, OnOk};
+ghost use Rattle.hierarchy.specs.Subclasses.{IsError, IsThrowable};
+ghost use Rattle.hierarchy.specs.declared.class.ClassId.{ClassId as ClassFacts};
+ghost use Rattle.heap.specs.Objects.{with_texts};
+ghost use Rattle.init_core.specs.ProcedureWord.{GoesOn};
+ghost use Rattle.interpreter.specs.CodeRun.{Begins, Enters, IsAnswer, IsTold, Replaces, Starts, below_body, cell_of as cell_of_value, fails_by, interpreter_at_start};
+
+use crate::interpreter::Interpreter;
+use crate::methods::method_code;
+use crate::phase::Phase;
+use crate::says::is_throwable;
+use bodies::{Bodies, Does};
+use frames::{Cell, Frames, Thrown};
+use heap::{Heap, no_class, out_of_memory};
+use hierarchy::{BuiltIn, ClassId, Program, Value, throwables_are_subclasses};
+use init_core::{Completed, Outcome};
+use std::alloc::{AllocError, Global};
+use trace::Limit;
+
+/// What is thrown where the procedure for a class completed abruptly.
+fn answer(program: &Program, thrown: Option<Thrown>) -> Thrown
+    ensures { IsAnswer program.now thrown result }
+{
+    match thrown {
+        Some(thrown) => {
+            if is_throwable(program, thrown.class) {
+                thrown
+            } else {
+                no_class(program)
+            }
+        }
+        None => no_class(program),
+    }
+}
+
+fn is_error(program: &Program, class: ClassId) -> bool
+    ensures { IsTrue result ↔ IsError program.now class }
+{
+    throwables_are_subclasses(program, class);
+    program.is_subtype(class, program.built_in(BuiltIn::Error))
+}
+
+fn cell_of(value: Value) -> Cell
+    ensures { result ≡ cell_of_value value }
+{
+    match value {
+        Value::Int(number) => Cell::Int(number),
+        Value::Null => Cell::Null,
+        Value::Reference(number) => Cell::Reference(number),
+    }
+}
+
+impl Interpreter {
+    /// What runs the code of a thread that may begin so many instructions; nothing has run yet. Takes no memory.
+    pub fn new(alloc: Global, steps: u32) -> Self
+        ensures { result ≡ interpreter_at_start steps }
+    {
+        Interpreter {
+            frames: Frames::new(alloc),
+            heap: Heap::new(alloc),
+            phase: Phase::Runs,
+            thrown: None,
+            left: steps as u64,
+        }
+    }
+
+    /// The body is over, with an object of a built-in throwable that nothing in it can catch. An `Err` is want of memory, and changes
+    /// nothing.
+    fn fail(&mut self, program: &Program, class: BuiltIn) -> Result<(), AllocError>
+        ensures ok { OnOk result (self.new ≡ fails_by program.now class self.old) }
+        ensures err { OnErr result (self.new ≡ self.old) }
+    {
+        let thrown = self.heap.throwable(program, class)?;
+        self.phase = Phase::Over(Some(thrown));
+        Ok(())
+    }
+
+    /// Enters the first frame of a body. An `Err` is want of memory, and changes nothing.
+    fn begin(
+        &mut self,
+        program: &Program,
+        class: ClassId,
+        method: usize,
+        given: &[Cell],
+    ) -> Result<(), AllocError>
+        ensures ok { OnOk result (Begins program.now class method given.now self.old self.new) }
+        ensures err { OnErr result (self.new ≡ self.old) }
+    {
+        let Some(code) = method_code(program, class.number, method) else {
+            return Err(AllocError);
+        };
+        if given.len() > code.locals as usize {
+            return self.fail(program, BuiltIn::VerifyError);
+        }
+        if self.frames.len() >= 512 {
+            return self.fail(program, BuiltIn::StackOverflowError);
+        }
+        self.frames.begin(class.number, method, code, given)?;
+        self.phase = Phase::Runs;
+        Ok(())
+    }
+}
+
+impl Interpreter {
+    /// Told how the procedure for a class was completed, the body goes on where its frame asked for it.
+    fn tell(&mut self, program: &Program, last: Option<Completed>)
+        requires { GoesOn last }
+        ensures { IsTold program.now last self.old.phase self.old self.new }
+    {
+        match (self.phase, last) {
+            (Phase::Runs, Some(done)) => match done.outcome {
+                Outcome::Normal => self.phase = Phase::Ready(done.class),
+                Outcome::Abrupt(_) => {
+                    let thrown = answer(program, self.thrown);
+                    self.throw(program, thrown);
+                }
+                Outcome::Ended(_) => {}
+            },
+            (Phase::Ready(_), _) => self.phase = Phase::Runs,
+            _ => {}
+        }
+    }
+
+    /// Begins the initializer of a class, if it has one. An `Err` is want of memory, and changes nothing.
+    fn try_start(&mut self, program: &Program, class: ClassId) -> Result<(), AllocError>
+        ensures ok { OnOk result (Starts program.now self.old class self.new) }
+        ensures err { OnErr result (self.new ≡ self.old) }
+    {
+        let Some(code) = program.code(class.number) else {
+            return Err(AllocError);
+        };
+        match code.initializer {
+            Some(method) => self.begin(program, class, method, &[]),
+            None => {
+                self.phase = Phase::Over(None);
+                Ok(())
+            }
+        }
+    }
+
+    /// Begins the method `main` of a class, if it has one, with a new array of no texts. An `Err` is want of memory.
+    fn try_enter(&mut self, program: &Program, class: ClassId) -> Result<(), AllocError>
+        ensures ok { OnOk result (Enters program.now self.old class self.new) }
+        ensures err { OnErr result ((self.new ≡ self.old) ⊎ (self.new ≡ record self.old { heap = with_texts program.now self.old.heap })) }
+    {
+        let Some(code) = program.code(class.number) else {
+            return Err(AllocError);
+        };
+        let Some(method) = code.main else {
+            self.phase = Phase::Over(None);
+            return Ok(());
+        };
+        match self.heap.texts(program)? {
+            Some(reference) => self.begin(program, class, method, &[Cell::Reference(reference)]),
+            None => {
+                self.phase = Phase::Over(Some(out_of_memory(program)));
+                Ok(())
+            }
+        }
+    }
+
+    /// Step 11 for a throwable that is no Error.
+    fn wrap(&mut self, program: &Program) -> ClassId
+        ensures { (thrown : ClassFacts) → (IsError program.now thrown → ⊥) → Replaces program.now self.old thrown result self.new }
+    {
+        let wrapped = match self
+            .heap
+            .throwable(program, BuiltIn::ExceptionInInitializerError)
+        {
+            Ok(wrapped) => wrapped,
+            Err(_) => out_of_memory(program),
+        };
+        self.thrown = Some(wrapped);
+        wrapped.class
+    }
+
+    /// Leaves the frames of the innermost body.
+    fn leave_body(&mut self)
+        ensures { self.new ≡ record self.old { frames = below_body self.old.frames } }
+    {
+        while let Some(at) = self.frames.at() {
+            self.frames.leave();
+            if at.is_first {
+                return;
+            }
+        }
+    }
+}
+
+impl Bodies for Interpreter {
+    ghost use Rattle.interpreter.specs.CodeRun.{code_bodies, never_waits};
+
+    ghost making = { λ p. code_bodies p };
+
+    fn start(&mut self, _alloc: Global, program: &Program, class: ClassId) {
+        if self.try_start(program, class).is_err() {
+            self.phase = Phase::Refused;
+        }
+    }
+
+    fn enter(&mut self, _alloc: Global, program: &Program, class: ClassId) {
+        if self.try_enter(program, class).is_err() {
+            self.phase = Phase::Refused;
+        }
+    }
+
+    #[tactic(auto, using(crate::proofs::CodeBodies::told_may_do))]
+    fn next(&mut self, alloc: Global, program: &Program, last: Option<Completed>) -> Does {
+        self.tell(program, last);
+        self.say(alloc, program)
+    }
+
+    fn get(&mut self, _program: &Program, value: Value) {
+        if self.frames.has_room() {
+            self.frames.push(cell_of(value));
+            self.frames.step_over();
+        }
+    }
+
+    fn leave(&mut self, _program: &Program) {
+        match self.phase {
+            Phase::Runs | Phase::Ready(_) => self.leave_body(),
+            Phase::Over(_) | Phase::Refused => {}
+        }
+        self.phase = Phase::Runs;
+    }
+
+    fn replace(&mut self, _alloc: Global, program: &Program, thrown: ClassId) -> ClassId {
+        if is_error(program, thrown) {
+            thrown
+        } else {
+            self.wrap(program)
+        }
+    }
+
+    ghost waits_on = { never_waits };
+}

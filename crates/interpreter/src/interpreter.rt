@@ -1,0 +1,20 @@
+//! What runs the code of one thread.
+
+use crate::phase::Phase;
+use frames::{Frames, Thrown};
+use heap::Heap;
+
+/// What runs the code of one thread: its frames, its heap, and how many instructions it may still begin.
+#[derive(Debug, Drop)]
+pub struct Interpreter {
+    /// The frames of the bodies that run, one within the other.
+    pub(crate) frames: Frames,
+    /// What was made.
+    pub(crate) heap: Heap,
+    /// Where the innermost body stands.
+    pub(crate) phase: Phase,
+    /// The object that left the body that was over last.
+    pub(crate) thrown: Option<Thrown>,
+    /// How many instructions may still be begun.
+    pub(crate) left: u64,
+}

@@ -1,0 +1,58 @@
+//! The code that a program has.
+
+ghost use Rattle.std.specs.Prelude.{◌≡◌, IfSome, Some, option_copied, slice_get};
+ghost use Rattle.hierarchy.specs.Code.{code_at};
+ghost use Rattle.interpreter.specs.Methods.{instruction_at as instruction_of, method_at, static_type as type_of_static, text_in_method};
+
+use hierarchy::{ClassId, MethodCode, Program, ResolvedType};
+use jasmin_text::{Instruction, Method};
+
+/// The code of a method.
+pub(crate) fn method_code(program: &Program, class: usize, method: usize) -> Option<&MethodCode>
+    ensures { IfSome result (λ code. method_at program.now class method ≡ Some code.now) }
+{
+    let Some(class) = program.code(class) else {
+        return None;
+    };
+    match class.methods.as_slice().get(method) {
+        Some(Some(code)) => Some(code),
+        _ => None,
+    }
+}
+
+/// The type of a static field.
+pub(crate) fn static_type(program: &Program, class: usize, field: usize) -> Option<ResolvedType>
+    ensures { IfSome result (λ found. type_of_static program.now class field ≡ Some found) }
+{
+    let Some(class) = program.code(class) else {
+        return None;
+    };
+    class.statics.as_slice().get(field).copied()
+}
+
+fn instruction_in(method: &Method, place: usize) -> Option<&Instruction<u16>>
+    ensures { option_copied result ≡ text_in_method (Some method.now) place }
+{
+    match &method.code {
+        Some(code) => code.instructions.as_slice().get(place),
+        None => None,
+    }
+}
+
+/// An instruction as its class text has it.
+pub(crate) fn instruction_at(
+    program: &Program,
+    class: usize,
+    method: usize,
+    place: usize,
+) -> Option<&Instruction<u16>>
+    ensures { option_copied result ≡ instruction_of program.now class method place }
+{
+    let Some(class) = program.class(ClassId { number: class }) else {
+        return None;
+    };
+    match class.methods.as_slice().get(method) {
+        Some(method) => instruction_in(method, place),
+        None => None,
+    }
+}

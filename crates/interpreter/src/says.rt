@@ -1,0 +1,224 @@
+//! What the innermost body does next.
+
+ghost use Rattle.std.specs.Prelude.{◌≡◌, ◌↔◌, ◌≤◌, IsTrue, IfOk, IfSome, None, OnErr, OnOk, Some, length};
+ghost use Rattle.frames.specs.Activations.{dropped, next_place, operands_of};
+ghost use Rattle.bodies.specs.declared.does.Does.TheVariants as does;
+ghost use Rattle.hierarchy.specs.LinkedProgram.{id};
+ghost use Rattle.hierarchy.specs.declared.op.Op.TheVariants as op;
+ghost use Rattle.interpreter.specs.Leads.{on_top};
+ghost use Rattle.hierarchy.specs.Subclasses.{IsThrowable};
+ghost use Rattle.interpreter.specs.Rows.{HasArguments, IsAtOp, Row, WaitsFor, with_frame};
+ghost use Rattle.interpreter.specs.Says.{IsSayable, Says, SaysNext, value_on_top as top_value};
+ghost use Rattle.interpreter.specs.declared.phase.Phase.TheVariants as phases;
+
+use crate::fitting::is_kind_of;
+use crate::interpreter::Interpreter;
+use crate::methods::{method_code, static_type};
+use crate::moves::take;
+use crate::phase::Phase;
+use bodies::Does;
+use frames::{Cell, Thrown};
+use hierarchy::{
+    BuiltIn, ClassId, MethodCode, Op, Program, Value, instructions_name_what_is_there,
+    throwables_are_subclasses,
+};
+use std::alloc::{AllocError, Global};
+use trace::Limit;
+
+/// The operand on top as a static field takes it.
+fn value_on_top(value: Option<Cell>) -> Value
+    ensures { result ≡ top_value value }
+{
+    match value {
+        Some(Cell::Int(number)) => Value::Int(number),
+        Some(Cell::Reference(number)) => Value::Reference(number),
+        _ => Value::Null,
+    }
+}
+
+/// Whether an object that left a body is a throwable.
+pub(crate) fn is_throwable(program: &Program, class: ClassId) -> bool
+    ensures { IsTrue result ↔ IsThrowable program.now class }
+{
+    throwables_are_subclasses(program, class);
+    program.is_subtype(class, program.built_in(BuiltIn::Throwable))
+}
+
+impl Interpreter {
+    /// The instruction at the innermost frame's place.
+    fn op(&self, program: &Program) -> Option<Op>
+        ensures { IfSome result (IsAtOp program.now self.now.frames) }
+    {
+        let at = self.frames.at()?;
+        let code = method_code(program, at.class, at.method)?;
+        code.ops.as_slice().get(at.place).copied()
+    }
+
+    /// Whether the innermost frame has as many operands as a method takes, and the method as many locals.
+    fn has_arguments(&self, callee: &MethodCode) -> bool
+        ensures { IsTrue result ↔ HasArguments (Some callee.now) (operands_of self.now.frames) }
+    {
+        let count = callee.parameters.len();
+        count <= callee.locals as usize && (count == 0 || self.frames.operand(count - 1).is_some())
+    }
+
+    /// The body is over.
+    #[tactic(auto, using(crate::proofs::Saying::lacks_memory, crate::proofs::Saying::returns_out, crate::proofs::Saying::throws_out))]
+    fn over(&mut self, program: &Program, thrown: Option<Thrown>) -> Does
+        requires { self.old.phase ≡ phases.Over thrown }
+        ensures says { Says program.now self.old result self.new }
+        ensures sayable { IsSayable program.now self.old.phase result }
+    {
+        if let Some(thrown) = thrown {
+            if !is_throwable(program, thrown.class) {
+                return Does::Ended(Limit::Memory);
+            }
+        }
+        self.phase = Phase::Runs;
+        self.thrown = thrown;
+        match thrown {
+            Some(thrown) => Does::Over(Some(thrown.class)),
+            None => Does::Over(None),
+        }
+    }
+
+    /// Whether an instruction waits for a class, to do its second half. An `Err`: the program's code isn't resolved.
+    #[tactic(auto, using(crate::proofs::Saying::same_number, crate::proofs::Saying::number_of, crate::proofs::Saying::waits_kind, crate::proofs::Saying::kind_waits, crate::proofs::Saying::waits_called, crate::proofs::Saying::called_waits))]
+    fn waits_for(&self, program: &Program, op: Op, class: ClassId) -> Result<bool, AllocError>
+        ensures { IfOk result (λ waits. IsTrue waits ↔ WaitsFor program.now self.now.frames op class) }
+    {
+        match op {
+            Op::GetStatic(wanted, _) => Ok(class.number == wanted as usize),
+            Op::PutStatic(wanted, field) => {
+                let Some(held) = static_type(program, wanted as usize, field as usize) else {
+                    return Err(AllocError);
+                };
+                Ok(class.number == wanted as usize && is_kind_of(held, self.frames.operand(0)))
+            }
+            Op::InvokeStatic(wanted, method) => {
+                let Some(callee) = method_code(program, wanted as usize, method as usize) else {
+                    return Err(AllocError);
+                };
+                Ok(class.number == wanted as usize && self.has_arguments(callee))
+            }
+            _ => Ok(false),
+        }
+    }
+
+    /// Reads the static field for which its class was made ready.
+    fn get_static(&mut self, class: ClassId, field: u16) -> Does
+        ensures does { result ≡ does.Gets class field }
+        ensures same { self.new ≡ record self.old { phase = phases.Runs } }
+    {
+        self.phase = Phase::Runs;
+        Does::Gets {
+            class,
+            field: field as usize,
+        }
+    }
+
+    /// Writes the static field for which its class was made ready.
+    fn put_static(&mut self, class: ClassId, field: u16) -> Does
+        requires { 1 ≤ length (operands_of self.old.frames) }
+        ensures does { result ≡ does.Puts class field (top_value (on_top self.old.frames)) }
+        ensures taken { self.new ≡ with_frame (λ f. next_place (dropped 1 f)) (record self.old { phase = phases.Runs }) }
+    {
+        let value = value_on_top(self.frames.operand(0));
+        take(&mut self.frames, 1);
+        self.phase = Phase::Runs;
+        Does::Puts {
+            class,
+            field: field as usize,
+            value,
+        }
+    }
+
+    /// Calls the method for which its class was made ready. An `Err` is want of memory, and changes nothing.
+    #[tactic(auto, using(crate::proofs::Saying::calls_at, crate::proofs::Saying::overflows_at, crate::proofs::Saying::throws_anyway))]
+    fn call_static(&mut self, program: &Program, class: u16, method: u16) -> Result<(), AllocError>
+        requires phase { self.old.phase ≡ phases.Ready (id class) }
+        requires at { IsAtOp program.now self.old.frames (op.InvokeStatic class method) }
+        ensures row { OnOk result (Row program.now self.old self.new) }
+        ensures err { OnErr result (self.new ≡ self.old) }
+    {
+        let (class, method) = (class as usize, method as usize);
+        let Some(callee) = method_code(program, class, method) else {
+            return Err(AllocError);
+        };
+        if !self.has_arguments(callee) {
+            return Err(AllocError);
+        }
+        if self.frames.len() >= 512 {
+            return self.throw_new(program, BuiltIn::StackOverflowError);
+        }
+        self.frames
+            .call(class, method, callee, callee.parameters.len())?;
+        self.phase = Phase::Runs;
+        Ok(())
+    }
+
+    /// Goes on with the instruction for which a class was made ready: what the body does by it, or nothing where it makes no event.
+    /// An `Err` is want of memory, and changes nothing.
+    #[tactic(auto, using(crate::proofs::Saying::idles_at, crate::proofs::Saying::gets_at, crate::proofs::Saying::puts_at, crate::proofs::Saying::gets_said, crate::proofs::Saying::puts_said))]
+    fn resume(&mut self, program: &Program, class: ClassId) -> Result<Option<Does>, AllocError>
+        requires { self.old.phase ≡ phases.Ready class }
+        ensures row { IfOk result (λ d. d ≡ None → Row program.now self.old self.new) }
+        ensures says { IfOk result (λ d. IfSome d (λ x. Says program.now self.old x self.new)) }
+        ensures sayable { IfOk result (λ d. IfSome d (IsSayable program.now self.old.phase)) }
+        ensures err { OnErr result (self.new ≡ self.old) }
+    {
+        program.is_linked();
+        instructions_name_what_is_there(program);
+        let Some(op) = self.op(program) else {
+            return Err(AllocError);
+        };
+        if !self.waits_for(program, op, class)? {
+            self.phase = Phase::Runs;
+            return Ok(None);
+        }
+        match op {
+            Op::GetStatic(_, field) => Ok(Some(self.get_static(class, field))),
+            Op::PutStatic(_, field) => Ok(Some(self.put_static(class, field))),
+            Op::InvokeStatic(class, method) => {
+                self.call_static(program, class, method)?;
+                Ok(None)
+            }
+            _ => Err(AllocError),
+        }
+    }
+
+    /// Goes on up to what the innermost body does next.
+    #[tactic(auto, using(crate::proofs::Running::says_at_once, crate::proofs::Running::then_next, crate::proofs::Running::then_row_of, crate::proofs::Running::no_rows, crate::proofs::Saying::lacks_memory))]
+    pub(crate) fn say(&mut self, alloc: Global, program: &Program) -> Does
+        ensures says { SaysNext program.now self.old result self.new }
+        ensures sayable { IsSayable program.now self.old.phase result }
+    {
+        match self.phase {
+            Phase::Ready(class) => match self.resume(program, class) {
+                Ok(None) => self.say_running(alloc, program),
+                Ok(Some(does)) => does,
+                Err(_) => Does::Ended(Limit::Memory),
+            },
+            _ => self.say_running(alloc, program),
+        }
+    }
+
+    /// Goes on up to what the innermost body does next, which waits for no class.
+    #[tactic(auto, using(crate::proofs::Running::then_says, crate::proofs::Running::then_next, crate::proofs::Running::then_rows_of, crate::proofs::Running::no_rows, crate::proofs::Saying::lacks_memory))]
+    fn say_running(&mut self, alloc: Global, program: &Program) -> Does
+        ensures says { SaysNext program.now self.old result self.new }
+        ensures sayable { (phase : _) → IsSayable program.now phase result }
+    {
+        loop {
+            match self.phase {
+                Phase::Over(thrown) => return self.over(program, thrown),
+                Phase::Refused | Phase::Ready(_) => return Does::Ended(Limit::Memory),
+                Phase::Runs => match self.turn(alloc, program) {
+                    Ok(None) => {}
+                    Ok(Some(does)) => return does,
+                    Err(_) => return Does::Ended(Limit::Memory),
+                },
+            }
+        }
+    }
+}
