@@ -25,9 +25,13 @@ file_words = record (new_rule (codes "files")) {
   value_names = 1;
 }
 
+-- the options of how far a thread may go
+unfoldable pub with_limits : App → App
+with_limits app = with_rule (with_rule app (option_named (codes "steps"))) (option_named (codes "patience"))
+
 -- a subcommand: each has all options
 unfoldable pub subcommand_named : Text → App
-subcommand_named name = with_rule (with_rule (with_rule (with_rule (new_app name) (option_named (codes "mains"))) (option_named (codes "trace"))) (option_named (codes "patience"))) file_words
+subcommand_named name = with_rule (with_limits (with_rule (with_rule (new_app name) (option_named (codes "mains"))) (option_named (codes "trace")))) file_words
 
 -- the command line without its subcommands
 unfoldable pub bare_line : App
@@ -41,6 +45,7 @@ command_line = with_subcommand (with_subcommand bare_line (subcommand_named (cod
 pub record RunWords : Type 0 where
   pub mains : Option Text
   pub trace : Option Text
+  pub steps : Option Text
   pub patience : Option Text
   pub files : List Text
 
@@ -55,7 +60,7 @@ abbrev pub text_of : Option (Bor Text) → Option Text
 text_of o = option_map (λ s. s.now) o
 
 abbrev pub run_words_of : Run → RunWords
-run_words_of r = record { mains = text_of r.mains; trace = text_of r.trace; patience = text_of r.patience; files = texts r.files.items }
+run_words_of r = record { mains = text_of r.mains; trace = text_of r.trace; steps = text_of r.steps; patience = text_of r.patience; files = texts r.files.items }
 
 abbrev pub request_of : Asked → Request
 request_of (asked.Run r) = run (run_words_of r)
@@ -63,19 +68,20 @@ request_of (asked.Needs files) = needs (texts files.items)
 request_of asked.Unfit = unfit
 
 -- `needs` takes no option
-abbrev pub needs_with : Option Text → Option Text → Option Text → List Text → Request
-needs_with None None None files = needs files
-needs_with _ _ _ files = unfit
+abbrev pub needs_with : Option Text → Option Text → Option Text → Option Text → List Text → Request
+needs_with None None None None files = needs files
+needs_with _ _ _ _ files = unfit
 
 abbrev pub request_to : Text → RunWords → Request
 request_to name r = if bytes_eq name (codes "run") then run r
-    else (if bytes_eq name (codes "needs") then needs_with r.mains r.trace r.patience r.files else unfit)
+    else (if bytes_eq name (codes "needs") then needs_with r.mains r.trace r.steps r.patience r.files else unfit)
 
 -- what the subcommand of that name asks for, with the rows that `clap` finds in the words
 abbrev pub request_by : Option (Text × List Row) → Request
 request_by (Some (name, rows)) = request_to name (record {
   mains = first_of (codes "mains") rows;
   trace = first_of (codes "trace") rows;
+  steps = first_of (codes "steps") rows;
   patience = first_of (codes "patience") rows;
   files = unwrap_or (all_of (codes "files") rows) [];
 })
@@ -101,6 +107,7 @@ abbrev pub request_found : Text → Found → Request
 request_found name f = request_to name (record {
   mains = first_value f (codes "mains");
   trace = first_value f (codes "trace");
+  steps = first_value f (codes "steps");
   patience = first_value f (codes "patience");
   files = files_found f;
 })

@@ -4,6 +4,7 @@ pub mod Status
 pub mod Running
 pub mod Files
 pub mod NeedsText
-pub mod Bodiless
+pub mod Built
+pub mod Limits
 pub mod ReadRefusals
 pub mod Outcomes

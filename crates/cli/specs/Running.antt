@@ -1,6 +1,5 @@
 -- Class texts, linked and run.
-use Rattle.std.specs.Prelude.{◌≡◌, ℕ, ◌≤◌, ◌++◌, List, [], ◌∷◌, Option, Some, None, if◌then◌else◌, length, nat_eq, nat_lt, true, false, option_map, option_and_then}
-use Rattle.std.specs.Str.Parse.{IsNumeral, digits_value}
+use Rattle.std.specs.Prelude.{◌≡◌, ℕ, ◌++◌, List, [], ◌∷◌, Option, Some, None, if◌then◌else◌, length, nat_eq, nat_lt, replicate, true, false, option_and_then}
 use Rattle.jasmin_text.specs.declared.class_text.ClassParts.{ClassParts}
 use Rattle.hierarchy.specs.declared.class.ClassId.{ClassId}
 use Rattle.hierarchy.specs.declared.fault.LinkFault.{LinkFault}
@@ -8,10 +7,12 @@ use Rattle.hierarchy.specs.FirstFault.{IsFirstFault, LinksTo}
 use Rattle.hierarchy.specs.LinkedProgram.{LinkedProgram, class_named}
 use Rattle.trace.specs.declared.report.Limits.{Limits}
 use Rattle.trace.specs.declared.report.Report.{Report}
-use Rattle.guest_threads.specs.ThreadRuns.{IsEmptyRunOf}
+use Rattle.interpreter.specs.declared.interpreter.Interpreter.{Interpreter}
+use Rattle.interpreter.specs.CodeRun.{code_bodies, interpreter_at_start}
+use Rattle.guest_threads.specs.ThreadRuns.{IsRunOf}
 use Rattle.cli.specs.declared.fault.Fault.{Fault}
 use Rattle.cli.specs.declared.fault.Fault.TheVariants.{Body, Link, Mains, Memory, Threads}
-use Rattle.cli.specs.Bodiless.{holds_code}
+use Rattle.cli.specs.Built.{can_run}
 
 -- why class texts aren't linked: their first fault, or want of memory
 pub data IsLinkRefusal (texts : List ClassParts) : Fault → Type 0 where
@@ -48,31 +49,22 @@ mains_named p text = option_and_then up_to_16 (mains_from p [] text)
 abbrev pub mains_in : LinkedProgram → Option (List ℕ) → Option (List ClassId)
 mains_in p mains = option_and_then (mains_named p) mains
 
--- decimal digits alone, which write this number; zeros may lead
-abbrev pub IsNumber : List ℕ → ℕ → Type 0
-IsNumber digits n = IsNumeral 10 digits × (n ≡ digits_value 10 digits)
+-- for each main class what runs its thread's code, of which nothing has run
+abbrev pub starts_of : List ClassId → Limits → List Interpreter
+starts_of mains limits = replicate (length mains) (interpreter_at_start limits.steps)
 
--- the patience that the text of `--patience` says: a decimal number up to 1,000,000,000; 0 where the option isn't given
-abbrev pub IsPatience : Option (List ℕ) → ℕ → Type 0
-IsPatience None n = n ≡ 0
-IsPatience (Some digits) n = IsNumber digits n × (n ≤ 1000000000)
-
--- a million instructions, and this patience
-abbrev pub limits_with : ℕ → Limits
-limits_with patience = record { steps = 1000000; patience = patience }
-
--- the report is of a run of the classes that the text of `--mains` names, each on a thread of its own, where no class has code
+-- the report is of a run of the code of the classes that the text of `--mains` names, each on a thread of its own
 pub record IsRunOfNamed (mains : Option (List ℕ)) (limits : Limits) (p : LinkedProgram) (r : Report) : Type 0 where
   pub classes : List ClassId
   pub named : mains_in p mains ≡ Some classes
-  pub run : IsEmptyRunOf p classes limits r
-  pub bodiless : holds_code p ≡ false
+  pub run : IsRunOf p (code_bodies p) (starts_of classes limits) classes limits r
+  pub built : can_run p classes ≡ true
 
 -- why a program isn't run: the first fault, in this order, or want of memory or of a thread
 pub data IsRunRefusal (p : LinkedProgram) (mains : Option (List ℕ)) : Fault → Type 0 where
   unnamed : mains_in p mains ≡ None → IsRunRefusal p mains Mains
-  coded : {classes : List ClassId} → mains_in p mains ≡ Some classes → holds_code p ≡ true → IsRunRefusal p mains Body
-  no_thread : {classes : List ClassId} → mains_in p mains ≡ Some classes → holds_code p ≡ false → IsRunRefusal p mains Threads
+  unbuilt : {classes : List ClassId} → mains_in p mains ≡ Some classes → can_run p classes ≡ false → IsRunRefusal p mains Body
+  no_thread : {classes : List ClassId} → mains_in p mains ≡ Some classes → can_run p classes ≡ true → IsRunRefusal p mains Threads
   no_memory : IsRunRefusal p mains Memory
 
 -- why class texts and a text of `--mains` aren't run: the first fault, in this order, or want of memory or of a thread

@@ -7,12 +7,14 @@ use Rattle.jasmin_text.specs.declared.class_text.ClassParts.{ClassParts}
 use Rattle.hierarchy.specs.FirstFault.{LinksTo}
 use Rattle.hierarchy.specs.LinkedProgram.{LinkedProgram}
 use Rattle.trace.specs.TraceText.{trace_of}
+use Rattle.trace.specs.declared.report.Limits.{Limits}
 use Rattle.trace.specs.declared.report.Report.{Report}
 use Rattle.cli.specs.CommandLine.{Request, RunWords, faults_in, needs, request_in, run, unfit}
 use Rattle.cli.specs.Files.{AreSpelled, FileHolds, Files, KeepsAllBut}
+use Rattle.cli.specs.Limits.{AreLimits}
 use Rattle.cli.specs.NeedsText.{needs_text}
 use Rattle.cli.specs.Outcomes.{outcomes_text, status_after}
-use Rattle.cli.specs.Running.{IsPatience, IsRunOfNamed, limits_with}
+use Rattle.cli.specs.Running.{IsRunOfNamed}
 
 -- the files, and what was written to the output, where they are known
 pub record Surroundings : Type 0 where
@@ -33,18 +35,18 @@ pub record HasWritten (before after : Surroundings) (trace : Option Text) (progr
   pub output : Appends before.output after.output report.output
   pub traced : IfSome trace (λ name. FileHolds after.files name (λ bytes. bytes ≡ trace_of program report.events))
 
--- The classes that the files spell were linked, and the main classes were run, with the patience that is said. The output is
+-- The classes that the files spell were linked, and the main classes were run, within the limits that are said. The output is
 -- that of the run, the trace file, where one is asked for, holds its trace, and standard error, known before and after, and the
 -- status tell how the threads ended.
 pub record HasRun (before after : Surroundings) (errors errors_after : Option (List ℕ)) (words : RunWords) (status : ℕ) : Type 0 where
   pub texts : List ClassParts
   pub program : LinkedProgram
-  pub patience : ℕ
+  pub limits : Limits
   pub report : Report
   pub spelled : AreSpelled before.files words.files texts
   pub linked : LinksTo texts program
-  pub said : IsPatience words.patience patience
-  pub ran : IsRunOfNamed words.mains (limits_with patience) program report
+  pub said : AreLimits words.steps words.patience limits
+  pub ran : IsRunOfNamed words.mains limits program report
   pub written : HasWritten before after words.trace program report
   pub told : Appends errors errors_after (outcomes_text program report.outcomes)
   pub ended : status ≡ status_after report.outcomes

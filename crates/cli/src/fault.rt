@@ -22,11 +22,13 @@ pub enum Fault<'a> {
     Jasmin { file: &'a str, fault: ReadFault },
     /// The classes can't be linked, for another reason than want of memory.
     Link(LinkFault),
+    /// The steps are no decimal number from 1 to 100,000,000.
+    Steps,
     /// The patience is no decimal number up to 1,000,000,000.
     Patience,
     /// A main class is unknown, there is none, or more than 16 are named.
     Mains,
-    /// A method has a body, which isn't run yet.
+    /// An instruction or a synchronized method isn't run yet, or a method has a body where several main classes are named.
     Body,
     /// A thread of the machine can't be started.
     Threads,
@@ -59,7 +61,8 @@ impl Fault<'_> {
     {
         match self {
             Fault::Words | Fault::Files | Fault::Jasmin { .. } => 2,
-            Fault::Patience | Fault::Link(_) | Fault::Mains | Fault::Body => 2,
+            Fault::Steps | Fault::Patience => 2,
+            Fault::Link(_) | Fault::Mains | Fault::Body => 2,
             Fault::Io(_) | Fault::Threads | Fault::Memory | Fault::Output => 3,
         }
     }
@@ -72,6 +75,7 @@ impl Fault<'_> {
             Fault::Link(fault) => return tell_link(fault, err),
             Fault::Words => "cli: words",
             Fault::Files => "cli: files",
+            Fault::Steps => "cli: steps",
             Fault::Patience => "cli: patience",
             Fault::Mains => "cli: mains",
             Fault::Body => "cli: body",

@@ -1,19 +1,20 @@
 //! From class texts to the run of their main classes.
 
-ghost use Rattle.std.specs.Prelude.{◌≡◌, ◌⊎◌, ℕ, ◌<◌, ◌≤◌, IfErr, IfOk, IfSome, None, length, vec_len};
+ghost use Rattle.std.specs.Prelude.{◌≡◌, ◌⊎◌, ◌<◌, ◌≤◌, IfErr, IfOk, IfSome, length, replicate, vec_len};
 ghost use Rattle.std.specs.Option.{option_map};
 ghost use Rattle.hierarchy.specs.FirstFault.{LinksTo};
-ghost use Rattle.guest_threads.specs.ThreadRuns.{AreMains, IsEmptyRunOf};
-ghost use Rattle.cli.specs.declared.fault.Fault.TheVariants.{Memory, Patience, Threads};
-ghost use Rattle.cli.specs.Bodiless.{has_code, declares_code, holds_code};
+ghost use Rattle.interpreter.specs.CodeRun.{code_bodies, interpreter_at_start};
+ghost use Rattle.guest_threads.specs.ThreadRuns.{AreMains, IsRunOf};
+ghost use Rattle.cli.specs.declared.fault.Fault.TheVariants.{Memory, Threads};
 ghost use Rattle.cli.specs.CommandLine.{text_of};
-ghost use Rattle.cli.specs.Running.{IsLinkRefusal, IsNumber, IsPatience, IsRefusal, IsRunOfNamed, IsRunRefusal, limits_with, main_named as class_of_name, mains_in, mains_named as classes_of_names};
+ghost use Rattle.cli.specs.Running.{IsLinkRefusal, IsRefusal, IsRunOfNamed, IsRunRefusal, main_named as class_of_name, mains_in, mains_named as classes_of_names, starts_of};
 
+use crate::built::can_run;
 use crate::fault::Fault;
-use bodies::NoCode;
 use guest_threads::{NoGate, RunFault, run_threads};
-use hierarchy::{Class, ClassId, LinkFaultKind, Program, link};
-use jasmin_text::{ClassText, Method};
+use hierarchy::{ClassId, LinkFaultKind, Program, link};
+use interpreter::Interpreter;
+use jasmin_text::ClassText;
 use std::alloc::{AllocError, Global};
 use std::sync::Wait;
 use std::thread::Threads;
@@ -83,57 +84,18 @@ fn mains_named(
     Ok(Some(mains))
 }
 
-/// The decimal number that these digits write, and nothing else, where it fits.
-fn number_of(text: &str) -> Option<u32>
-    ensures number { IfSome result (IsNumber text.now) }
-    ensures none { result ≡ None → (n : ℕ) → IsNumber text.now n → 4294967296 ≤ n }
+/// What runs the code of so many threads, of which each may begin so many instructions.
+fn interpreters(alloc: Global, count: usize, steps: u32) -> Result<Vec<Interpreter>, AllocError>
+    ensures { IfOk result (λ made. made.items ≡ replicate count (interpreter_at_start steps)) }
 {
-    if let [b'+', ..] = text.as_bytes() {
-        return None;
+    let mut made = Vec::new(alloc);
+    'threads: while made.len() < count {
+        made.push(Interpreter::new(alloc, steps))?;
     }
-    match text.parse::<u32>() {
-        Ok(number) => Some(number),
-        Err(_) => None,
-    }
+    Ok(made)
 }
 
-/// How far each thread may go, where the text of `--patience` is a decimal number up to 1,000,000,000, or isn't given.
-pub(crate) fn limits_of<'a>(patience: Option<&str>) -> Result<Limits, Fault<'a>>
-    ensures said { IfOk result (λ limits. (limits ≡ limits_with limits.patience) × IsPatience (text_of patience.entry) limits.patience) }
-    ensures refused { IfErr result (λ fault. (fault ≡ Patience) × ((n : ℕ) → IsPatience (text_of patience.entry) n → ⊥)) }
-{
-    let Some(text) = patience else {
-        return Ok(Limits::USUAL);
-    };
-    match number_of(text) {
-        Some(patience) if patience <= 1_000_000_000 => Ok(Limits {
-            patience,
-            ..Limits::USUAL
-        }),
-        _ => Err(Fault::Patience),
-    }
-}
-
-fn is_method_with_code(method: &Method) -> bool
-    ensures { result ≡ has_code method.now }
-{
-    method.code.is_some()
-}
-
-fn is_class_with_code(class: &Class) -> bool
-    ensures { result ≡ declares_code class.now }
-{
-    class.methods.as_slice().iter().any(is_method_with_code)
-}
-
-/// Whether some method has a body: so far no code is run.
-fn has_body(program: &Program) -> bool
-    ensures { result ≡ holds_code program.now }
-{
-    program.classes().iter().any(is_class_with_code)
-}
-
-/// Runs these main classes, each on a thread of its own, with no code.
+/// Runs these main classes, each on a thread of its own.
 fn run_mains<'a, R: Threads + Wait + Sync>(
     rt: &R,
     alloc: Global,
@@ -144,10 +106,10 @@ fn run_mains<'a, R: Threads + Wait + Sync>(
     requires mains { AreMains program.now mains.now }
     requires some { 1 ≤ length mains.now }
     requires few { length mains.now ≤ 16 }
-    ensures ran { IfOk result (IsEmptyRunOf program.now mains.now limits) }
+    ensures ran { IfOk result (IsRunOf program.now (code_bodies program.now) (starts_of mains.now limits) mains.now limits) }
     ensures refused { IfErr result (λ fault. (fault ≡ Memory) ⊎ (fault ≡ Threads)) }
 {
-    let bodies = vec![in alloc; NoCode; mains.len()]?;
+    let bodies = interpreters(alloc, mains.len(), limits.steps)?;
     match run_threads(rt, alloc, program, mains, bodies, limits, &NoGate) {
         Ok(report) => Ok(report),
         Err(RunFault::NoMemory) => Err(Fault::Memory),
@@ -155,7 +117,7 @@ fn run_mains<'a, R: Threads + Wait + Sync>(
     }
 }
 
-/// Runs the main classes that the text of `--mains` names, where no class has code.
+/// Runs the main classes that the text of `--mains` names, where they can be run.
 fn run_program<'a, R: Threads + Wait + Sync>(
     rt: &R,
     alloc: Global,
@@ -172,7 +134,7 @@ fn run_program<'a, R: Threads + Wait + Sync>(
     let Some(mains) = mains_named(alloc, program, names.as_bytes())? else {
         return Err(Fault::Mains);
     };
-    if has_body(program) {
+    if !can_run(program, &mains) {
         return Err(Fault::Body);
     }
     run_mains(rt, alloc, program, &mains, limits)
@@ -191,13 +153,15 @@ pub struct ProgramRun {
 /// of its own.
 ///
 /// The program is what linking makes of the class texts, and the report is that of [`run_threads`] for the classes of the
-/// files which are named; no class has code. It may wait, for ever where the limits know no patience.
+/// files which are named, whose code may begin so many instructions on each thread. It may wait, for ever where the limits know no
+/// patience.
 ///
 /// # Errors
 ///
 /// The first of: the first fault of linking (`Fault::Link`); no main class, one that no file has, or more than 16
-/// (`Fault::Mains`); a method with a body, since no code is run yet (`Fault::Body`); a thread that can't be started
-/// (`Fault::Threads`). Want of memory (`Fault::Memory`) may come before any of them.
+/// (`Fault::Mains`); an instruction or a synchronized method that isn't run yet, or a method with a body where several main
+/// classes are named (`Fault::Body`); a thread that can't be started (`Fault::Threads`). Want of memory (`Fault::Memory`) may
+/// come before any of them.
 pub fn run_texts<'a, R: Threads + Wait + Sync>(
     rt: &R,
     alloc: Global,

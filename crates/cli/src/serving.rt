@@ -8,17 +8,19 @@ ghost use Rattle.clap.specs.declared.error.kind.ErrorKind.TheVariants.{DisplayHe
 ghost use Rattle.trace.specs.TraceText.{trace_of};
 ghost use Rattle.cli.specs.CommandLine.{request_in, request_of, run_words_of, text_of};
 ghost use Rattle.cli.specs.Files.{FileHolds, KeepsAllBut};
+ghost use Rattle.cli.specs.Limits.{AreLimits};
 ghost use Rattle.cli.specs.NeedsText.{needs_text};
-ghost use Rattle.cli.specs.Outcomes.{outcomes_text};
+ghost use Rattle.cli.specs.Outcomes.{outcomes_text, status_after};
 ghost use Rattle.cli.specs.Running.{IsRunOfNamed};
 ghost use Rattle.cli.specs.Serving.{HasRun, HasToldNeeds, HasWritten, IsDone, IsLinkedFrom, IsServed, IsUntouched, around, trace_in};
 ghost use Rattle.cli.specs.Status.{IsStatus, status_of};
 
 use crate::fault::Fault;
 use crate::files::{Named, read_texts, write_named};
+use crate::limits::limits_of;
 use crate::needed::write_needs;
 use crate::outcomes::{status_of_outcomes, write_outcomes};
-use crate::running::{ProgramRun, limits_of, link_texts, run_texts};
+use crate::running::{ProgramRun, link_texts, run_texts};
 use crate::words::{Asked, Run, parse};
 use clap::error::ErrorKind;
 use hierarchy::Program;
@@ -110,6 +112,50 @@ fn write_run<'a, N: Named, O: io::Write>(
     write_traced(alloc, ran, trace, named)
 }
 
+/// Writes the output and the trace of a run, tells how its threads ended, and answers the exit status.
+fn report_run<'a, N: Named, O: io::Write, E: io::Write>(
+    alloc: Global,
+    ran: &ProgramRun,
+    trace: Option<&'a str>,
+    named: &mut N,
+    out: &mut O,
+    err: &mut E,
+) -> Result<u8, Fault<'a>>
+    ensures written { OnOk result (HasWritten (around (N.held named.old) (O.contents out.old)) (around (N.held named.new) (O.contents out.new))
+        (text_of trace.entry) ran.now.program ran.now.report) }
+    ensures told { OnOk result (Appends (E.contents err.old) (E.contents err.new) (outcomes_text ran.now.program ran.now.report.outcomes)) }
+    ensures ended { IfOk result (λ status. status ≡ status_after ran.now.report.outcomes) }
+    ensures files { KeepsAllBut (text_of trace.entry) (N.held named.old) (N.held named.new) }
+    ensures refused { IfErr result (λ f. status_of f ≡ 3) }
+{
+    write_run(alloc, ran, trace, named, out)?;
+    tell_outcomes(alloc, ran, err)?;
+    Ok(status_of_outcomes(ran.report.outcomes.as_slice()))
+}
+
+/// Runs what the words ask for within these limits, writes the output and the trace, tells how the threads ended, and answers the
+/// exit status.
+fn run_within<'a, R: Threads + Wait + Sync, N: Named, O: io::Write, E: io::Write>(
+    rt: &R,
+    alloc: Global,
+    words: &Run<'a>,
+    limits: Limits,
+    named: &mut N,
+    out: &mut O,
+    err: &mut E,
+) -> Result<u8, Fault<'a>>
+    requires said { AreLimits (text_of words.now.steps) (text_of words.now.patience) limits }
+    ensures files { KeepsAllBut (text_of words.now.trace) (N.held named.old) (N.held named.new) }
+    ensures ran { IfOk result (HasRun (around (N.held named.old) (O.contents out.old)) (around (N.held named.new) (O.contents out.new))
+        (E.contents err.old) (E.contents err.new) (run_words_of words.now)) }
+    ensures untouched { IfErr result (λ f. status_of f ≡ 2 → IsUntouched (around (N.held named.old) (O.contents out.old)) (around (N.held named.new) (O.contents out.new))) }
+{
+    match run_files(rt, alloc, &words.files, words.mains, limits, named) {
+        Ok(ran) => report_run(alloc, &ran, words.trace, named, out, err),
+        Err(fault) => Err(fault),
+    }
+}
+
 /// Runs what the words ask for, writes the output and the trace, tells how the threads ended, and answers the exit status.
 fn run<'a, R: Threads + Wait + Sync, N: Named, O: io::Write, E: io::Write>(
     rt: &R,
@@ -124,14 +170,10 @@ fn run<'a, R: Threads + Wait + Sync, N: Named, O: io::Write, E: io::Write>(
         (E.contents err.old) (E.contents err.new) (run_words_of words.now)) }
     ensures untouched { IfErr result (λ f. status_of f ≡ 2 → IsUntouched (around (N.held named.old) (O.contents out.old)) (around (N.held named.new) (O.contents out.new))) }
 {
-    let limits = limits_of(words.patience)?;
-    let ran = match run_files(rt, alloc, &words.files, words.mains, limits, named) {
-        Ok(ran) => ran,
-        Err(fault) => return Err(fault),
-    };
-    write_run(alloc, &ran, words.trace, named, out)?;
-    tell_outcomes(alloc, &ran, err)?;
-    Ok(status_of_outcomes(ran.report.outcomes.as_slice()))
+    match limits_of(words.steps, words.patience) {
+        Ok(limits) => run_within(rt, alloc, words, limits, named, out, err),
+        Err(fault) => Err(fault),
+    }
 }
 
 /// Reads and links the classes of the files.

@@ -8,8 +8,10 @@ ghost use Rattle.jasmin_text.specs.declared.class_text.ClassParts.{ClassParts};
 ghost use Rattle.hierarchy.specs.FirstFault.{LinksTo};
 ghost use Rattle.hierarchy.specs.LinkedProgram.{LinkedProgram};
 ghost use Rattle.trace.specs.TraceText.{trace_of};
+ghost use Rattle.trace.specs.declared.report.Limits.{Limits};
 ghost use Rattle.trace.specs.declared.report.Report.{Report};
-ghost use Rattle.cli.specs.Running.{IsRunOfNamed, limits_with};
+ghost use Rattle.cli.specs.Limits.{AreLimits};
+ghost use Rattle.cli.specs.Running.{IsRunOfNamed};
 
 use crate::{Named, NamedFault, serve};
 use std::alloc::Global;
@@ -58,8 +60,8 @@ static WORDS: [&str; 7] = [
 
 /// Runs the class Solo that the sheet spells, and writes the trace in its place.
 fn trace_the_sheet<R: Threads + Wait + Sync>(rt: &R, alloc: Global, sheet: &mut Sheet) -> u8
-    ensures { result ≡ 0 → (c : ClassParts) × (p : LinkedProgram) × (r : Report) × Spells (lines_of sheet.old.bytes.items) c
-        × LinksTo (c ∷ []) p × IsRunOfNamed (Some (codes "Solo")) (limits_with 0) p r × (sheet.new.bytes.items ≡ trace_of p r.events) }
+    ensures { result ≡ 0 → (c : ClassParts) × (p : LinkedProgram) × (l : Limits) × (r : Report) × Spells (lines_of sheet.old.bytes.items) c
+        × LinksTo (c ∷ []) p × AreLimits None None l × IsRunOfNamed (Some (codes "Solo")) l p r × (sheet.new.bytes.items ≡ trace_of p r.events) }
 {
     let mut out = Vec::new(alloc);
     let mut err = Vec::new(alloc);

@@ -26,6 +26,16 @@ fn words_are_parsed(rt: HostRuntime) -> Result<(), Fail> {
 }
 
 #[test]
+fn limits_are_parsed(rt: HostRuntime) -> Result<(), Fail> {
+    let words = ["jinit", "run", "--patience", "7", "--steps=10", "a.j"];
+    let Ok(Asked::Run(run)) = parse(rt.alloc(), &words) else {
+        return Err(Fail::from("no run"));
+    };
+    assert!(rt; run.steps == Some("10") && run.patience == Some("7") && run.mains.is_none());
+    Ok(())
+}
+
+#[test]
 fn words_without_options_are_parsed(rt: HostRuntime) -> Result<(), Fail> {
     let Ok(Asked::Needs(files)) = parse(rt.alloc(), &["jinit", "needs", "a.j", "a.j"]) else {
         return Err(Fail::from("nothing about needs"));

@@ -4,7 +4,7 @@ ghost use Rattle.std.specs.Prelude.{◌≡◌, IfOk, false};
 ghost use Rattle.clap.specs.Walk.{texts};
 ghost use Rattle.clap.specs.Words.{FailsBy, app_of, found_of, rule_of, subcommand_rows_of, with_rule, with_subcommand};
 ghost use Rattle.clap.specs.declared.builder.command.Command.TheViews.{out-Command as fields_of};
-ghost use Rattle.cli.specs.CommandLine.{bare_line, command_line, faults_in, file_words, files_found, option_named, request_found, request_in, request_of, rows_in, subcommand_named};
+ghost use Rattle.cli.specs.CommandLine.{bare_line, command_line, faults_in, file_words, files_found, option_named, request_found, request_in, request_of, rows_in, subcommand_named, with_limits as with_limit_options};
 
 use clap::{Arg, ArgAction, ArgMatches, Command, Error};
 use std::alloc::{AllocError, Global};
@@ -16,6 +16,8 @@ pub struct Run<'a> {
     pub mains: Option<&'a str>,
     /// The text of `--trace`: the file that the trace is written to.
     pub trace: Option<&'a str>,
+    /// The text of `--steps`: how many instructions a thread may begin.
+    pub steps: Option<&'a str>,
     /// The text of `--patience`: how often a thread looks at what another holds.
     pub patience: Option<&'a str>,
     /// The Jasmin files, in order.
@@ -73,6 +75,24 @@ fn with_argument<'a>(command: Command<'a>, argument: Arg<'a>) -> Result<Command<
     command.arg(argument)
 }
 
+/// The command with the options of how far a thread may go.
+#[tactic(auto, unfolding(crate::specs::CommandLine::with_limits))]
+fn with_limits<'a>(
+    alloc: Global,
+    command: Command<'a>,
+    is_hidden: bool,
+) -> Result<Command<'a>, AllocError>
+    ensures rules { IfOk result (λ c. app_of c ≡ with_limit_options (app_of command.entry)) }
+    ensures local { IfOk result (λ c. (fields_of c).has_globals ≡ (fields_of command.entry).has_globals) }
+{
+    let help = "A thread that has begun so many instructions is ended; 1000000 if not given";
+    let steps = option(alloc, "steps", "N", help, is_hidden);
+    let command = with_argument(command, steps)?;
+    let help = "A thread that looks so often at what another holds is ended; 0: never";
+    let patience = option(alloc, "patience", "N", help, is_hidden);
+    with_argument(command, patience)
+}
+
 /// A subcommand. It knows the options of the others too, but shows only those that it takes.
 #[tactic(auto, unfolding(crate::specs::CommandLine::subcommand_named))]
 fn subcommand<'a>(
@@ -90,9 +110,7 @@ fn subcommand<'a>(
     let help = "Writes every initialization step to FILE";
     let trace = option(alloc, "trace", "FILE", help, !takes_options);
     let command = with_argument(command, trace)?;
-    let help = "A thread that looks so often at what another holds is ended; 0: never";
-    let patience = option(alloc, "patience", "N", help, !takes_options);
-    let command = with_argument(command, patience)?;
+    let command = with_limits(alloc, command, !takes_options)?;
     with_argument(command, files_argument(alloc))
 }
 
@@ -150,17 +168,20 @@ fn asked_of<'a>(
 {
     let mains = matches.get_str("mains");
     let trace = matches.get_str("trace");
+    let steps = matches.get_str("steps");
     let patience = matches.get_str("patience");
     let files = files_of(alloc, matches)?;
     if name == "run" {
         return Ok(Asked::Run(Run {
             mains,
             trace,
+            steps,
             patience,
             files,
         }));
     }
-    if name == "needs" && mains.is_none() && trace.is_none() && patience.is_none() {
+    let has_limits = steps.is_some() || patience.is_some();
+    if name == "needs" && mains.is_none() && trace.is_none() && !has_limits {
         return Ok(Asked::Needs(files));
     }
     Ok(Asked::Unfit)
@@ -177,7 +198,7 @@ fn matches_of<'a>(alloc: Global, words: &'a [&'a str]) -> Result<ArgMatches<'a>,
 /// What the words ask for; the first word is the program's name.
 ///
 /// Subcommand, options and files are those that `clap` finds in the words: `run` and `needs` with any number of files, and
-/// with the options `--mains`, `--trace` and `--patience`, of which `needs` takes none.
+/// with the options `--mains`, `--trace`, `--steps` and `--patience`, of which `needs` takes none.
 ///
 /// # Errors
 ///

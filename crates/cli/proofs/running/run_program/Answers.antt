@@ -1,17 +1,17 @@
-use Rattle.std.proofs.Common.{rules, ◌≡◌, ◌⊎◌, ℕ, false, inl, inr, subst, sym, option_map, List, Option, Some, None}
+use Rattle.std.proofs.Common.{rules, ◌≡◌, ◌⊎◌, ℕ, true, inl, inr, subst, sym, option_map, List, Option, Some, None}
 use Rattle.std.proofs.lemmas.Result.{IfErr-weaker}
 use Rattle.hierarchy.specs.declared.class.ClassId.{ClassId}
 use Rattle.hierarchy.specs.LinkedProgram.{LinkedProgram}
-use Rattle.cli.specs.Bodiless.{holds_code}
+use Rattle.cli.specs.Built.{can_run}
 use Rattle.cli.specs.CommandLine.{text_of}
-use Rattle.cli.specs.Running.{IsRunRefusal, mains_in, unnamed, coded, no_memory, no_thread}
+use Rattle.cli.specs.Running.{IsRunRefusal, mains_in, unnamed, unbuilt, no_memory, no_thread}
 use Rattle.cli.specs.declared.fault.Fault.{Fault}
 use Rattle.cli.specs.declared.fault.Fault.TheVariants.{Memory, Threads}
 use Rattle.cli.proofs.running.run_program.Goals as goal
 
-ended_by : {p : LinkedProgram} {text : Option (List ℕ)} {classes : List ClassId} → mains_in p text ≡ Some classes → holds_code p ≡ false → (f : Fault) → (f ≡ Memory) ⊎ (f ≡ Threads) → IsRunRefusal p text f
-ended_by named bodiless f (inl is) = subst (IsRunRefusal _ _) (sym is) no_memory
-ended_by named bodiless f (inr is) = subst (IsRunRefusal _ _) (sym is) (no_thread named bodiless)
+ended_by : {p : LinkedProgram} {text : Option (List ℕ)} {classes : List ClassId} → mains_in p text ≡ Some classes → can_run p classes ≡ true → (f : Fault) → (f ≡ Memory) ⊎ (f ≡ Threads) → IsRunRefusal p text f
+ended_by named built f (inl is) = subst (IsRunRefusal _ _) (sym is) no_memory
+ended_by named built f (inr is) = subst (IsRunRefusal _ _) (sym is) (no_thread named built)
 
 pub returns-in_default-clause-refused : goal.returns-in_default-clause-refused
 returns-in_default-clause-refused g c = search (rules, unnamed)
@@ -22,8 +22,8 @@ returns-in_err-mains-clause-refused g c = search (rules, no_memory)
 pub returns-in_default-2-clause-refused : goal.returns-in_default-2-clause-refused
 returns-in_default-2-clause-refused g c = search (rules, unnamed)
 
-pub returns-then-has_body-clause-refused : goal.returns-then-has_body-clause-refused
-returns-then-has_body-clause-refused g c = coded {classes = c.in-Some-2.mains.items} (search rules) (search rules)
+pub returns-then-not-can_run-clause-refused : goal.returns-then-not-can_run-clause-refused
+returns-then-not-can_run-clause-refused g c = unbuilt {classes = c.in-Some-2.mains.items} (search rules) (search rules)
 
 pub returns-clause-refused : goal.returns-clause-refused
 returns-clause-refused g c = IfErr-weaker c.run_mains.result _ _ (ended_by {classes = c.in-Some-2.mains.items} (search rules) (search rules)) c.run_mains.ensures.refused
