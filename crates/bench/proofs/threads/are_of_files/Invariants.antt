@@ -1,6 +1,6 @@
 use Rattle.std.proofs.Common.{drop}
 use Rattle.guest_threads.specs.ThreadRuns.{AreMains}
-use Rattle.bench_threads.proofs.runs.are_of_files.Given as goal
+use Rattle.bench.proofs.threads.are_of_files.Given as goal
 
 abbrev pub invariant-loop-main : goal.invariant-loop-main
 invariant-loop-main l = AreMains l.program (drop l.main-index l.mains) → AreMains l.program l.mains

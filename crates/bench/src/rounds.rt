@@ -2,7 +2,7 @@
 ghost use Rattle.std.specs.Prelude.{◌≡◌, ◌+◌, ◌<◌, ◌≤◌, [], Some};
 ghost use Rattle.std.specs.List.{AllByRecursion};
 ghost use Rattle.init_lock.specs.Known.{seen_at, out_of, IsAway, IsAwayBut, IsSamePass};
-ghost use Rattle.bench_lock.specs.Ready.{IsReady};
+ghost use Rattle.bench.specs.Ready.{IsReady};
 
 use crate::history::History;
 use init_lock::{Held, InitTable, Pass};

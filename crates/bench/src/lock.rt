@@ -1,0 +1,129 @@
+//! Times of the lock, a round, beside one thread.
+//!
+//! Each thread draws so many events, each under a lock: it takes a record, adds to its history, draws, and gives the
+//! record back. A time is that of all threads, divided by the rounds of one.
+
+ghost use Rattle.std.specs.Prelude.{◌≡◌, ◌<◌, ◌≤◌, IfOk};
+ghost use Rattle.std.specs.List.{AllByRecursion};
+ghost use Rattle.bench.specs.Ready.{IsReady};
+
+use crate::harness::{Failure, Row, Watch};
+use crate::history::{History, four_histories};
+use crate::rounds::in_threads;
+use crate::sample::Sample;
+use init_lock::{InitTable, Pass};
+use std::alloc::{AllocError, Global};
+use std::rt::Clock;
+use std::sync::Wait;
+use std::thread::Threads;
+
+// The C library keeps freed blocks once one of this size was freed, and hands them out again. So all but the first
+// measurement have journals and histories in memory that was touched before.
+const KEPT_BYTES: usize = 24 << 20;
+
+/// Some threads side by side, on so many records: 1 to 4 of each.
+#[derive(Clone, Copy)]
+pub(crate) struct Contest {
+    threads: usize,
+    records: usize,
+}
+
+const ALONE: Contest = Contest {
+    threads: 1,
+    records: 1,
+};
+
+/// Each contest beside one thread, with the number of rounds that is asked for, at most a million.
+pub(crate) const ROWS: &[Row] = &[
+    Row {
+        what: "rounds of 1 thread on 1 record, beside 1 thread",
+        sample: Sample::Lock(Contest {
+            threads: 1,
+            records: 1,
+        }),
+        sizes: &[1],
+        most: 1_000_000,
+        unit: Sample::Lock(ALONE),
+        unit_size: None,
+        repeats: 40,
+    },
+    Row {
+        what: "rounds of 2 threads on 1 record, beside 1 thread",
+        sample: Sample::Lock(Contest {
+            threads: 2,
+            records: 1,
+        }),
+        sizes: &[1],
+        most: 1_000_000,
+        unit: Sample::Lock(ALONE),
+        unit_size: None,
+        repeats: 40,
+    },
+    Row {
+        what: "rounds of 2 threads on 2 records, beside 1 thread",
+        sample: Sample::Lock(Contest {
+            threads: 2,
+            records: 2,
+        }),
+        sizes: &[1],
+        most: 1_000_000,
+        unit: Sample::Lock(ALONE),
+        unit_size: None,
+        repeats: 40,
+    },
+    Row {
+        what: "rounds of 4 threads on 1 record, beside 1 thread",
+        sample: Sample::Lock(Contest {
+            threads: 4,
+            records: 1,
+        }),
+        sizes: &[1],
+        most: 1_000_000,
+        unit: Sample::Lock(ALONE),
+        unit_size: None,
+        repeats: 40,
+    },
+    Row {
+        what: "rounds of 4 threads on 4 records, beside 1 thread",
+        sample: Sample::Lock(Contest {
+            threads: 4,
+            records: 4,
+        }),
+        sizes: &[1],
+        most: 1_000_000,
+        unit: Sample::Lock(ALONE),
+        unit_size: None,
+        repeats: 40,
+    },
+];
+
+// A table of four records, of which so many share room for all events, and a pass for each thread.
+fn opened(
+    alloc: Global,
+    threads: usize,
+    room: usize,
+) -> Result<(InitTable<History>, Vec<Pass<History>>), AllocError>
+    requires { threads ≤ 4 }
+    ensures places { IfOk result (λ t. t.0.places ≡ 4) }
+    ensures passes { IfOk result (λ t. AllByRecursion (IsReady t.0.id) t.1.items) }
+{
+    InitTable::new(alloc, four_histories(alloc, room)?, threads)
+}
+
+/// The time of a round in a contest with so many rounds in each thread.
+pub(crate) fn time<R: Clock + Threads + Wait + Sync>(
+    rt: &R,
+    alloc: Global,
+    contest: Contest,
+    rounds: usize,
+) -> Result<u128, Failure> {
+    let threads = contest.threads.min(4);
+    let records = contest.records.clamp(1, 4);
+    drop(Vec::<u8>::with_capacity(alloc, KEPT_BYTES)?);
+    let (table, passes) = opened(alloc, threads, rounds.saturating_mul(threads) / records)?;
+    let watch = Watch::start(rt);
+    let end = in_threads(rt, &table, passes, records, rounds);
+    drop(table);
+    end?;
+    watch.share(rt, rounds)
+}

@@ -1,0 +1,125 @@
+//! Times of reading a part of a file, beside the same of a file of the same shape with fewer parts.
+
+use crate::files::Files;
+use crate::harness::{Failure, Row, Watch};
+use crate::sample::Sample;
+use jasmin_reader::read_class;
+use std::alloc::Global;
+use std::rt::Clock;
+
+/// What a file has many of: its parts stand between a front and a back.
+#[derive(Clone, Copy)]
+pub(crate) struct Part {
+    front: &'static [u8],
+    /// `#` is the number of the part, and `@` how many parts are left.
+    text: &'static [u8],
+    back: &'static [u8],
+}
+
+const LABELS: Part = Part {
+    front: b".class A\n.method static m()V\n",
+    text: b"L#:\n",
+    back: b"return\n.end method\n",
+};
+
+const WORDS: Part = Part {
+    front: b".class",
+    text: b" public",
+    back: b" A\n",
+};
+
+const COMMENTS: Part = Part {
+    front: b".class A\n",
+    text: b"; a comment of some length\n",
+    back: b"",
+};
+
+// At most 16,384 keys count in a method.
+const KEYS: Part = Part {
+    front: b".class A\n.method static m()V\nlookupswitch\n",
+    text: b"@ : a\n",
+    back: b"default : a\na:\nreturn\n.end method\n",
+};
+
+// At most 1,024 methods count in a class.
+const METHODS: Part = Part {
+    front: b".class A\n",
+    text: b".method static m#()V\niconst_1\npop\nreturn\n.end method\n",
+    back: b"",
+};
+
+/// Each part twice and four times as many parts as the first file.
+pub(crate) const ROWS: &[Row] = &[
+    Row {
+        what: "labels of one method, one read, beside the first",
+        sample: Sample::Read(LABELS),
+        sizes: &[2, 4],
+        most: 10_000_000,
+        unit: Sample::Read(LABELS),
+        unit_size: Some(1),
+        repeats: 5,
+    },
+    Row {
+        what: "access words of one line, one read, beside the first",
+        sample: Sample::Read(WORDS),
+        sizes: &[2, 4],
+        most: 10_000_000,
+        unit: Sample::Read(WORDS),
+        unit_size: Some(1),
+        repeats: 5,
+    },
+    Row {
+        what: "comments, one read, beside the first",
+        sample: Sample::Read(COMMENTS),
+        sizes: &[2, 4],
+        most: 10_000_000,
+        unit: Sample::Read(COMMENTS),
+        unit_size: Some(1),
+        repeats: 5,
+    },
+    Row {
+        what: "falling keys of one lookupswitch, one read, beside the first",
+        sample: Sample::Read(KEYS),
+        sizes: &[2, 4],
+        most: 4_000,
+        unit: Sample::Read(KEYS),
+        unit_size: Some(1),
+        repeats: 5,
+    },
+    Row {
+        what: "methods, one read, beside the first",
+        sample: Sample::Read(METHODS),
+        sizes: &[2, 4],
+        most: 256,
+        unit: Sample::Read(METHODS),
+        unit_size: Some(1),
+        repeats: 5,
+    },
+];
+
+// A file of so many parts.
+fn file_of(alloc: Global, part: Part, parts: usize) -> Files {
+    let mut files = Files::new(alloc);
+    files.add(part.front, 0, 0);
+    for number in 0..parts {
+        files.add(part.text, number, parts.saturating_sub(number));
+    }
+    files.add(part.back, 0, 0);
+    files
+}
+
+/// How long a part of a file of so many is read.
+pub(crate) fn time(
+    rt: &impl Clock,
+    alloc: Global,
+    part: Part,
+    size: usize,
+) -> Result<u128, Failure> {
+    let file = file_of(alloc, part, size);
+    let text = file.text()?;
+    let watch = Watch::start(rt);
+    match read_class(alloc, text) {
+        Ok(_text) => watch.share(rt, size),
+        Err(_) => Err(Failure::Program),
+    }
+}
