@@ -1,2 +1,0 @@
-.class public Solo
-.super java/lang/Object
