@@ -1,7 +1,7 @@
 //! Calls and returns.
 
-use crate::steps::{begin, call, method, push};
-use frames::{Cell, FramePlace, Frames, Stop};
+use crate::steps::{Reason, begin, call, method, push, reason_of};
+use frames::{Cell, FramePlace, Frames};
 use hierarchy::{MethodCode, Op};
 use std::alloc::{AllocError, Global};
 
@@ -27,7 +27,7 @@ fn come_back(frames: &mut Frames) {
 }
 
 /// Why two frames stop.
-type Stops = (Stop, Stop);
+type Stops = (Reason, Reason);
 
 /// Runs the innermost frame, calls a method with two operands and runs it: what each came to.
 fn run_both(
@@ -39,7 +39,7 @@ fn run_both(
     let (_, calls) = frames.go_on(caller.ops.as_slice(), 100);
     call(frames, 1, callee, 2)?;
     let (_, returns) = frames.go_on(callee.ops.as_slice(), 100);
-    Ok((calls, returns))
+    Ok((reason_of(calls), reason_of(returns)))
 }
 
 /// Where the caller of a method goes on with its result.
@@ -71,10 +71,7 @@ fn a_call_gives_its_result(rt: HostRuntime) {
         place: 3,
         is_first: true,
     };
-    let stops = (
-        Stop::LeadsOut(Op::InvokeStatic(0, 1)),
-        Stop::LeadsOut(Op::ReturnInt),
-    );
+    let stops = (Reason::Calls(0, 1), Reason::ReturnsInt);
     assert!(rt; difference(rt.alloc()) == Ok((stops, Some(at), Some(Cell::Int(4)))));
 }
 

@@ -1,7 +1,7 @@
 //! Runs of instructions within a frame.
 
-use crate::steps::{begin, drop_operands, method, push};
-use frames::{Cell, Frames, Stop};
+use crate::steps::{Reason, begin, drop_operands, method, push, reason_of};
+use frames::{Cell, Frames};
 use hierarchy::{BuiltIn, Op};
 use std::alloc::{AllocError, Global};
 
@@ -28,33 +28,33 @@ fn run(
     ops: &[Op],
     locals: &[Cell],
     limit: u64,
-) -> Result<(u64, Stop, Option<usize>, Option<Cell>), AllocError> {
+) -> Result<(u64, Reason, Option<usize>, Option<Cell>), AllocError> {
     let code = method(alloc, 4, 2, ops)?;
     let mut frames = Frames::new(alloc);
     begin(&mut frames, 0, &code, locals)?;
     let (done, stop) = frames.go_on(code.ops.as_slice(), limit);
     let place = frames.at().map(|at| at.place);
-    Ok((done, stop, place, frames.operand(0)))
+    Ok((done, reason_of(stop), place, frames.operand(0)))
 }
 
 #[test]
 fn a_loop_of_ints_adds_up(rt: HostRuntime) {
     let ran = run(rt.alloc(), &SUM, &[Cell::Int(10)], 1000);
     let sum = Some(Cell::Int(55));
-    assert!(rt; ran == Ok((85, Stop::LeadsOut(Op::ReturnInt), Some(11), sum)));
+    assert!(rt; ran == Ok((85, Reason::ReturnsInt, Some(11), sum)));
 }
 
 #[test]
 fn a_loop_goes_on_as_far_as_its_limit(rt: HostRuntime) {
     let ran = run(rt.alloc(), &SUM, &[Cell::Int(10)], 7);
-    assert!(rt; ran == Ok((7, Stop::Limit, Some(7), Some(Cell::Int(10)))));
+    assert!(rt; ran == Ok((7, Reason::Limit, Some(7), Some(Cell::Int(10)))));
 }
 
 #[test]
 fn zero_divides_nothing(rt: HostRuntime) {
     let ops = [Op::PushInt(5), Op::PushInt(0), Op::Remainder];
     let ran = run(rt.alloc(), &ops, &[], 1000);
-    let thrown = Stop::Throws(BuiltIn::ArithmeticException);
+    let thrown = Reason::Throws(BuiltIn::ArithmeticException);
     assert!(rt; ran == Ok((2, thrown, Some(2), Some(Cell::Int(0)))));
 }
 
@@ -68,7 +68,7 @@ fn no_instruction_is_past_the_end(rt: HostRuntime) {
         Op::ToChar,
     ];
     let ran = run(rt.alloc(), &ops, &[], 1000);
-    assert!(rt; ran == Ok((5, Stop::PastTheEnd, Some(5), Some(Cell::Int(65532)))));
+    assert!(rt; ran == Ok((5, Reason::PastTheEnd, Some(5), Some(Cell::Int(65532)))));
 }
 
 #[test]
@@ -81,7 +81,7 @@ fn operands_are_at_most_as_many_as_the_limit(rt: HostRuntime) {
         Op::Nop,
     ];
     let ran = run(rt.alloc(), &ops, &[], 1000);
-    let thrown = Stop::Throws(BuiltIn::VerifyError);
+    let thrown = Reason::Throws(BuiltIn::VerifyError);
     assert!(rt; ran == Ok((3, thrown, Some(3), Some(Cell::Reference(7)))));
 }
 

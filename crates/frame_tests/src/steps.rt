@@ -1,7 +1,7 @@
 //! What tests do to frames, where it may be done.
 
-use frames::{Cell, Frames};
-use hierarchy::{MethodCode, Op};
+use frames::{Cell, Frames, Stop};
+use hierarchy::{BuiltIn, MethodCode, Op};
 use sequence::Sequence;
 use std::alloc::{AllocError, Global};
 
@@ -70,5 +70,27 @@ pub(crate) fn drop_operands(frames: &mut Frames, count: usize) {
     }
     if let Some(_) = frames.operand(count - 1) {
         frames.drop_operands(count);
+    }
+}
+
+/// Why a run of instructions stops.
+#[derive(Clone, Copy, Debug, PartialEq, Eq)]
+pub(crate) enum Reason {
+    Limit,
+    PastTheEnd,
+    Throws(BuiltIn),
+    Calls(u16, u16),
+    ReturnsInt,
+    Other,
+}
+
+pub(crate) fn reason_of(stop: Stop) -> Reason {
+    match stop {
+        Stop::Limit => Reason::Limit,
+        Stop::PastTheEnd => Reason::PastTheEnd,
+        Stop::Throws(class) => Reason::Throws(class),
+        Stop::LeadsOut(Op::InvokeStatic(class, method)) => Reason::Calls(class, method),
+        Stop::LeadsOut(Op::ReturnInt) => Reason::ReturnsInt,
+        Stop::LeadsOut(_) => Reason::Other,
     }
 }
