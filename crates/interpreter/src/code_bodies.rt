@@ -114,6 +114,7 @@ impl Interpreter {
                 Outcome::Normal => self.phase = Phase::Ready(done.class),
                 Outcome::Abrupt(_) => {
                     let thrown = answer(program, self.thrown);
+                    self.thrown = None;
                     self.throw(program, thrown);
                 }
                 Outcome::Ended(_) => {}
