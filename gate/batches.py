@@ -8,12 +8,16 @@ import re
 import shutil
 import subprocess
 import tempfile
+import time
 from collections import deque
 
 import places
+from tally import say
 
 # How many edits a batch has at most: with more, an edit that is refused slowly holds up many others.
 MOST = 16
+# An edit that takes more seconds than these to be refused is shown: another one of the same meaning may take less.
+SLOW = 10
 
 
 class Edits:
@@ -52,15 +56,47 @@ class Edits:
     def refused_in(self, batch):
         """Those of the batch's edits that the prover refuses, each for its own function's goals."""
         texts = places.texts_with(self.crate.folder, [edit for edit, _ in batch])
-        words = ["--jobs", "1", *[word for _, function in batch for word in ("--only", function)]]
         with copied(self.kept) as room:
-            ran = self.rt.checked(self.crate, texts, words, f"{room}/kept")
-        lines = ran.stdout.rstrip("\n").split("\n")
-        is_judged = ran.returncode == 1 and re.match(r"only=\d+ proved=\d+", lines[-1])
-        if not is_judged or self.rt.rtlib.STALE.search(ran.stdout) or any(self.rt.unread(it, texts) for it in lines):
+            said, left = self.judged(texts, [function for _, function in batch], f"{room}/kept")
+        if left or self.rt.rtlib.STALE.search(said) or any(self.rt.unread(it, texts) for it in said.split("\n")):
             return {}
-        own = refused_by_own(ran.stdout)
+        own = refused_by_own(said)
         return {edit: function for edit, function in batch if function in own}
+
+    def judged(self, texts, functions, kept):
+        """What the prover says of these functions over the kept work, and those of which it says nothing.
+
+        It isn't asked further than its line on the last of them: behind that it looks for proofs to advise."""
+        with tempfile.TemporaryDirectory(prefix="rt-edit-") as room:
+            for part in self.rt.rtlib.PARTS:
+                if os.path.isdir(f"{self.crate.folder}/{part}"):
+                    shutil.copytree(f"{self.crate.folder}/{part}", f"{room}/{part}")
+            for path, text in texts.items():
+                with open(f"{room}/{path}", "w", encoding="utf-8") as it:
+                    it.write(text)
+            flags = ["--jobs", "1", "--progress", *[word for it in functions for word in ("--only", it)], "--incremental", kept]
+            words = [*self.rt.rtlib.guarded(), self.rt.rtlib.RATTLE, "check", *self.crate.words(flags, keeps=False)]
+            how = {"cwd": room, "stdin": subprocess.DEVNULL, "stdout": subprocess.PIPE, "stderr": subprocess.STDOUT, "errors": "replace"}
+            with subprocess.Popen(words, **how) as ran:
+                judged = self.lines_up_to(functions, ran.stdout)
+                ran.kill()
+        return judged
+
+    def lines_up_to(self, functions, lines):
+        """The lines up to that on the last of these functions, and those functions that have none."""
+        left, said, before = {*functions}, [], None
+        for line in lines:
+            said.append(line)
+            found = re.match(r"(fn|checked) ([^\s,]+)[:,] ", line)
+            if found and found[1] == "checked":
+                before, took = time.time(), time.time() - (before or time.time())
+                if took > SLOW and found[2] in functions:
+                    say(f"the edit of {found[2]}: {took:.0f} s")
+            elif found:
+                left.discard(found[2])
+            if not left:
+                break
+        return "".join(said), left
 
     def alone(self, edit):
         """Whether the prover refuses the crate with this edit alone, and what to say; over the kept work, and where that

@@ -56,8 +56,9 @@ def head_above(lines, row):
 
 
 def bare(name):
-    """A type's or a trait's name without its path and parameters."""
-    return re.sub(r"<.*", "", name).split("::")[-1].strip("& ") if name else ""
+    """A type's or a trait's name as the prover has it, without its path and parameters, and with a capital: `U16` for `u16`."""
+    name = re.sub(r"<.*", "", name).split("::")[-1].strip("& ") if name else ""
+    return name[:1].upper() + name[1:]
 
 
 def owner_of(lines, row):
