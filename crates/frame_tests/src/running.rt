@@ -37,6 +37,36 @@ fn run(
     Ok((done, reason_of(stop), place, frames.operand(0)))
 }
 
+/// The same, where each instruction is asked for alone.
+fn run_singly(
+    alloc: Global,
+    ops: &[Op],
+    locals: &[Cell],
+    limit: u64,
+) -> Result<(u64, Reason, Option<usize>, Option<Cell>), AllocError> {
+    let code = method(alloc, 4, 2, ops)?;
+    let mut frames = Frames::new(alloc);
+    begin(&mut frames, 0, &code, locals)?;
+    for done in 0..limit {
+        let (one, stop) = frames.go_on(code.ops.as_slice(), 1);
+        if one == 0 {
+            let place = frames.at().map(|at| at.place);
+            return Ok((done, reason_of(stop), place, frames.operand(0)));
+        }
+    }
+    let place = frames.at().map(|at| at.place);
+    Ok((limit, Reason::Limit, place, frames.operand(0)))
+}
+
+#[test]
+fn a_loop_is_its_instructions_one_by_one(rt: HostRuntime) {
+    let locals = [Cell::Int(10)];
+    let whole = run(rt.alloc(), &SUM, &locals, 1000);
+    assert!(rt; whole.is_ok() && whole == run_singly(rt.alloc(), &SUM, &locals, 1000));
+    let begun = run(rt.alloc(), &SUM, &locals, 33);
+    assert!(rt; begun.is_ok() && begun == run_singly(rt.alloc(), &SUM, &locals, 33));
+}
+
 #[test]
 fn a_loop_of_ints_adds_up(rt: HostRuntime) {
     let ran = run(rt.alloc(), &SUM, &[Cell::Int(10)], 1000);

@@ -9,20 +9,20 @@ ghost use Rattle.frames.specs.declared.run.Stop.TheVariants as stop;
 use crate::cell::Cell;
 use crate::place::FramePlace;
 use crate::run::Stop;
-use crate::slot::{Cells, Slot};
+use crate::slot::Slot;
 use hierarchy::{MethodCode, Op};
 use std::alloc::{AllocError, Global};
 use std::marker::Model;
 
 /// The frames of one thread (JVMS SE 8 2.6), of the bodies that it runs, one within the other.
 ///
-/// Contracts see the list of them, the innermost first. The cells of a frame that was left are kept for the next one, so that
-/// no call takes memory at a depth that was reached before.
+/// Contracts see the list of them, the innermost first. A frame that was left is kept for the next call, so that no call takes
+/// memory at a depth that was reached before.
 #[derive(Debug, Drop)]
 pub struct Frames {
     innermost: Option<Slot>,
     below: Vec<Slot>,
-    spare: Vec<Cells>,
+    spare: Vec<Slot>,
     alloc: Global,
 }
 
@@ -116,14 +116,14 @@ impl Frames {
         }
     }
 
-    /// Cells for a frame more, and room to keep the cells of all frames.
-    fn spare_cells(&mut self) -> Result<Cells, AllocError>
+    /// A frame more, and room to keep all frames.
+    fn spare(&mut self) -> Result<Slot, AllocError>
         ensures { self.new ≡ self.old }
     {
         self.spare.reserve(self.below.len().saturating_add(2))?;
         match self.spare.pop() {
-            Some(cells) => Ok(cells),
-            None => Ok(Cells::new(self.alloc)),
+            Some(slot) => Ok(slot),
+            None => Slot::new(self.alloc),
         }
     }
 
@@ -140,8 +140,8 @@ impl Frames {
         ensures ok { OnOk result (self.new ≡ activation class method true code.now given.now ∷ self.old) }
         ensures err { OnErr result (self.new ≡ self.old) }
     {
-        let cells = self.spare_cells()?;
-        let first = Slot::enter(cells, class, method, true, code, given)?;
+        let mut first = self.spare()?;
+        first.enter(class, method, true, code, given)?;
         self.below.reserve(1)?;
         if let Some(waiting) = std::mem::replace(&mut self.innermost, Some(first)) {
             push_below(&mut self.below, waiting);
@@ -164,11 +164,11 @@ impl Frames {
         ensures ok { OnOk result (self.new ≡ called class method code.now count self.old) }
         ensures err { OnErr result (self.new ≡ self.old) }
     {
-        let cells = self.spare_cells()?;
+        let mut callee = self.spare()?;
         let Some(caller) = &mut self.innermost else {
             return Ok(());
         };
-        let callee = caller.call(cells, class, method, code, count)?;
+        caller.call(&mut callee, class, method, code, count)?;
         self.below.reserve(1)?;
         caller.drop_operands(count);
         if let Some(waiting) = std::mem::replace(&mut self.innermost, Some(callee)) {
@@ -183,7 +183,7 @@ impl Frames {
     {
         let waiting = pop_below(&mut self.below);
         if let Some(slot) = std::mem::replace(&mut self.innermost, waiting) {
-            let _ = self.spare.push(slot.into_cells());
+            let _ = self.spare.push(slot);
         }
     }
 

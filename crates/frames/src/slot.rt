@@ -1,6 +1,6 @@
 //! One method's activation: its place, locals and operands.
 
-ghost use Rattle.std.specs.Prelude.{◌≡◌, ◌<◌, ◌≤◌, ◌+◌, ◌^◌, List, IfOk, length, slice_get, true, false};
+ghost use Rattle.std.specs.Prelude.{◌≡◌, ◌<◌, ◌≤◌, ◌+◌, ◌^◌, List, OnOk, length, slice_get, true, false};
 ghost use Rattle.frames.specs.Running.{Goes, IsAtNext, Stops};
 ghost use Rattle.frames.specs.Activations.{activation, arguments, at_handler, at_place, dropped, has_room_in, in_frame, next_place, place_in, pushed};
 ghost use Rattle.frames.specs.declared.cell.Cell.TheVariants as cell;
@@ -17,27 +17,10 @@ use std::marker::Model;
 /// The last place that a frame can have.
 const LAST_PLACE: usize = 9_223_372_036_854_775_807;
 
-/// Cells that no frame uses.
+/// What an activation is made of. The cells of a stack beyond its operands have no meaning. There is at least one, for the object
+/// that a handler gets, also where the method is to have no operand.
 #[derive(Debug, Drop)]
-pub(crate) struct Cells {
-    locals: Vec<Cell>,
-    stack: Vec<Cell>,
-}
-
-impl Cells {
-    /// No cells. Takes no memory.
-    pub(crate) fn new(alloc: Global) -> Self {
-        Cells {
-            locals: Vec::new(alloc),
-            stack: Vec::new(alloc),
-        }
-    }
-}
-
-/// An activation. The cells of a stack beyond its operands have no meaning. There is at least one, for the object that a
-/// handler gets, also where the method is to have no operand.
-#[derive(Debug, Drop)]
-pub(crate) struct Slot {
+struct Parts {
     class: usize,
     method: usize,
     is_first: bool,
@@ -48,6 +31,12 @@ pub(crate) struct Slot {
     stack: Vec<Cell>,
 }
 
+/// An activation, in memory of its own, so that it is moved as one pointer.
+#[derive(Debug, Drop)]
+pub(crate) struct Slot {
+    parts: Box<Parts>,
+}
+
 impl Model for Slot {
     ghost use Rattle.std.specs.Prelude.{◌≤◌, ◌<◌, ◌^◌, vec_len};
     ghost use Rattle.frames.specs.Frame.{frame_in};
@@ -55,74 +44,81 @@ impl Model for Slot {
 
     ghost Value = { Activation };
 
-    ghost view = { λ s. record { class = s.class; method = s.method; is_first = s.is_first; frame = frame_in s.locals.items s.stack.items s.limit s.top s.place } };
+    ghost view = { λ s. record { class = s.parts.value.class; method = s.parts.value.method; is_first = s.parts.value.is_first; frame = frame_in s.parts.value.locals.items s.parts.value.stack.items s.parts.value.limit s.parts.value.top s.parts.value.place } };
 
     ghost invariant = { λ s. record {
-      top : s.top ≤ vec_len s.stack;
-      limit : s.limit ≤ vec_len s.stack;
-      one : 1 ≤ vec_len s.stack;
-      place : s.place < 2 ^ 63;
+      top : s.parts.value.top ≤ vec_len s.parts.value.stack;
+      limit : s.parts.value.limit ≤ vec_len s.parts.value.stack;
+      one : 1 ≤ vec_len s.parts.value.stack;
+      place : s.parts.value.place < 2 ^ 63;
     } };
 }
 
 impl Slot {
-    /// A method's activation in these cells, with these arguments, the lowest first.
+    /// An activation of no method, for one that is entered. An `Err` is want of memory.
+    pub(crate) fn new(alloc: Global) -> Result<Self, AllocError> {
+        let mut stack = Vec::new(alloc);
+        stack.push(Cell::Unset)?;
+        let parts = Parts {
+            class: 0,
+            method: 0,
+            is_first: false,
+            place: 0,
+            top: 0,
+            limit: 0,
+            locals: Vec::new(alloc),
+            stack,
+        };
+        Ok(Slot {
+            parts: Box::new(alloc, parts)?,
+        })
+    }
+
+    /// Becomes a method's activation, with these arguments, the lowest first.
     pub(crate) fn enter(
-        cells: Cells,
+        &mut self,
         class: usize,
         method: usize,
         is_first: bool,
         code: &MethodCode,
         given: &[Cell],
-    ) -> Result<Self, AllocError>
+    ) -> Result<(), AllocError>
         requires { length given.now ≤ code.now.locals }
-        ensures { IfOk result (λ slot. slot ≡ activation class method is_first code.now given.now) }
+        ensures { OnOk result (self.new ≡ activation class method is_first code.now given.now) }
     {
-        let Cells {
-            mut locals,
-            mut stack,
-        } = cells;
-        locals.clear();
-        locals.extend_from_slice(given)?;
-        locals.resize(code.locals as usize, Cell::Unset)?;
+        let parts = &mut *self.parts;
         let limit = code.stack as usize;
-        if stack.len() <= limit {
-            stack.resize(limit + 1, Cell::Unset)?;
+        if parts.stack.len() <= limit {
+            parts.stack.resize(limit + 1, Cell::Unset)?;
         }
-        Ok(Slot {
-            class,
-            method,
-            is_first,
-            place: 0,
-            top: 0,
-            limit,
-            locals,
-            stack,
-        })
+        parts.locals.clear();
+        parts.locals.extend_from_slice(given)?;
+        parts.locals.resize(code.locals as usize, Cell::Unset)?;
+        parts.class = class;
+        parts.method = method;
+        parts.is_first = is_first;
+        parts.place = 0;
+        parts.top = 0;
+        parts.limit = limit;
+        Ok(())
     }
 
-    /// Its cells.
-    pub(crate) fn into_cells(self) -> Cells {
-        let Slot { locals, stack, .. } = self;
-        Cells { locals, stack }
-    }
-
-    /// The activation of a method that is called with the operands on top.
+    /// Makes another one the activation of a method that is called with the operands on top.
     pub(crate) fn call(
         &self,
-        cells: Cells,
+        callee: &mut Slot,
         class: usize,
         method: usize,
         code: &MethodCode,
         count: usize,
-    ) -> Result<Slot, AllocError>
+    ) -> Result<(), AllocError>
         requires few { count ≤ length self.now.frame.stack }
         requires fits { count ≤ code.now.locals }
-        ensures { IfOk result (λ slot. slot ≡ activation class method false code.now (arguments count self.now.frame.stack)) }
+        ensures { OnOk result (callee.new ≡ activation class method false code.now (arguments count self.now.frame.stack)) }
     {
-        let operands = self.stack.as_slice().split_at(self.top).0;
-        let given = operands.split_at(self.top - count).1;
-        Slot::enter(cells, class, method, false, code, given)
+        let operands = self.parts.stack.as_slice().split_at(self.parts.top).0;
+        let given = operands.split_at(self.parts.top - count).1;
+        callee.enter(class, method, false, code, given)
     }
 
     #[inline(always)]
@@ -130,10 +126,10 @@ impl Slot {
         ensures { result ≡ place_in self.now }
     {
         FramePlace {
-            class: self.class,
-            method: self.method,
-            place: self.place,
-            is_first: self.is_first,
+            class: self.parts.class,
+            method: self.parts.method,
+            place: self.parts.place,
+            is_first: self.parts.is_first,
         }
     }
 
@@ -141,17 +137,17 @@ impl Slot {
     pub(crate) fn operand(&self, depth: usize) -> Option<Cell>
         ensures { result ≡ slice_get self.now.frame.stack depth }
     {
-        if depth >= self.top {
+        if depth >= self.parts.top {
             return None;
         }
-        Some(self.stack[self.top - 1 - depth])
+        Some(self.parts.stack[self.parts.top - 1 - depth])
     }
 
     #[inline(always)]
     pub(crate) fn has_room(&self) -> bool
         ensures { result ≡ has_room_in self.now }
     {
-        self.top < self.limit
+        self.parts.top < self.parts.limit
     }
 
     #[inline(always)]
@@ -159,7 +155,7 @@ impl Slot {
         requires { count ≤ length self.old.frame.stack }
         ensures { self.new ≡ in_frame (dropped count) self.old }
     {
-        self.top -= count;
+        self.parts.top -= count;
     }
 
     #[inline(always)]
@@ -167,23 +163,24 @@ impl Slot {
         requires { has_room_in self.old ≡ true }
         ensures { self.new ≡ in_frame (pushed value) self.old }
     {
-        push(self.stack.as_mut_slice(), self.top, value);
-        self.top += 1;
+        let parts = &mut *self.parts;
+        push(parts.stack.as_mut_slice(), parts.top, value);
+        parts.top += 1;
     }
 
     #[inline(always)]
     pub(crate) fn go_to(&mut self, place: u16)
         ensures { self.new ≡ in_frame (at_place place) self.old }
     {
-        self.place = place as usize;
+        self.parts.place = place as usize;
     }
 
     #[inline(always)]
     pub(crate) fn step_over(&mut self)
         ensures { self.new ≡ in_frame next_place self.old }
     {
-        if self.place < LAST_PLACE {
-            self.place += 1;
+        if self.parts.place < LAST_PLACE {
+            self.parts.place += 1;
         }
     }
 
@@ -191,9 +188,10 @@ impl Slot {
     pub(crate) fn go_to_handler(&mut self, place: u16, reference: u32)
         ensures { self.new ≡ in_frame (at_handler place (cell.Reference reference)) self.old }
     {
-        push(self.stack.as_mut_slice(), 0, Cell::Reference(reference));
-        self.top = 1;
-        self.place = place as usize;
+        let parts = &mut *self.parts;
+        push(parts.stack.as_mut_slice(), 0, Cell::Reference(reference));
+        parts.top = 1;
+        parts.place = place as usize;
     }
 
     /// Goes on within the activation.
@@ -205,17 +203,18 @@ impl Slot {
         ensures reached { result.1 ≡ stop.Limit → result.0 ≡ limit }
         ensures before { IsAtNext result.1 → result.0 < limit }
     {
+        let parts = &mut *self.parts;
         let ran = run(
             ops,
-            self.locals.as_mut_slice(),
-            self.stack.as_mut_slice(),
-            self.limit,
-            self.top,
-            self.place,
+            parts.locals.as_mut_slice(),
+            parts.stack.as_mut_slice(),
+            parts.limit,
+            parts.top,
+            parts.place,
             limit,
         );
-        self.top = ran.top;
-        self.place = ran.place;
+        parts.top = ran.top;
+        parts.place = ran.place;
         (ran.done, ran.stop)
     }
 }
