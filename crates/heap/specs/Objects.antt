@@ -1,5 +1,5 @@
 -- What references refer to while a program runs (JVMS SE 8 2.4, 2.5.3).
-use Rattle.std.specs.Prelude.{◌≡◌, ◌⊎◌, ℕ, ◌+◌, ◌-◌, nat_le, Bool, List, [], ◌∷◌, ◌++◌, Option, Some, None, length, slice_get, if◌then◌else◌}
+use Rattle.std.specs.Prelude.{◌≡◌, ◌⊎◌, ℕ, ◌+◌, ◌-◌, nat_le, Bool, true, false, List, [], ◌∷◌, ◌++◌, Option, Some, None, length, slice_get, if◌then◌else◌}
 use Rattle.hierarchy.specs.declared.built_in.BuiltIn.{BuiltIn}
 use Rattle.hierarchy.specs.declared.built_in.BuiltIn.TheVariants.{Object, String, PrintStream, OutOfMemoryError, NoClassDefFoundError}
 use Rattle.hierarchy.specs.declared.class.ClassId.{ClassId}
@@ -52,12 +52,17 @@ ready_out_of_memory p = record { reference = 1; class = built_in p OutOfMemoryEr
 abbrev pub ready_no_class : LinkedProgram → Thrown
 ready_no_class p = record { reference = 2; class = built_in p NoClassDefFoundError }
 
--- a new object of a built-in throwable, or the ready OutOfMemoryError where the heap is full
+abbrev pub is_no_class : BuiltIn → Bool
+is_no_class NoClassDefFoundError = true
+is_no_class b = false
+
+-- The machine throws its ready NoClassDefFoundError itself. Of another throwable it makes a new object, and its ready
+-- OutOfMemoryError stands in where the heap is full.
 abbrev pub thrown_by : LinkedProgram → BuiltIn → List HeapObject → Thrown
-thrown_by p b made = if is_full p made then ready_out_of_memory p else record { reference = next_reference p made; class = built_in p b }
+thrown_by p b made = if is_no_class b then ready_no_class p else if is_full p made then ready_out_of_memory p else record { reference = next_reference p made; class = built_in p b }
 
 abbrev pub with_thrown : LinkedProgram → BuiltIn → List HeapObject → List HeapObject
-with_thrown p b made = if is_full p made then made else made ++ Instance (built_in p b) ∷ []
+with_thrown p b made = if is_no_class b then made else if is_full p made then made else made ++ Instance (built_in p b) ∷ []
 
 -- a new array of no texts, as main takes it, where the heap has room
 abbrev pub texts_reference : LinkedProgram → List HeapObject → Option ℕ

@@ -6,9 +6,9 @@
 
 ghost use Rattle.std.specs.Prelude.{◌≡◌, ◌↔◌, ◌-◌, ◌<◌, [], false, IsTrue, OnOk, OnErr, IfOk, slice_get};
 ghost use Rattle.hierarchy.specs.LinkedProgram.{built_in};
-ghost use Rattle.hierarchy.specs.declared.built_in.BuiltIn.TheVariants.{Object};
+ghost use Rattle.hierarchy.specs.declared.built_in.BuiltIn.TheVariants.{ExceptionInInitializerError, Object};
 ghost use Rattle.hierarchy.specs.declared.code.Element.TheVariants as kinds;
-ghost use Rattle.heap.specs.Objects.{object_at, thrown_by, with_thrown, texts_reference, with_texts, is_full, next_reference, ready_count, ready_class as ready_class_of, ready_out_of_memory, ready_no_class, Fits, IsAny, IsInstance, IsOfElement};
+ghost use Rattle.heap.specs.Objects.{object_at, thrown_by, with_thrown, texts_reference, with_texts, is_full, is_no_class as is_no_class_of, next_reference, ready_count, ready_class as ready_class_of, ready_out_of_memory, ready_no_class, Fits, IsAny, IsInstance, IsOfElement};
 
 pub mod object;
 #[cfg(test)]
@@ -48,6 +48,15 @@ fn ready_class(program: &Program, object: ReadyObject) -> ClassId
         ReadyObject::NoClassDefFoundError => BuiltIn::NoClassDefFoundError,
         ReadyObject::Text => BuiltIn::String,
     })
+}
+
+fn is_no_class(class: BuiltIn) -> bool
+    ensures { result ≡ is_no_class_of class }
+{
+    match class {
+        BuiltIn::NoClassDefFoundError => true,
+        _ => false,
+    }
 }
 
 /// Whether an object of a class is one of what a type is made of.
@@ -140,7 +149,9 @@ impl Heap {
         self.made.get(place).copied()
     }
 
-    /// A new object of a built-in throwable, or the ready OutOfMemoryError where the heap is full.
+    /// What the machine throws for a built-in throwable: the ready NoClassDefFoundError for that class, else a new object, or the
+    /// ready OutOfMemoryError where the heap is full. Room for the error that step 11 of JLS SE 8 12.4.2 makes in its place is kept
+    /// too.
     ///
     /// # Errors
     ///
@@ -150,6 +161,33 @@ impl Heap {
         ensures made { OnOk result (self.new ≡ with_thrown program.now class self.old) }
         ensures err { OnErr result (self.new ≡ self.old) }
     {
+        self.made.reserve(2)?;
+        self.instance(program, class)
+    }
+
+    /// A new ExceptionInInitializerError, or the ready OutOfMemoryError where the heap is full: the error that step 11 of JLS SE 8
+    /// 12.4.2 makes.
+    ///
+    /// # Errors
+    ///
+    /// Want of the machine's memory, which changes nothing, and doesn't come directly behind [`Heap::throwable`].
+    pub fn initializer_error(&mut self, program: &Program) -> Result<Thrown, AllocError>
+        ensures thrown { IfOk result (λ t. t ≡ thrown_by program.now ExceptionInInitializerError self.old) }
+        ensures made { OnOk result (self.new ≡ with_thrown program.now ExceptionInInitializerError self.old) }
+        ensures err { OnErr result (self.new ≡ self.old) }
+    {
+        self.instance(program, BuiltIn::ExceptionInInitializerError)
+    }
+
+    /// What the machine throws for a built-in throwable. An `Err` is want of memory, and changes nothing.
+    fn instance(&mut self, program: &Program, class: BuiltIn) -> Result<Thrown, AllocError>
+        ensures thrown { IfOk result (λ t. t ≡ thrown_by program.now class self.old) }
+        ensures made { OnOk result (self.new ≡ with_thrown program.now class self.old) }
+        ensures err { OnErr result (self.new ≡ self.old) }
+    {
+        if is_no_class(class) {
+            return Ok(no_class(program));
+        }
         if self.is_full(program) {
             return Ok(out_of_memory(program));
         }

@@ -166,10 +166,8 @@ impl Interpreter {
     fn wrap(&mut self, program: &Program) -> ClassId
         ensures { (thrown : ClassFacts) → (IsError program.now thrown → ⊥) → Replaces program.now self.old thrown result self.new }
     {
-        let wrapped = match self
-            .heap
-            .throwable(program, BuiltIn::ExceptionInInitializerError)
-        {
+        // (room for the error was kept when what was thrown was made)
+        let wrapped = match self.heap.initializer_error(program) {
             Ok(wrapped) => wrapped,
             Err(_) => out_of_memory(program),
         };

@@ -6,7 +6,7 @@ ghost use Rattle.frames.specs.Frame.{int_in as int_of, reference_in as reference
 ghost use Rattle.hierarchy.specs.declared.built_in.BuiltIn.TheVariants.{VerifyError};
 ghost use Rattle.hierarchy.specs.declared.op.Op.TheVariants as op;
 ghost use Rattle.hierarchy.specs.LinkedProgram.{id as class_id};
-ghost use Rattle.interpreter.specs.Leads.{LeadsTo, IsResult, print_stream as stream_type, receiver_at, target_of};
+ghost use Rattle.interpreter.specs.Leads.{LeadsTo, lead_by as lead_by_of, IsResult, print_stream as stream_type, receiver_at, target_of};
 ghost use Rattle.interpreter.specs.Methods.{instruction_at as text_at};
 ghost use Rattle.interpreter.specs.Printing.{IsPrintable, IsPrintableBy, printed_count};
 ghost use Rattle.interpreter.specs.declared.lead.Lead.TheVariants.{Throws};
@@ -131,19 +131,29 @@ fn is_printable_by(program: &Program, method: BuiltInMethod, value: Option<Cell>
         BuiltInMethod::Print(printed) | BuiltInMethod::PrintLine(printed) => {
             is_printable(program, printed, value)
         }
-        BuiltInMethod::PrintLineAlone => true,
-        BuiltInMethod::Init | BuiltInMethod::InitWithText => false,
+        BuiltInMethod::PrintLineAlone | BuiltInMethod::Init => true,
+        BuiltInMethod::InitWithText => false,
     }
 }
 
-/// The receiver of a method that prints.
+/// What a method of java/io/PrintStream does.
+fn lead_by(method: BuiltInMethod) -> Lead
+    ensures { result ≡ lead_by_of method }
+{
+    match method {
+        BuiltInMethod::Init => Lead::Drops,
+        method => Lead::Prints(method),
+    }
+}
+
+/// The receiver of a method of java/io/PrintStream.
 fn receiver(frames: &Frames, method: BuiltInMethod) -> Option<Cell>
     ensures { result ≡ receiver_at (operands_of frames.now) (printed_count method) }
 {
     match method {
         BuiltInMethod::Print(_) | BuiltInMethod::PrintLine(_) => frames.operand(1),
-        BuiltInMethod::PrintLineAlone => frames.operand(0),
-        BuiltInMethod::Init | BuiltInMethod::InitWithText => None,
+        BuiltInMethod::PrintLineAlone | BuiltInMethod::Init => frames.operand(0),
+        BuiltInMethod::InitWithText => None,
     }
 }
 
@@ -165,7 +175,7 @@ fn print(
             Cell::Null => Lead::Throws(BuiltIn::NullPointerException),
             Cell::Reference(number) => when(
                 heap.fits(program, print_stream(program), number),
-                Lead::Prints(method),
+                lead_by(method),
             ),
             Cell::Int(_) => VERIFY,
             Cell::Unset => VERIFY,

@@ -11,7 +11,7 @@ pub returns-in-Null : goal.returns-in-Null
 returns-in-Null c = null_receiver c.args.program.now c.args.heap.now c.args.frames.now c.args.at c.args.code.now c.args.method c.operand.result c.operand.ensures (c.is_printable_by.ensures.0 c.if-not-is_printable_by.false) (ap Some (sym c.in-Null.is) ∙ sym c.in-Some.is ∙ c.receiver.ensures)
 
 pub returns-in-Reference : goal.returns-in-Reference
-returns-in-Reference c = rw c.when.ensures (with_receiver c.args.program.now c.args.heap.now c.args.frames.now c.args.at c.args.code.now c.args.method c.operand.result c.in-Reference.number c.fits.result c.operand.ensures (c.is_printable_by.ensures.0 c.if-not-is_printable_by.false)
+returns-in-Reference c = rw (c.when.ensures, c.lead_by.ensures) (with_receiver c.args.program.now c.args.heap.now c.args.frames.now c.args.at c.args.code.now c.args.method c.operand.result c.in-Reference.number c.fits.result c.operand.ensures (c.is_printable_by.ensures.0 c.if-not-is_printable_by.false)
     (ap Some (sym c.in-Reference.is) ∙ sym c.in-Some.is ∙ c.receiver.ensures)
     (subst (λ (t : ResolvedType). IsTrue c.fits.result ↔ Fits c.args.program.now c.args.heap.now t c.in-Reference.number) c.print_stream.ensures c.fits.ensures))
 

@@ -1,5 +1,5 @@
-use Rattle.std.proofs.Common.{rules, sym, ◌∙◌}
-use Rattle.interpreter.proofs.Running.{no_rows, ran, Ran}
+use Rattle.std.proofs.Common.{sym, ◌∙◌}
+use Rattle.interpreter.proofs.Running.{no_rows, ran}
 use Rattle.interpreter.proofs.interpreter.Interpreter.run.Goals as goal
 
 pub returns-in_default-clause-err : goal.returns-in_default-clause-err
