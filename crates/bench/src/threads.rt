@@ -6,7 +6,7 @@
 //! journals merged, divided by all events.
 
 ghost use Rattle.std.specs.Prelude.{◌≡◌, ◌<◌, true};
-ghost use Rattle.guest_threads.specs.ThreadRuns.{AreMains};
+ghost use Rattle.bodies.specs.Runs.{AreMains};
 
 use crate::files::Files;
 use crate::harness::{Failure, Row, Watch};

@@ -1,5 +1,5 @@
 -- What a body may do next in a program.
-use Rattle.std.specs.Prelude.{◌≡◌, ◌≢◌, ℕ, ◌<◌, length, List, Option, Some, None, IsTrue, slice_get}
+use Rattle.std.specs.Prelude.{◌≡◌, ◌≢◌, ◌<◌, length, Option, Some, None, IsTrue, slice_get}
 use Rattle.std.specs.Str.{is_utf8}
 use Rattle.hierarchy.specs.declared.value.Value.{Value}
 use Rattle.hierarchy.specs.LinkedProgram.{LinkedProgram}

@@ -1,2 +1,5 @@
 pub mod Making
 pub mod Doing
+pub mod Runs
+pub mod Writes
+pub mod ThreadStands

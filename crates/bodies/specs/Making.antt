@@ -1,5 +1,5 @@
 -- What bodies do, by the states of what runs them, and what of it the words of a procedure stand over.
-use Rattle.std.specs.Prelude.{◌≡◌, List, ℕ, Option, Some, None}
+use Rattle.std.specs.Prelude.{◌≡◌, Option, Some, None}
 use Rattle.hierarchy.specs.declared.class.ClassId.{ClassId}
 use Rattle.hierarchy.specs.declared.value.Value.{Value}
 use Rattle.hierarchy.specs.LinkedProgram.{LinkedProgram}

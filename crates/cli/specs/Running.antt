@@ -9,7 +9,7 @@ use Rattle.trace.specs.declared.report.Limits.{Limits}
 use Rattle.trace.specs.declared.report.Report.{Report}
 use Rattle.interpreter.specs.declared.interpreter.Interpreter.{Interpreter}
 use Rattle.interpreter.specs.CodeRun.{code_bodies, interpreter_at_start}
-use Rattle.guest_threads.specs.ThreadRuns.{IsRunOf}
+use Rattle.bodies.specs.Runs.{IsRunOf}
 use Rattle.cli.specs.declared.fault.Fault.{Fault}
 use Rattle.cli.specs.declared.fault.Fault.TheVariants.{Body, Link, Mains, Memory, Threads}
 use Rattle.cli.specs.Built.{can_run}

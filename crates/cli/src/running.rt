@@ -4,7 +4,7 @@ ghost use Rattle.std.specs.Prelude.{◌≡◌, ◌⊎◌, ◌<◌, ◌≤◌, If
 ghost use Rattle.std.specs.Option.{option_map};
 ghost use Rattle.hierarchy.specs.FirstFault.{LinksTo};
 ghost use Rattle.interpreter.specs.CodeRun.{code_bodies, interpreter_at_start};
-ghost use Rattle.guest_threads.specs.ThreadRuns.{AreMains, IsRunOf};
+ghost use Rattle.bodies.specs.Runs.{AreMains, IsRunOf};
 ghost use Rattle.cli.specs.declared.fault.Fault.TheVariants.{Memory, Threads};
 ghost use Rattle.cli.specs.CommandLine.{text_of};
 ghost use Rattle.cli.specs.Running.{IsLinkRefusal, IsRefusal, IsRunOfNamed, IsRunRefusal, main_named as class_of_name, mains_in, mains_named as classes_of_names, starts_of};

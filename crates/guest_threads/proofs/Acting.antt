@@ -1,69 +1,52 @@
 -- What a body does, as the calls tell it.
-use Rattle.std.proofs.Common.{◌≡◌, ◌≢◌, ℕ, ◌+◌, ◌-◌, ◌≤◌, List, [], ◌∷◌, ◌++◌, Option, Some, None, Bool, true, false, length, slice_get, refl, sym, subst, ap, ◌∙◌, append-nil, arith}
+use Rattle.std.proofs.Common.{◌≡◌, ◌≢◌, ℕ, ◌+◌, ◌-◌, ◌≤◌, List, [], ◌∷◌, ◌++◌, Option, Some, None, Bool, true, false, length, slice_get, refl, sym, subst, ap, ◌∙◌, arith}
 use Rattle.std.specs.List.{AllByRecursion}
 use Rattle.hierarchy.specs.declared.class.ClassId.{ClassId}
 use Rattle.hierarchy.specs.declared.value.Value.{Value}
-use Rattle.hierarchy.specs.LinkedProgram.{LinkedProgram}
 use Rattle.statics.specs.declared.static_field.StaticField.{StaticField}
 use Rattle.statics.specs.Statics.{statics_of, kept_by}
-use Rattle.hierarchy.specs.Subclasses.{IsError, IsThrowable}
+use Rattle.hierarchy.specs.Subclasses.{IsError}
 use Rattle.init_core.specs.declared.event.Event.{Event}
 use Rattle.init_core.specs.declared.event.Kind.{Kind}
 use Rattle.init_core.specs.declared.event.Kind.TheVariants as kind
-use Rattle.init_core.specs.declared.event.Label.{Label}
 use Rattle.init_core.specs.declared.frames.Completed.{Completed}
 use Rattle.init_core.specs.declared.frames.Frame.{Frame}
 use Rattle.init_core.specs.declared.frames.Outcome.{Outcome}
 use Rattle.init_core.specs.declared.frames.Outcome.TheVariants.{Normal, Abrupt, Ended}
-use Rattle.init_core.specs.declared.frames.Phase.TheVariants.{Looking, Running}
+use Rattle.init_core.specs.declared.frames.Phase.TheVariants.{Running}
 use Rattle.init_core.specs.declared.procedure.Answer.TheVariants as answer
 use Rattle.init_core.specs.declared.procedure.Next.TheVariants as next
 use Rattle.init_core.specs.Advance.{Advances, leaves_body, FitsBody, MayRequest, after_body, is_running, next_of, requested}
 use Rattle.init_core.specs.Decisions.{event}
 use Rattle.init_core.specs.History.{History}
 use Rattle.init_core.specs.Numbers.{IsEventOf, IsInRange}
-use Rattle.init_core.specs.Interleaving.{of_class}
 use Rattle.init_core.specs.Label.{label_of}
-use Rattle.init_core.specs.Lawful.{Allows, MayUse}
-use Rattle.init_core.specs.Leads.{frame, standing, LeadsOf, running, looking, used as used_in}
-use Rattle.init_core.specs.ProcedureWord.{Maker, ThreadWordOf, GoesOn, IsOfFiles, IsUse, IsStop, completed, ended_by, given_up, printed}
-use Rattle.init_core.specs.ProgramEvents.{IsDoneAt, IsProgramEvent, IsValueOf, prints_text}
+use Rattle.init_core.specs.Lawful.{MayUse}
+use Rattle.init_core.specs.Leads.{frame, standing, LeadsOf}
+use Rattle.init_core.specs.ProcedureWord.{GoesOn, IsOfFiles, IsUse, IsStop, completed, ended_by, given_up, printed}
+use Rattle.init_core.specs.ProgramEvents.{IsDoneAt, IsValueOf, prints_text}
 use Rattle.init_core.specs.StaticValue.{value_of}
 use Rattle.init_core.specs.Standing.{Standing}
-use Rattle.init_core.specs.Stands.{SeesMore, begun_classes, ending_error}
-use Rattle.init_core.proofs.Doing.{reads_or_writes, prints_one, enters_main, main_reads_or_writes, main_prints}
-use Rattle.init_core.proofs.Knowing.{requests_one}
+use Rattle.init_core.specs.Stands.{begun_classes, ending_error}
+use Rattle.init_core.proofs.Doing.{enters_main}
 use Rattle.init_core.proofs.Leading.{MakesEnd}
-use Rattle.init_core.proofs.Mains.{item_is_requested, main_threw, ends_main, main_is_ended}
+use Rattle.init_core.proofs.Mains.{main_threw, ends_main}
 use Rattle.init_lock.specs.declared.journal.Stamped.{Stamped}
 use Rattle.init_lock.specs.Known.{HeldFacts, IsSamePass}
 use Rattle.trace.specs.declared.report.Limit.{Limit}
 use Rattle.bodies.specs.declared.does.Does.{Does}
 use Rattle.bodies.specs.declared.does.Does.TheVariants as does
 use Rattle.bodies.specs.Doing.{MayDo}
-use Rattle.bodies.specs.Making.{Making, HasCome, stays, comes, maker_of}
+use Rattle.bodies.specs.Making.{Making, stays, comes, maker_of}
+use Rattle.bodies.proofs.ThreadSteps.{allows_use, asks_one, uses_one, prints_at, makes_ended, stops_at}
 use Rattle.guest_threads.specs.declared.guarded.Guarded.{Guarded}
 use Rattle.guest_threads.specs.declared.task.Work.{Work}
 use Rattle.guest_threads.specs.Tasks.{TaskFacts, error_of, IsWhy}
 use Rattle.guest_threads.specs.Working.{Working, StandsAt, OuterOf, IdleOf, IsRoomier, IsInBody, HasComeTo, IsDoing, IsOver, Took, GaveBack, drawn, seen_of}
-use Rattle.guest_threads.proofs.Asking.{IsBodyAt, of_main, of_class as of_a_class, body_at, running_at, running_requests, not_running, body_error, is_idle, are_asking}
-use Rattle.guest_threads.proofs.Passing.{View, one, goes_of, still, told, with_record, visited, drew}
-use Rattle.guest_threads.proofs.HeldValues.{value_held, written_value}
+use Rattle.bodies.proofs.Asking.{IsBodyAt, of_main, of_class as of_a_class, body_at, running_at, running_requests, not_running, body_error, is_idle, are_asking}
+use Rattle.guest_threads.proofs.Passing.{View, one, still, told, with_record, visited, drew}
+use Rattle.bodies.proofs.HeldValues.{value_held, written_value}
 use Rattle.guest_threads.proofs.Telling.{machine_of}
-
-allows_use : (l : Label) (t : ℕ) (k : Kind) → IsUse k → MayUse t l → Allows l t k
-allows_use l t (kind.Gets f v) is may = may
-allows_use l t (kind.Puts f v) is may = may
-allows_use l t kind.Waits is may = absurd is
-allows_use l t kind.Recurs is may = absurd is
-allows_use l t kind.FindsInitialized is may = absurd is
-allows_use l t kind.FindsErroneous is may = absurd is
-allows_use l t kind.Begins is may = absurd is
-allows_use l t (kind.SuperFails e) is may = absurd is
-allows_use l t kind.Runs is may = absurd is
-allows_use l t kind.Completes is may = absurd is
-allows_use l t (kind.Fails e) is may = absurd is
-allows_use l t (kind.Prints x) is may = absurd is
 
 pub none_of : (o : Option ClassId) → ((e : ClassId) → o ≢ Some e) → o ≡ None
 none_of None n = refl
@@ -86,43 +69,6 @@ pub data HasWaited {S : Type 0} (M : Making S) (last : Option Completed) (from :
   so_far : {now : S} → M.does from last does.Waits now → HasWaited M last from now
 
 module _ {S : Type 0} (M : Making S) (k : TaskFacts S) where
-  -- ---- what stands of the procedures
-
-  asks_in : (b : Bool) (c : ClassId) (fs : List Frame) (last : Option Completed) (own : List Event) (seen : ClassId → List Event) (y z : S) (d : ClassId) → GoesOn last → IsOfFiles k.program d → M.does y last (does.Asks d) z →
-      StandsAt M k b (standing (frame c (Running true) ∷ fs) last) own seen y → StandsAt M k b (standing (frame d (Looking false) ∷ (frame c (Running true) ∷ fs)) None) own seen z
-  asks_in b c fs last own seen y z d on within ask st = record {
-    leads = by st.leads;
-    files = ((within, tt), st.files);
-    mine = st.mine;
-    different = st.different;
-    waiting = λ e x. st.waiting on x;
-    used = λ x q. cc;
-  } where
-    by : {xs : List Event} → LeadsOf k.program k.number (maker_of k.program M) (OuterOf M k b) (IdleOf M k b) (standing (frame c (Running true) ∷ fs) last) xs y → LeadsOf k.program k.number (maker_of k.program M) (OuterOf M k b) (IdleOf M k b) (standing (frame d (Looking false) ∷ (frame c (Running true) ∷ fs)) None) xs z
-    by (running waited around g starts i) = subst (λ ys. LeadsOf k.program k.number (maker_of k.program M) (OuterOf M k b) (IdleOf M k b) (standing (frame d (Looking false) ∷ (frame c (Running true) ∷ fs)) None) ys z) (append-nil _) (looking false (used_in waited around g starts i on within ask))
-
-  -- an active use
-  asks_one : (b : Bool) (fs : List Frame) (last : Option Completed) (own : List Event) (seen : ClassId → List Event) (y z : S) (d : ClassId) → IsBodyAt fs → (fs ≡ [] → b ≡ true) → GoesOn last → IsOfFiles k.program d → M.does y last (does.Asks d) z →
-      StandsAt M k b (standing fs last) own seen y → StandsAt M k b (requested (standing fs last) d) own seen z
-  asks_one false fs last own seen y z d of_main main on within ask st = not_true (main refl)
-  asks_one true fs last own seen y z d of_main main on within ask st =
-      requests_one k.program k.number (maker_of k.program M) (OuterOf M k true) (IdleOf M k true) (goes_of M k true) d tt on within ask (item_is_requested k.program k.number (maker_of k.program M) k.start k.main on within ask) st
-  asks_one b fs last own seen y z d (of_a_class c gs) main on within ask st = asks_in b c gs last own seen y z d on within ask st
-
-  -- a read or a write
-  uses_one : (b : Bool) (fs : List Frame) (own : List Event) (seen now : ClassId → List Event) (y z : S) (d : ClassId) (j : Kind) → IsBodyAt fs → (fs ≡ [] → b ≡ true) → IsUse j → (maker_of k.program M).uses y d j z → SeesMore seen (λ e. of_class e (event k.number d j ∷ [])) now →
-      StandsAt M k b (standing fs (Some (completed d Normal))) own seen y → StandsAt M k b (standing fs None) (own ++ event k.number d j ∷ []) now z
-  uses_one false fs own seen now y z d j of_main main is made sees st = not_true (main refl)
-  uses_one true fs own seen now y z d j of_main main is made sees st = main_reads_or_writes k.program k.number (maker_of k.program M) k.start k.main j is made sees st
-  uses_one b fs own seen now y z d j (of_a_class c gs) main is made sees st = reads_or_writes k.program k.number (maker_of k.program M) (OuterOf M k b) (IdleOf M k b) (goes_of M k b) j is made sees st
-
-  -- a print
-  prints_at : (b : Bool) (fs : List Frame) (last : Option Completed) (own : List Event) (seen : ClassId → List Event) (y z : S) (text : List ℕ) → IsBodyAt fs → (fs ≡ [] → b ≡ true) → GoesOn last → M.does y last (does.Prints text) z →
-      StandsAt M k b (standing fs last) own seen y → StandsAt M k b (standing fs None) (own ++ printed k.number text ∷ []) seen z
-  prints_at false fs last own seen y z text of_main main on made st = not_true (main refl)
-  prints_at true fs last own seen y z text of_main main on made st = main_prints k.program k.number (maker_of k.program M) k.start k.main text on made st
-  prints_at b fs last own seen y z text (of_a_class c gs) main on made st = prints_one k.program k.number (maker_of k.program M) (OuterOf M k b) (IdleOf M k b) (goes_of M k b) text on made st
-
   -- ---- the work
 
   -- the pass alone moved
@@ -146,7 +92,7 @@ module _ {S : Type 0} (M : Making S) (k : TaskFacts S) where
   pub asked : (w : Work S) (s : Standing) (c : ClassId) → s ≡ requested w.procedure c → IsDoing M k (does.Asks c) w → Working M k (record w { procedure = s })
   asked w s c is d =
       let st : StandsAt M k w.in_main (requested w.procedure c) (drawn w.pass.journal) (seen_of w.pass) w.bodies =
-      asks_one w.in_main w.procedure.frames w.procedure.last (drawn w.pass.journal) (seen_of w.pass) d.from w.bodies c (body_at w.procedure.frames d.body.requests) d.body.main d.goes_on d.fits d.does d.working.stands in
+      asks_one M k.program k.number k.start k.main w.in_main w.procedure.frames w.procedure.last (drawn w.pass.journal) (seen_of w.pass) d.from w.bodies c (body_at w.procedure.frames d.body.requests) d.body.main d.goes_on d.fits d.does d.working.stands in
       let few : (fs : List Frame) → IsBodyAt fs → length (begun_classes (requested (standing fs w.procedure.last) c).frames) ≤ length (begun_classes fs) = few_of in
       subst (λ (v : Standing). Working M k (record w { procedure = v })) (sym is)
       (still M k (record w { bodies = d.from }) (requested w.procedure c) w.bodies w.why d.working st (λ b e. cc) (λ e q. cc) (few w.procedure.frames (body_at w.procedure.frames d.body.requests))) where
@@ -166,7 +112,7 @@ module _ {S : Type 0} (M : Making S) (k : TaskFacts S) where
       let from : Work S = record w { bodies = x.from } in
       subst (λ (a : Standing). Working M k (record w { pass = v; procedure = a; bodies = z; slack = w.slack - 1 })) (sym to)
       (visited M k from (standing w.procedure.frames None) z (w.slack - 1) w.looks c y v h n events (event k.number c j ∷ []) place took back more journal (one j (allows_use _ k.number j is (may_use_found from c y h last took x.working)) done) within
-      (λ sees st. uses_one w.in_main w.procedure.frames (drawn w.pass.journal) (seen_of y) (seen_of v) x.from z c j (body_at w.procedure.frames x.body.requests) x.body.main is made sees
+      (λ sees st. uses_one M k.program k.number k.start k.main w.in_main w.procedure.frames (drawn w.pass.journal) (seen_of y) (seen_of v) x.from z c j (body_at w.procedure.frames x.body.requests) x.body.main is made sees
       (subst (λ (l : Option Completed). StandsAt M k w.in_main (standing w.procedure.frames l) (drawn w.pass.journal) (seen_of y) x.from) last st))
       (λ b e. not_of_main w x.body b e) (λ e q. none_ends w e x.body q) (let r = x.working.room in let q = took.room in omega arith) x.working)
 
@@ -205,14 +151,10 @@ module _ {S : Type 0} (M : Making S) (k : TaskFacts S) where
   has_printed w s text y made is same journal places room slack to x =
       subst (λ (a : Standing). Working M k (record w { pass = y; procedure = a; slack = w.slack - 1 })) (sym to)
       (drew M k (record w { bodies = x.from }) (standing w.procedure.frames None) w.bodies (w.slack - 1) w.looks y made (printed k.number text) is same journal places (prints_text text x.working.works.within x.fits)
-      (λ st. prints_at w.in_main w.procedure.frames w.procedure.last (drawn w.pass.journal) (seen_of w.pass) x.from w.bodies text (body_at w.procedure.frames x.body.requests) x.body.main x.goes_on x.does st)
+      (λ st. prints_at M k.program k.number k.start k.main w.in_main w.procedure.frames w.procedure.last (drawn w.pass.journal) (seen_of w.pass) x.from w.bodies text (body_at w.procedure.frames x.body.requests) x.body.main x.goes_on x.does st)
       (λ b e. not_of_main w x.body b e) (λ e q. none_ends w e x.body q) (let r = x.working.room in omega arith) x.working)
 
   -- ---- the end of a body
-
-  makes_ended : (last : Option Completed) (by : Option ClassId) (e : ClassId) (y z : S) → (u : S) × HasCome M y last u × M.is_ended u z → MakesEnd k.program (maker_of k.program M) last by (Ended e) y z
-  makes_ended last None e y z h = h
-  makes_ended last (Some x) e y z h = h
 
   -- the machine ended the body of a class
   pub left : (w : Work S) (s : Standing) (z : S) (e : ClassId) → is_running w.procedure.frames ≡ true → ((f : Frame) (fs : List Frame) → w.procedure.frames ≡ f ∷ fs → s ≡ after_body f.class fs (Ended e)) → FitsBody k.program (given_up w.procedure.last) (Ended e) → IsWhy M k w.why e →
@@ -222,18 +164,8 @@ module _ {S : Type 0} (M : Making S) (k : TaskFacts S) where
       let to : s ≡ after_body at.0 at.1 (Ended e) = is (frame at.0 (Running true)) at.1 at.2 in
       let step : Advances k.program k.number w.procedure (answer.BodyEnded (Ended e)) [] s = subst (λ (v : Standing). Advances k.program k.number w.procedure (answer.BodyEnded (Ended e)) [] v) (sym to)
       (subst (λ (fs : List Frame). Advances k.program k.number (standing fs w.procedure.last) (answer.BodyEnded (Ended e)) [] (after_body at.0 at.1 (Ended e))) (sym at.2) (leaves_body fits)) in
-      told M k (record w { bodies = h.from }) s (answer.BodyEnded (Ended e)) z w.why step (makes_ended w.procedure.last (given_up w.procedure.last) e h.from z (w.bodies, h.come, ended))
+      told M k (record w { bodies = h.from }) s (answer.BodyEnded (Ended e)) z w.why step (makes_ended M k.program k.number k.start k.main w.procedure.last (given_up w.procedure.last) e h.from z (w.bodies, h.come, ended))
       (λ y r. let same : Some e ≡ Some y = ap ending_error (sym to) ∙ r in let it : e ≡ y = cc in subst (IsWhy M k w.why) it why) h.working
-
-  stops_at : (last : Option Completed) (e : ClassId) (own : List Event) (y z : S) → FitsBody k.program (given_up last) (Ended e) → (u : S) × HasCome M y last u × M.is_ended u z →
-      LeadsOf k.program k.number (maker_of k.program M) (OuterOf M k true) (IdleOf M k true) (standing [] last) own y → ThreadWordOf k.program k.number (maker_of k.program M) k.start k.main own (Ended e) z
-  stops_at None e own y z fits made h = ends_main k.program k.number (maker_of k.program M) k.start k.main (Ended e) refl fits made h
-  stops_at (Some d) e own y z fits made h = by d.class d.outcome fits made h where
-    by : (c : ClassId) (r : Outcome) → FitsBody k.program (ended_by r) (Ended e) → (u : S) × HasCome M y (Some (completed c r)) u × M.is_ended u z →
-        LeadsOf k.program k.number (maker_of k.program M) (OuterOf M k true) (IdleOf M k true) (standing [] (Some (completed c r))) own y → ThreadWordOf k.program k.number (maker_of k.program M) k.start k.main own (Ended e) z
-    by c Normal fits made h = ends_main k.program k.number (maker_of k.program M) k.start k.main (Ended e) refl fits made h
-    by c (Abrupt x) fits made h = ends_main k.program k.number (maker_of k.program M) k.start k.main (Ended e) refl fits made h
-    by c (Ended x) fits made h = let same : x ≡ e = cc in subst (λ (v : ClassId). ThreadWordOf k.program k.number (maker_of k.program M) k.start k.main own (Ended v) z) same (main_is_ended k.program k.number (maker_of k.program M) k.start k.main made h)
 
   in_main_leads : (w : Work S) (y : S) → w.procedure.frames ≡ [] → w.in_main ≡ true → StandsAt M k w.in_main w.procedure (drawn w.pass.journal) (seen_of w.pass) y → LeadsOf k.program k.number (maker_of k.program M) (OuterOf M k true) (IdleOf M k true) (standing [] w.procedure.last) (drawn w.pass.journal) y
   in_main_leads w y e b st =
@@ -246,7 +178,7 @@ module _ {S : Type 0} (M : Making S) (k : TaskFacts S) where
       let none : w.procedure.frames ≡ [] = not_running w.procedure.frames h.body.requests q in
       record {
         works = h.working.works;
-        word = stops_at w.procedure.last e (drawn w.pass.journal) h.from z fits (w.bodies, h.come, ended) (in_main_leads w h.from none (h.body.main none) h.working.stands);
+        word = stops_at M k.program k.number k.start k.main w.procedure.last e (drawn w.pass.journal) h.from z fits (w.bodies, h.come, ended) (in_main_leads w h.from none (h.body.main none) h.working.stands);
         events = h.working.events;
         reason = λ y r. let it : e ≡ y = cc in subst (IsWhy M k w.why) it why;
       }

@@ -13,7 +13,8 @@ use Rattle.init_core.specs.Stands.{AreOfOthers}
 use Rattle.init_lock.specs.Log.{Grew, ByOthers}
 use Rattle.init_lock.specs.Rule.{element_at}
 use Rattle.guest_threads.specs.declared.guarded.Guarded.{Guarded}
-use Rattle.guest_threads.specs.Drawing.{MayDraw, WritesHeld, Follows}
+use Rattle.bodies.specs.Writes.{WritesHeld}
+use Rattle.guest_threads.specs.Drawing.{MayDraw, Follows}
 use Rattle.guest_threads.specs.Working.{Finds, ArePrepared}
 
 pub element_some : {A : Type 0} (n : ℕ) (l : List A) → n < length l → (x : A) × (element_at n l ≡ Some x)

@@ -22,7 +22,7 @@ use Rattle.bodies.specs.Making.{Making, maker_of}
 use Rattle.guest_threads.specs.declared.guarded.Guarded.{Guarded}
 use Rattle.guest_threads.specs.declared.work.Worked.{Worked}
 use Rattle.guest_threads.specs.Drawing.{MayDraw, Follows, merged}
-use Rattle.guest_threads.specs.ThreadRuns.{IsThreadRun, AreOutcomes}
+use Rattle.bodies.specs.Runs.{IsThreadRun, AreOutcomes}
 use Rattle.guest_threads.specs.AllWork.{PlanFacts, IsPlan, MayWork, Did, Pairs, AreBack, AreDone}
 use Rattle.guest_threads.specs.declared.launch.Job.{Job}
 use Rattle.guest_threads.specs.ThreadWork.{IsDone}

@@ -3,12 +3,9 @@ pub mod Merged
 pub mod FieldValues
 pub mod Ended
 pub mod Headline
-pub mod Counting
 pub mod Finding
-pub mod Asking
 pub mod Passing
 pub mod Telling
-pub mod HeldValues
 pub mod Acting
 pub mod Viewing
 pub mod Joining

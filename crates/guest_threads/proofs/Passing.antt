@@ -1,5 +1,5 @@
 -- What the steps of a thread leave of what it knows.
-use Rattle.std.proofs.Common.{◌≡◌, ◌≢◌, ℕ, ◌+◌, ◌<◌, ◌≤◌, List, [], ◌∷◌, ◌++◌, Option, Some, None, Bool, true, false, ◌==◌, cond, length, refl, sym, subst, ap, ◌∙◌, eq-eqb, append-nil, arith}
+use Rattle.std.proofs.Common.{◌≡◌, ◌≢◌, ℕ, ◌+◌, ◌<◌, ◌≤◌, List, [], ◌∷◌, ◌++◌, Some, None, Bool, true, false, ◌==◌, cond, length, refl, sym, subst, ap, ◌∙◌, eq-eqb, append-nil, arith}
 use Rattle.std.specs.List.{AllByRecursion}
 use Rattle.std.proofs.lemmas.Bool.{eqb-true}
 use Rattle.hierarchy.specs.declared.class.ClassId.{ClassId}
@@ -9,7 +9,6 @@ use Rattle.init_core.specs.declared.event.Decision.TheVariants as decision
 use Rattle.init_core.specs.declared.event.Event.{Event}
 use Rattle.init_core.specs.declared.event.Kind.{Kind}
 use Rattle.init_core.specs.declared.event.Kind.TheVariants as kind
-use Rattle.init_core.specs.declared.frames.Completed.{Completed}
 use Rattle.init_core.specs.declared.frames.Outcome.{Outcome}
 use Rattle.init_core.specs.declared.procedure.Answer.{Answer}
 use Rattle.init_core.specs.Advance.{Advances}
@@ -23,7 +22,6 @@ use Rattle.init_core.specs.Standing.{Standing}
 use Rattle.init_core.specs.Stands.{SeesMore, AreOfOthers, begun_classes, ending_error}
 use Rattle.init_core.proofs.Knowing.{AreOuterBelow, leads_outer, others_go_on, takes_answer}
 use Rattle.init_core.proofs.Leading.{Makes}
-use Rattle.init_core.proofs.Mains.{goes_main_of, goes_item_of}
 use Rattle.init_lock.specs.declared.journal.Stamped.{Stamped}
 use Rattle.init_lock.specs.declared.views.PlaceView.{PlaceView}
 use Rattle.init_lock.specs.Known.{PassFacts, HeldFacts, TableFacts, seen_at, IsSamePass, IsAway}
@@ -33,7 +31,8 @@ use Rattle.guest_threads.specs.declared.guarded.Guarded.{Guarded}
 use Rattle.guest_threads.specs.declared.task.Work.{Work}
 use Rattle.guest_threads.specs.Tasks.{TaskFacts, IsWhy}
 use Rattle.guest_threads.specs.Working.{Working, Works, StandsAt, OuterOf, IdleOf, Took, GaveBack, Finds, ArePrepared, drawn, seen_of}
-use Rattle.guest_threads.proofs.Counting.{few_more, has_last}
+use Rattle.bodies.proofs.Counting.{few_more, has_last}
+use Rattle.bodies.proofs.ThreadSteps.{goes_of as thread_goes_of}
 
 abbrev pub View : Type 0
 View = PassFacts Guarded Event
@@ -117,8 +116,7 @@ seen_same x y e = record { adds = λ d. ap (λ (ps : List (PlaceView Guarded Eve
 module _ {S : Type 0} (M : Making S) (k : TaskFacts S) where
   -- the procedure for a class is completed outside of any class
   pub goes_of : (b : Bool) (c : ClassId) (xs w : List Event) (r : Outcome) (y z : S) → OuterOf M k b c xs y → Word k.program k.number (maker_of k.program M) y c w r z → IdleOf M k b (Some (completed c r)) (xs ++ w) z
-  goes_of false = goes_main_of k.program k.number (maker_of k.program M) k.start k.main
-  goes_of true = goes_item_of k.program k.number (maker_of k.program M) k.start k.main
+  goes_of b = thread_goes_of M k.program k.number k.start k.main b
 
   pub outer_of : (b : Bool) (s : Standing) (own : List Event) (seen : ClassId → List Event) (z : S) → StandsAt M k b s own seen z → AreOuterBelow s.frames
   outer_of b s own seen z st = leads_outer k.program k.number (maker_of k.program M) st.leads

@@ -1,5 +1,5 @@
 -- The steps of a thread's procedures, as the calls tell them.
-use Rattle.std.proofs.Common.{◌≡◌, ◌≢◌, ℕ, suc, ◌+◌, ◌-◌, ◌<◌, ◌≤◌, inl, inr, ⊎_elim, List, [], ◌∷◌, ◌++◌, Option, Some, None, Bool, true, false, length, refl, sym, subst, ap, ◌∙◌, append-nil, arith}
+use Rattle.std.proofs.Common.{◌≡◌, ◌≢◌, ℕ, ◌+◌, ◌-◌, ◌≤◌, inl, inr, ⊎_elim, List, [], ◌∷◌, ◌++◌, Option, Some, None, Bool, true, false, length, refl, sym, subst, ap, ◌∙◌, append-nil, arith}
 use Rattle.std.specs.List.{AllByRecursion}
 use Rattle.hierarchy.specs.declared.built_in.BuiltIn.TheVariants.{OutOfMemoryError}
 use Rattle.hierarchy.specs.declared.class.ClassId.{ClassId}
@@ -23,7 +23,7 @@ use Rattle.init_core.specs.Decisions.{event, entered, kind_of, Decides, waits}
 use Rattle.init_core.specs.History.{History}
 use Rattle.init_core.specs.Label.{label_of}
 use Rattle.init_core.specs.Lawful.{Allows}
-use Rattle.init_core.specs.Leads.{frame, standing, kind_of_ending, outcome_of, LeadsOf, LeadsTo}
+use Rattle.init_core.specs.Leads.{frame, standing, kind_of_ending, outcome_of, LeadsOf}
 use Rattle.init_core.specs.Numbers.{IsInRange}
 use Rattle.init_core.specs.ProcedureWord.{word, ThreadWordOf, was_ended, gives_up as gave_up_word, IsMachineError, IsOfFiles, given_up}
 use Rattle.init_core.specs.ProgramEvents.{IsDoneAt, IsProgramEvent, at_class}
@@ -31,7 +31,7 @@ use Rattle.init_core.specs.Standing.{Standing}
 use Rattle.init_core.specs.Stands.{begun_classes, ending_error}
 use Rattle.init_core.proofs.Errors.{ending_in_range, ending_is_done}
 use Rattle.init_core.proofs.Knowing.{others_go_on, runs_body}
-use Rattle.init_core.proofs.Mains.{main_looks, end_leads_of, item_end_leads}
+use Rattle.init_core.proofs.Mains.{main_looks}
 use Rattle.init_lock.specs.declared.journal.Stamped.{Stamped}
 use Rattle.init_lock.specs.Known.{HeldFacts, seen_at, IsSamePass}
 use Rattle.trace.specs.declared.report.Limit.{Limit}
@@ -39,15 +39,16 @@ use Rattle.trace.specs.declared.report.Limit.TheVariants.{Steps, Patience, Memor
 use Rattle.trace.specs.declared.report.ThreadOutcome.{ThreadOutcome}
 use Rattle.trace.specs.declared.report.ThreadOutcome.TheVariants as outcome
 use Rattle.bodies.specs.Making.{Making, maker_of}
+use Rattle.bodies.proofs.ThreadSteps.{end_leads_at}
 use Rattle.guest_threads.specs.declared.guarded.Guarded.{Guarded}
 use Rattle.guest_threads.specs.declared.task.Work.{Work}
 use Rattle.guest_threads.specs.declared.work.Worked.{Worked}
 use Rattle.guest_threads.specs.Tasks.{TaskFacts, error_of, IsWhy, IsLimitOf}
-use Rattle.guest_threads.specs.ThreadRuns.{IsOutcome}
+use Rattle.bodies.specs.Runs.{IsOutcome}
 use Rattle.guest_threads.specs.ThreadWork.{IsDone}
-use Rattle.guest_threads.specs.Working.{Working, Works, StandsAt, OuterOf, IdleOf, Took, GaveBack, HasLooked, drawn, seen_of}
-use Rattle.guest_threads.proofs.Asking.{IsAt, looks_at, runs_at, ends_at, in_files, gives_up, gives_up_run, ends, is_told, look_last, run_last}
-use Rattle.guest_threads.proofs.Counting.{few_more, one_less, has_last, error_after}
+use Rattle.guest_threads.specs.Working.{Working, Works, StandsAt, OuterOf, IdleOf, Took, GaveBack, drawn, seen_of}
+use Rattle.bodies.proofs.Asking.{IsAt, looks_at, runs_at, ends_at, in_files, gives_up, gives_up_run, ends, is_told, look_last, run_last}
+use Rattle.bodies.proofs.Counting.{few_more, one_less, has_last, error_after}
 use Rattle.guest_threads.proofs.Passing.{View, one, nothing as none_made, goes_of, outer_of, answered_at, told, with_record, visited, drew, look_made}
 
 pub machine_of : (p : LinkedProgram) (l : Limit) → IsMachineError p (error_of p l)
@@ -167,17 +168,12 @@ module _ {S : Type 0} (M : Making S) (k : TaskFacts S) where
       let mine : AllByRecursion (λ d. label_of (seen_of y d) ≡ InProgress k.number) (begun_classes (frame c (EndingBy j l.0) ∷ l.1.below)) = subst (λ (fs : List Frame). AllByRecursion (λ d. label_of (seen_of y d) ≡ InProgress k.number) (begun_classes fs)) l.1.frames st.mine in
       ap label_of (sym took.seen) ∙ mine.0
 
-  end_leads_at : (b : Bool) {c : ClassId} {j : Ending} {by_machine : Bool} {fs : List Frame} {last : Option Completed} {xs : List Event} {z : S} → IsOfFiles k.program k.main → LeadsOf k.program k.number (maker_of k.program M) (OuterOf M k b) (IdleOf M k b) (standing (frame c (EndingBy j by_machine) ∷ fs) last) xs z →
-      LeadsTo k.program k.number (standing (frame c (EndingBy j by_machine) ∷ fs) last) xs
-  end_leads_at false within h = end_leads_of k.program k.number (maker_of k.program M) k.start k.main within h
-  end_leads_at true within h = item_end_leads k.program k.number (maker_of k.program M) k.start k.main within h
-
   -- and of the step
   pub end_done : (w : Work S) (c : ClassId) (j : Ending) → next_of w.procedure.frames ≡ next.End c j → Working M k w → IsDoneAt k.program c (kind_of_ending j)
   end_done w c j q o =
       let l = ends_at w.procedure c j q in
       ending_is_done k.program k.number c j l.0 l.1.below w.procedure.last (drawn w.pass.journal)
-      (end_leads_at w.in_main o.main (subst (λ (fs : List Frame). LeadsOf k.program k.number (maker_of k.program M) (OuterOf M k w.in_main) (IdleOf M k w.in_main) (standing fs w.procedure.last) (drawn w.pass.journal) w.bodies) l.1.frames o.stands.leads))
+      (end_leads_at M k.program k.number k.start k.main w.in_main o.main (subst (λ (fs : List Frame). LeadsOf k.program k.number (maker_of k.program M) (OuterOf M k w.in_main) (IdleOf M k w.in_main) (standing fs w.procedure.last) (drawn w.pass.journal) w.bodies) l.1.frames o.stands.leads))
 
   pub end_range : (w : Work S) (c : ClassId) (j : Ending) → next_of w.procedure.frames ≡ next.End c j → Working M k w → IsInRange (kind_of_ending j)
   end_range w c j q o = ending_in_range k.program c j o.works.places.few_classes (end_done w c j q o)

@@ -12,7 +12,7 @@ use Rattle.bodies.specs.Making.{Making}
 use Rattle.guest_threads.specs.declared.guarded.Guarded.{Guarded}
 use Rattle.guest_threads.specs.declared.launch.Job.{Job}
 use Rattle.guest_threads.specs.declared.work.Worked.{Worked}
-use Rattle.guest_threads.specs.ThreadRuns.{AreMains, IsRunOf}
+use Rattle.bodies.specs.Runs.{AreMains, IsRunOf}
 use Rattle.guest_threads.specs.ThreadWork.{IsDone}
 use Rattle.guest_threads.specs.Working.{Works}
 

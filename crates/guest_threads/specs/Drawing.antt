@@ -1,15 +1,14 @@
 -- Which events a thread may draw at which place, and which record of a class may stand in another's place.
-use Rattle.std.specs.Prelude.{◌≡◌, ℕ, List, ◌++◌, Option, Some, None, map, slice_get}
+use Rattle.std.specs.Prelude.{◌≡◌, ℕ, List, ◌++◌, Option, Some, None, map}
 use Rattle.std.specs.List.{AllByRecursion}
 use Rattle.hierarchy.specs.declared.class.ClassId.{ClassId}
 use Rattle.hierarchy.specs.LinkedProgram.{id}
-use Rattle.statics.specs.declared.static_field.StaticField.{StaticField}
 use Rattle.init_core.specs.declared.event.Event.{Event}
 use Rattle.init_core.specs.declared.event.Kind.{Kind}
 use Rattle.init_core.specs.declared.event.Kind.TheVariants as kind
 use Rattle.init_core.specs.History.{History, AreOfOneClass}
-use Rattle.init_core.specs.ProgramEvents.{IsValueOf}
 use Rattle.init_lock.specs.Log.{Entry}
+use Rattle.bodies.specs.Writes.{WritesHeld}
 
 -- what is drawn under the initialization lock of a class: each step but 9, and each read and write of a static field
 abbrev pub IsPlaced : Kind → Type 0
@@ -27,14 +26,6 @@ IsUnplaced c k = ⊥
 abbrev pub MayDraw : ℕ → Option ℕ → Event → Type 0
 MayDraw t (Some n) e = (e.thread ≡ t) × (e.class ≡ Some (id n)) × IsPlaced e.kind
 MayDraw t None e = (e.thread ≡ t) × IsUnplaced e.class e.kind
-
--- what a class with these static fields has written in it is what the field keeps
-abbrev pub WritesHeldIn : List StaticField → Kind → Type 0
-WritesHeldIn fields (kind.Puts place v) = IsValueOf (slice_get fields place) v
-WritesHeldIn fields k = Unit {0}
-
-abbrev pub WritesHeld : List StaticField → Event → Type 0
-WritesHeld fields e = WritesHeldIn fields e.kind
 
 -- a record of the same class, whose history begins with the other's
 abbrev pub Follows : History → History → Type 0

@@ -1,10 +1,11 @@
 -- Following is reflexive and transitive.
-use Rattle.std.proofs.Common.{◌≡◌, List, [], ◌∷◌, ◌++◌, refl, sym, ap, subst, ◌∙◌, append-nil, append_assoc}
+use Rattle.std.proofs.Common.{List, [], ◌∷◌, ◌++◌, refl, sym, ap, subst, ◌∙◌, append-nil, append_assoc}
 use Rattle.std.specs.List.{AllByRecursion}
 use Rattle.statics.specs.declared.static_field.StaticField.{StaticField}
 use Rattle.init_core.specs.declared.event.Event.{Event}
 use Rattle.init_core.specs.History.{History}
-use Rattle.guest_threads.specs.Drawing.{WritesHeld, Follows}
+use Rattle.bodies.specs.Writes.{WritesHeld}
+use Rattle.guest_threads.specs.Drawing.{Follows}
 
 pub follows_itself : (x : History) → Follows x x
 follows_itself x = ((refl, refl), [], sym (append-nil x.events), tt)

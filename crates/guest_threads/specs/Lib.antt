@@ -1,6 +1,5 @@
 pub mod Drawing
 pub mod Following
-pub mod ThreadRuns
 pub mod Tasks
 pub mod Working
 pub mod ThreadWork

@@ -12,7 +12,7 @@ use Rattle.trace.specs.declared.report.Limits.{Limits}
 use Rattle.trace.specs.declared.report.ThreadOutcome.{ThreadOutcome}
 use Rattle.trace.specs.declared.report.ThreadOutcome.TheVariants as outcome
 use Rattle.bodies.specs.Making.{Making}
-use Rattle.guest_threads.specs.ThreadRuns.{IsEndedAt}
+use Rattle.bodies.specs.Runs.{IsEndedAt}
 
 -- a thread of this number and main class, in this program and table, whose bodies are run from this start
 pub record TaskFacts (S : Type 0) : Type 0 where

@@ -9,7 +9,7 @@ use Rattle.trace.specs.declared.report.Limits.{Limits}
 use Rattle.bodies.specs.Making.{Making}
 use Rattle.guest_threads.specs.declared.work.Worked.{Worked}
 use Rattle.guest_threads.specs.Tasks.{TaskFacts}
-use Rattle.guest_threads.specs.ThreadRuns.{IsThreadRun}
+use Rattle.bodies.specs.Runs.{IsThreadRun}
 use Rattle.guest_threads.specs.Working.{Works, drawn}
 
 -- what a thread of main class m did with its pass, by bodies that M makes from this start, and how it ended

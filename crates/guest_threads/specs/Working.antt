@@ -1,6 +1,6 @@
 -- What a thread knows while it works: where its procedures stand, which of its events lead there, and what it has seen of
 -- each class.
-use Rattle.std.specs.Prelude.{◌≡◌, ◌≢◌, ℕ, ◌+◌, ◌<◌, ◌≤◌, length, List, [], ◌∷◌, ◌++◌, Option, Some, None, Bool, true, false, map}
+use Rattle.std.specs.Prelude.{◌≡◌, ◌≢◌, ℕ, ◌+◌, ◌<◌, ◌≤◌, length, List, [], ◌++◌, Option, Some, None, Bool, true, false, map}
 use Rattle.std.specs.List.{AllByRecursion}
 use Rattle.hierarchy.specs.declared.class.ClassId.{ClassId}
 use Rattle.hierarchy.specs.LinkedProgram.{LinkedProgram, id}
@@ -12,11 +12,10 @@ use Rattle.init_core.specs.declared.frames.Outcome.{Outcome}
 use Rattle.init_core.specs.declared.frames.Outcome.TheVariants.{Ended}
 use Rattle.init_core.specs.Advance.{MayRequest}
 use Rattle.init_core.specs.Lawful.{AgreesAfter}
-use Rattle.init_core.specs.MainWord.{BeforeMainOf, MainDoneOf, BeforeItemOf, MainItemsOf}
 use Rattle.init_core.specs.ProcedureWord.{ThreadWordOf, GoesOn, IsOfFiles}
 use Rattle.init_core.specs.ProgramEvents.{IsProgramEvent}
 use Rattle.init_core.specs.Standing.{Standing}
-use Rattle.init_core.specs.Stands.{StandsOf, AreOfOthers, ending_error, begun_classes}
+use Rattle.init_core.specs.Stands.{AreOfOthers, ending_error, begun_classes}
 use Rattle.init_lock.specs.declared.journal.Stamped.{Stamped}
 use Rattle.init_lock.specs.Known.{PassFacts, HeldFacts, TableFacts, seen_at, out_of, IsSamePass, IsSameBut, IsAway, IsAwayBut}
 use Rattle.init_lock.specs.Rule.{element_at}
@@ -25,7 +24,8 @@ use Rattle.bodies.specs.Doing.{MayDo}
 use Rattle.bodies.specs.Making.{Making, HasCome, maker_of}
 use Rattle.guest_threads.specs.declared.guarded.Guarded.{Guarded}
 use Rattle.guest_threads.specs.declared.task.Work.{Work}
-use Rattle.guest_threads.specs.Drawing.{WritesHeld}
+use Rattle.bodies.specs.ThreadStands.{OutsideOf, NoneOpenOf, ThreadStands}
+use Rattle.bodies.specs.Writes.{WritesHeld}
 use Rattle.guest_threads.specs.Tasks.{TaskFacts, IsWhy}
 
 -- the events of a journal
@@ -92,19 +92,17 @@ pub record GaveBack (n : ℕ) (events : List Event) (before after : PassFacts Gu
   pub others : IsSameBut n before.places after.places
   pub away : IsAway after.places
 
--- what may stand before a request from outside of any class, before main's body and in it
+-- before main's body or in it, what stands of its procedures after these events of its own
+abbrev pub StandsAt : {S : Type 0} → Making S → TaskFacts S → Bool → Standing → List Event → (ClassId → List Event) → S → Type 0
+StandsAt M k in_main s own seen z = ThreadStands k.program k.number M k.start k.main in_main s own seen z
+
+-- what may stand before a request from outside of any class
 abbrev pub OuterOf : {S : Type 0} → Making S → TaskFacts S → Bool → ClassId → List Event → S → Type 0
-OuterOf M k false = BeforeMainOf k.program k.number (maker_of k.program M) k.start k.main
-OuterOf M k true = BeforeItemOf k.program k.number (maker_of k.program M) k.start k.main
+OuterOf M k b = OutsideOf k.program k.number M k.start k.main b
 
 -- what stands there where no class is open
 abbrev pub IdleOf : {S : Type 0} → Making S → TaskFacts S → Bool → Option Completed → List Event → S → Type 0
-IdleOf M k false = MainDoneOf k.program k.number (maker_of k.program M) k.start k.main
-IdleOf M k true = MainItemsOf k.program k.number (maker_of k.program M) k.start k.main
-
--- before main's body or in it, what stands of its procedures after these events of its own
-abbrev pub StandsAt : {S : Type 0} → Making S → TaskFacts S → Bool → Standing → List Event → (ClassId → List Event) → S → Type 0
-StandsAt M k in_main s own seen z = StandsOf k.program k.number (maker_of k.program M) (OuterOf M k in_main) (IdleOf M k in_main) s own seen z
+IdleOf M k b = NoneOpenOf k.program k.number M k.start k.main b
 
 -- Where the work of a thread stands, by bodies of M.
 pub record Working {S : Type 0} (M : Making S) (k : TaskFacts S) (w : Work S) : Type 0 where

@@ -13,7 +13,7 @@
 //! That the merged list is a legal interleaving follows from three facts: each journal is a word, each record is lawful,
 //! and a step 9 stands between the step 6 and the ending of its class in the journal of one thread.
 //!
-//! The definition of what a run makes stands in `specs/ThreadRuns.antt`.
+//! The definition of what a run makes stands in `bodies/specs/Runs.antt`.
 #![tactic(auto)]
 
 mod body;

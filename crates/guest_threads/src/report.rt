@@ -1,20 +1,19 @@
 //! The report of a run, from what all threads gave back.
 
-ghost use Rattle.std.specs.Prelude.{◌≡◌, ◌++◌, IfOk, map};
+ghost use Rattle.std.specs.Prelude.{◌≡◌, IfOk, map};
 ghost use Rattle.std.specs.List.{AllByRecursion};
 ghost use Rattle.init_core.specs.Label.{label_of};
 ghost use Rattle.init_core.specs.Lawful.{IsLawful};
-ghost use Rattle.trace.specs.Output.{output_in, output_of};
 ghost use Rattle.guest_threads.specs.AllWork.{AreBack, IsReportOf};
 
 use crate::guarded::Guarded;
 use crate::work::Worked;
 use bodies::Bodies;
-use init_core::{Event, Kind, Label};
+use init_core::Label;
 use init_lock::{InitTable, Pass, merge};
-use sequence::{Sequence, Text};
+use sequence::Sequence;
 use std::alloc::{AllocError, Global};
-use trace::{Report, ThreadOutcome};
+use trace::{Report, ThreadOutcome, printed_by};
 
 /// The label of each record. Each record shows that its history is lawful. An `Err` is want of memory.
 fn labels(alloc: Global, records: &[Guarded]) -> Result<Sequence<Label>, AllocError>
@@ -47,27 +46,6 @@ fn parted(
     Ok((passes, outcomes))
 }
 
-/// What an event prints, added to the output. An `Err` is want of memory.
-fn add_output(output: &mut Vec<u8>, event: &Event) -> Result<(), AllocError>
-    ensures { IfOk result (λ _. output.new.items ≡ output.old.items ++ output_in event.now.kind) }
-{
-    if let Kind::Prints(text) = event.kind()? {
-        output.extend_from_slice(text.as_slice())?;
-    }
-    Ok(())
-}
-
-/// What the events print, in order. An `Err` is want of memory.
-fn output(alloc: Global, events: &[Event]) -> Result<Text, AllocError>
-    ensures { IfOk result (λ output. output ≡ output_of events.now) }
-{
-    let mut output = Vec::new(alloc);
-    for event in events {
-        add_output(&mut output, event)?;
-    }
-    Ok(Sequence::from_vec(output))
-}
-
 /// The report of a run that is over. An `Err` is want of memory.
 pub(crate) fn report<B: Bodies>(
     alloc: Global,
@@ -81,7 +59,7 @@ pub(crate) fn report<B: Bodies>(
     let closed = table.finish(passes);
     let labels = labels(alloc, closed.records.as_slice())?;
     let events = merge(alloc, closed.journals)?;
-    let output = output(alloc, events.as_slice())?;
+    let output = printed_by(alloc, events.as_slice())?;
     Ok(Report {
         outcomes,
         events: Sequence::from_vec(events),

@@ -1,7 +1,7 @@
 //! All threads, each on a host thread of its own.
 
 ghost use Rattle.std.specs.Prelude.{◌≡◌, ℕ, ◌<◌, ◌≤◌, IfOk, vec_len, length};
-ghost use Rattle.guest_threads.specs.ThreadRuns.{AreMains, IsRunOf};
+ghost use Rattle.bodies.specs.Runs.{AreMains, IsRunOf};
 ghost use Rattle.guest_threads.specs.Working.{ArePrepared};
 
 use crate::gate::Gate;

@@ -5,7 +5,8 @@ ghost use Rattle.init_core.specs.declared.event.TheConstants.{THREADS};
 ghost use Rattle.init_lock.specs.Known.{seen_at, out_of, IsAwayBut};
 ghost use Rattle.init_core.specs.History.{AreOfOneClass};
 ghost use Rattle.init_core.specs.ProcedureWord.{IsOfFiles};
-ghost use Rattle.guest_threads.specs.Drawing.{MayDraw, WritesHeld};
+ghost use Rattle.bodies.specs.Writes.{WritesHeld};
+ghost use Rattle.guest_threads.specs.Drawing.{MayDraw};
 ghost use Rattle.guest_threads.specs.Working.{Works, Took, GaveBack, IsUnmoved, drawn};
 
 use crate::guarded::Guarded;

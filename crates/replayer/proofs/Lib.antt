@@ -1,5 +1,5 @@
-pub mod Leading
-pub mod Work
-pub mod Alone
-pub mod Lone
 pub mod OneThread
+pub mod Logged
+pub mod Stepping
+pub mod Acting
+pub mod Finished

@@ -1,2 +1,3 @@
-pub mod PlainSteps
 pub mod OrderedRun
+pub mod Logged
+pub mod Going

@@ -1,76 +1,78 @@
-//! A run on one host thread.
+//! The ordered run of one main class.
 
-ghost use Rattle.std.specs.Prelude.{◌≡◌, ◌<◌, length, IfOk};
-ghost use Rattle.hierarchy.specs.declared.class.ClassId.{ClassId};
-ghost use Rattle.hierarchy.specs.Hierarchy.{IsAcyclic};
-ghost use Rattle.init_core.specs.Interleaving.{of_thread, labels_of as all_labels};
-ghost use Rattle.init_core.specs.ProcedureWord.{ProcedureWord};
-ghost use Rattle.init_core.specs.declared.frames.Outcome.TheVariants.{Normal};
-ghost use Rattle.trace.specs.EmptyBodies.{HaveEmptyBodies};
-ghost use Rattle.replayer.specs.PlainSteps.{ArePlainSteps};
-ghost use Rattle.replayer.specs.OrderedRun.{IsRunOf};
+ghost use Rattle.std.specs.Prelude.{◌≡◌, IfOk};
+ghost use Rattle.init_core.specs.declared.frames.Outcome.{Outcome as OutcomeFacts};
+ghost use Rattle.init_core.specs.ProcedureWord.{IsOfFiles};
+ghost use Rattle.replayer.specs.Going.{Going, IsOver, outcome_by};
+ghost use Rattle.replayer.specs.OrderedRun.{IsOrderedRunOf};
 
+use crate::run::Run;
+use bodies::Bodies;
 use hierarchy::{ClassId, Program};
-use init_core::Label;
-use init_world::{Turn, World};
-use sequence::{Sequence, Text};
+use init_core::Outcome;
+use sequence::Sequence;
 use std::alloc::{AllocError, Global};
-use trace::{Report, ThreadOutcome};
+use trace::{Limit, Report, ThreadOutcome, printed_by};
 
-/// A world in which thread 0 has done the procedure for `main`, with all that it needs, and nothing else.
-///
-/// Each turn makes one event, or comes to a body, which is empty and ends at once.
-fn run_alone(alloc: Global, program: &Program, main: ClassId) -> Result<World, AllocError>
-    requires acyclic { IsAcyclic program.now.classes }
-    requires main { main.number < length program.now.classes }
-    ensures program { IfOk result (λ world. world.program ≡ program.now) }
-    ensures one { IfOk result (λ world. length world.threads ≡ 1) }
-    ensures word { IfOk result (λ world. ProcedureWord program.now 0 main (of_thread 0 world.events) Normal) }
-    ensures bodies { IfOk result (λ world. HaveEmptyBodies world.events) }
-    ensures steps { IfOk result (λ world. ArePlainSteps world.events) }
+/// How a thread ended, by the result of what it did, and by what the machine ended it for, if it did.
+fn outcome_of(done: Outcome, why: Limit) -> ThreadOutcome
+    ensures { result ≡ outcome_by why done }
 {
-    let mut world = World::new(alloc, program, 1)?;
-    world.request(0, main)?;
-    'turns: loop {
-        match world.turn(alloc, program, 0)? {
-            Turn::Event => (),
-            Turn::Body(_) => world.body_ended(0, None),
-            Turn::Normal => return Ok(world),
-            Turn::Waits | Turn::Abrupt(_) | Turn::Ended(_) => unreachable!(),
+    match done {
+        Outcome::Normal => ThreadOutcome::Normal,
+        Outcome::Abrupt(throwable) => ThreadOutcome::Abrupt(throwable),
+        Outcome::Ended(_) => ThreadOutcome::Ended(why),
+    }
+}
+
+/// All that the thread does: the procedure for the main class, and then the method `main`, and how it ended. An `Err` is out of
+/// memory; so is a run of more turns than there are numbers, since its events need more room than there is.
+fn run_alone<B: Bodies>(
+    alloc: Global,
+    program: &Program,
+    main: ClassId,
+    bodies: B,
+) -> Result<(Run<B>, Outcome), AllocError>
+    requires { IsOfFiles program.now main }
+    ensures over { IfOk result (λ r. IsOver program.now (B.making program.now) r.1 r.0) }
+    ensures main { IfOk result (λ r. r.0.main ≡ main) }
+    ensures start { IfOk result (λ r. r.0.start.value ≡ bodies) }
+{
+    let mut run = Run::begin(alloc, program, main, bodies)?;
+    'turns: for _ in 0..u64::MAX {
+        if let Some(done) = run.turn(alloc, program)? {
+            return Ok((run, done));
         }
     }
+    Err(AllocError)
 }
 
-/// The label of each class of the files, by its number.
-fn labels_of(alloc: Global, program: &Program, world: &World) -> Result<Sequence<Label>, AllocError>
-    requires { world.now.program ≡ program.now }
-    ensures { IfOk result (λ labels. labels ≡ all_labels program.now world.now.events) }
-{
-    let mut labels = Sequence::new(alloc);
-    for number in 0..program.len() {
-        labels.push(world.record(ClassId { number }).label())?;
-    }
-    Ok(labels)
-}
-
-/// Initializes the main class of a program on one thread, thread 0, with all that it needs.
+/// Runs a main class of a program on one thread, thread 0: the procedure for that class, with all that it needs, and then the
+/// method `main` (JLS SE 8 12.4.2).
 ///
-/// Each class is run as if it had no initializer, and the main class as if it had no `main`, so that all bodies are
-/// empty: the procedure for the main class, completed normally, is all that the thread does, and step 10 of each class
-/// comes directly after its step 9 (JLS SE 8 12.4.2). An `Err` is out of memory.
-pub fn run_ordered(alloc: Global, program: &Program, main: ClassId) -> Result<Report, AllocError>
-    requires main { main.number < length program.now.classes }
-    ensures { IfOk result (IsRunOf program.now main) }
+/// What its initializers and `main` do is what `bodies` says that they do. Where a body waits it gives up, since nobody can let
+/// it go on; at this and at other limits of its bodies the thread ends by InternalError, and ends the classes that it has
+/// begun, the innermost first. An `Err` is out of memory: that of the run, or where the bodies end for want of theirs
+/// ([`Limit::Memory`]).
+pub fn run_ordered<B: Bodies>(
+    alloc: Global,
+    program: &Program,
+    main: ClassId,
+    bodies: B,
+) -> Result<Report, AllocError>
+    requires main { IsOfFiles program.now main }
+    ensures { IfOk result (λ r. IsOrderedRunOf program.now (B.making program.now) bodies main r) }
 {
-    program.is_linked();
-    let world = run_alone(alloc, program, main)?;
-    let labels = labels_of(alloc, program, &world)?;
+    let (run, done) = run_alone(alloc, program, main, bodies)?;
+    let Run { log, why, .. } = run;
+    let labels = log.labels(alloc, program)?;
+    let output = printed_by(alloc, log.events.as_slice())?;
     let mut outcomes = Sequence::new(alloc);
-    outcomes.push(ThreadOutcome::Normal)?;
+    outcomes.push(outcome_of(done, why))?;
     Ok(Report {
         outcomes,
-        events: Sequence::from_vec(world.into_events()),
+        events: Sequence::from_vec(log.events),
         labels,
-        output: Text::new(alloc),
+        output,
     })
 }

@@ -1,6 +1,7 @@
-//! Runs of classes some of whose methods have code, which `jinit run` refuses so far.
+//! Runs of classes some of whose methods have code, with no bodies that are run.
 
 use crate::run_ordered;
+use bodies::NoCode;
 use hierarchy::{ClassId, Program, link};
 use init_core::Label;
 use jasmin_reader::read_class;
@@ -56,7 +57,7 @@ fn has_text(alloc: Global, program: &Program, main: usize, expected: &[u8]) -> b
     if main >= program.len() {
         return false;
     }
-    match run_ordered(alloc, program, ClassId { number: main }) {
+    match run_ordered(alloc, program, ClassId { number: main }, NoCode) {
         Ok(report) => text_of(alloc, program, &report).is_ok_and(|text| text.as_slice()
             == expected),
         Err(_) => false,

@@ -1,7 +1,7 @@
 //! Which events the runs of small programs have, whatever the schedule.
 
 ghost use Rattle.std.specs.Prelude.{◌≡◌, ◌<◌, ◌≤◌, length, true};
-ghost use Rattle.guest_threads.specs.ThreadRuns.{AreMains};
+ghost use Rattle.bodies.specs.Runs.{AreMains};
 
 use bodies::NoCode;
 use guest_threads::{Gate, NoGate, run_threads};

@@ -19,6 +19,7 @@ use exceptions::replacement;
 use guest_threads::{NoGate, run_threads};
 use hierarchy::{BuiltIn, ClassId, Program, Value};
 use init_core::{Completed, Outcome};
+use replayer::run_ordered;
 use sequence::Text;
 use statics::Bank;
 use std::alloc::Global;
@@ -221,6 +222,34 @@ fn main_writes_reads_and_prints(rt: HostRuntime) {
 #[test]
 fn what_an_initializer_throws_is_replaced(rt: HostRuntime) {
     let report = run_of(&rt, rt.alloc(), true).expect(&rt, "there is a run");
+    let outcome = report.outcomes.as_slice().first().copied();
+    assert!(rt; matches!(outcome, Some(ThreadOutcome::Abrupt(_))));
+    assert!(rt; report.events.len() == 3);
+}
+
+/// The ordered run of a main class by such bodies.
+fn ordered_run_of(alloc: Global, throws: bool) -> Option<Report> {
+    let files: [&[u8]; 2] = [b".class A\n.field static n I", b".class B"];
+    let program = linked(alloc, &files)?;
+    let main = ClassId { number: 1 };
+    if main.number >= program.len() {
+        return None;
+    }
+    run_ordered(alloc, &program, main, Scripted::new(throws)).ok()
+}
+
+#[test]
+fn in_order_what_waits_gives_up(rt: HostRuntime) {
+    let report = ordered_run_of(rt.alloc(), false).expect(&rt, "there is a run");
+    let outcome = report.outcomes.as_slice().first().copied();
+    assert!(rt; outcome == Some(ThreadOutcome::Ended(Limit::Patience)));
+    assert!(rt; report.events.len() == 9);
+    assert!(rt; report.output.is_empty());
+}
+
+#[test]
+fn in_order_what_an_initializer_throws_is_replaced(rt: HostRuntime) {
+    let report = ordered_run_of(rt.alloc(), true).expect(&rt, "there is a run");
     let outcome = report.outcomes.as_slice().first().copied();
     assert!(rt; matches!(outcome, Some(ThreadOutcome::Abrupt(_))));
     assert!(rt; report.events.len() == 3);

@@ -1,3 +1,2 @@
 pub mod TraceText
-pub mod EmptyBodies
 pub mod Output

@@ -1,5 +1,5 @@
 use Rattle.std.proofs.Common.{drop}
-use Rattle.guest_threads.specs.ThreadRuns.{AreMains}
+use Rattle.bodies.specs.Runs.{AreMains}
 use Rattle.bench.proofs.threads.are_of_files.Given as goal
 
 abbrev pub invariant-loop-main : goal.invariant-loop-main

@@ -1,5 +1,5 @@
 use Rattle.std.proofs.Common.{◌≡◌, [], length}
-use Rattle.guest_threads.specs.ThreadRuns.{AreMains}
+use Rattle.bodies.specs.Runs.{AreMains}
 use Rattle.cli.specs.Running.{mains_from}
 use Rattle.cli.proofs.Names.{behind}
 use Rattle.cli.proofs.running.mains_named.Given as goal

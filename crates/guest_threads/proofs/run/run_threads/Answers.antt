@@ -3,7 +3,7 @@ use Rattle.hierarchy.specs.LinkedProgram.{LinkedProgram}
 use Rattle.init_core.specs.declared.event.TheConstants.{THREADS}
 use Rattle.init_lock.specs.Known.{TableFacts}
 use Rattle.guest_threads.specs.AllWork.{PlanFacts, IsPlan}
-use Rattle.guest_threads.specs.ThreadRuns.{AreMains, IsRunOf}
+use Rattle.bodies.specs.Runs.{AreMains, IsRunOf}
 use Rattle.guest_threads.specs.Working.{IsTableOf}
 use Rattle.guest_threads.proofs.Joining.{none_kept, new_passes, new_count, jobs_may_work, jobs_numbers, are_back}
 use Rattle.guest_threads.proofs.run.run_threads.Goals as goal

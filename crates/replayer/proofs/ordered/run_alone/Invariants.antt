@@ -1,8 +1,6 @@
-use Rattle.replayer.proofs.Lone.{IsLone, work_of}
+use Rattle.std.proofs.Common.{◌≡◌}
+use Rattle.replayer.specs.Going.{Going}
 use Rattle.replayer.proofs.ordered.run_alone.Given as goal
 
 abbrev pub invariant-turns : goal.invariant-turns
-invariant-turns l = IsLone l.program l.fn.main l.world
-
-abbrev pub decreases-turns : goal.decreases-turns
-decreases-turns l = work_of l.world
+invariant-turns g l = Going l.program (g.B.Bodies.making l.program) l.run × (l.run.main ≡ l.fn.main) × (l.run.start.value ≡ l.fn.bodies)

@@ -2,7 +2,7 @@ use Rattle.std.proofs.Common.{sym, subst, true}
 use Rattle.hierarchy.specs.declared.class.ClassId.{ClassId}
 use Rattle.init_core.specs.declared.procedure.Answer.TheVariants as answer
 use Rattle.init_core.specs.Advance.{Fits}
-use Rattle.guest_threads.proofs.Asking.{gives_up_run, may_tell}
+use Rattle.bodies.proofs.Asking.{gives_up_run, may_tell}
 use Rattle.guest_threads.proofs.Telling.{gave_up_run}
 use Rattle.guest_threads.proofs.Viewing.{working_at}
 use Rattle.guest_threads.proofs.task.Task.give_up_body.Goals as goal

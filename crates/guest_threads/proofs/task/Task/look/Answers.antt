@@ -6,7 +6,7 @@ use Rattle.init_core.specs.Standing.{Standing}
 use Rattle.init_core.specs.Stands.{begun_classes}
 use Rattle.guest_threads.specs.declared.guarded.Guarded.{Guarded}
 use Rattle.guest_threads.specs.Working.{Working, drawn}
-use Rattle.guest_threads.proofs.Asking.{looks_at, in_files}
+use Rattle.bodies.proofs.Asking.{looks_at, in_files}
 use Rattle.guest_threads.proofs.Telling.{look_waits, looked, looked_again, untouched, entered_once, entered_none}
 use Rattle.guest_threads.proofs.Viewing.{working_at}
 use Rattle.guest_threads.proofs.task.Task.look.Goals as goal

@@ -1,0 +1,4 @@
+pub mod Asking
+pub mod Counting
+pub mod HeldValues
+pub mod ThreadSteps

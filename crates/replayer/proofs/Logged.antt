@@ -1,0 +1,193 @@
+-- What one event more leaves of a log, and what is known of the events of one thread.
+use Rattle.std.proofs.Common.{◌≡◌, ◌≢◌, ◌⊎◌, inl, inr, ℕ, ◌<◌, ◌≤◌, ◌==◌, List, [], ◌∷◌, ◌++◌, Option, Some, None, Bool, true, false, length, slice_get, refl, sym, ap, subst, ◌∙◌, eq-eqb, append-nil, arith}
+use Rattle.std.specs.Prelude.{slice_index_or, slice_set, filter}
+use Rattle.std.specs.List.{AllByRecursion, find}
+use Rattle.std.proofs.lemmas.Bool.{ne_eqb}
+use Rattle.std.proofs.lemmas.Bool.Decides.{eqb_tells}
+use Rattle.std.proofs.lemmas.List.{get_or-set_same, get_or-set_other, length-set}
+use Rattle.std.proofs.lemmas.List.Elements.{filter-append}
+use Rattle.std.proofs.lemmas.Option.{slice_get_within}
+use Rattle.hierarchy.specs.declared.class.ClassId.{ClassId}
+use Rattle.hierarchy.specs.declared.value.Value.{Value}
+use Rattle.hierarchy.specs.LinkedProgram.{LinkedProgram, id}
+use Rattle.hierarchy.specs.LinkedTexts.{IsLinked}
+use Rattle.statics.specs.declared.static_field.StaticField.{StaticField}
+use Rattle.statics.specs.Statics.{statics_of}
+use Rattle.init_core.specs.declared.event.Event.{Event}
+use Rattle.init_core.specs.declared.event.Kind.{Kind}
+use Rattle.init_core.specs.declared.event.Kind.TheVariants as kind
+use Rattle.init_core.specs.declared.event.Label.{Label}
+use Rattle.init_core.specs.declared.event.Label.TheVariants.{InProgress}
+use Rattle.init_core.specs.declared.frames.Ending.TheVariants as ending
+use Rattle.init_core.specs.ClassState.{State, IsStateOf, stepped}
+use Rattle.init_core.specs.Decisions.{event}
+use Rattle.init_core.specs.Interleaving.{of_thread, of_class, is_class, label_at}
+use Rattle.init_core.specs.Label.{label_by, is_beginning}
+use Rattle.init_core.specs.Lawful.{Allows, Holds, AgreesAfter}
+use Rattle.init_core.specs.Numbers.{IsInRange}
+use Rattle.init_core.specs.ProcedureWord.{IsOfFiles}
+use Rattle.init_core.specs.ProgramEvents.{IsDoneAt, IsValueOf, IsProgramEvent, at_class, prints_text}
+use Rattle.init_core.specs.Stands.{SeesMore}
+use Rattle.init_core.proofs.Errors.{ending_in_range}
+use Rattle.init_core.proofs.States.{state_after, few_statics}
+use Rattle.init_world.proofs.Sound.{one_more, no_more, class_is}
+use Rattle.bodies.specs.Writes.{WritesHeldIn, WritesHeld}
+use Rattle.replayer.specs.declared.log.EventLog.{EventLog}
+use Rattle.replayer.specs.Logged.{IsStateAfter, IsLog, histories}
+
+pub all_more : (Q : Event → Type 0) (xs : List Event) (e : Event) → AllByRecursion Q xs → Q e → AllByRecursion Q (xs ++ e ∷ [])
+all_more Q [] e a q = (q, tt)
+all_more Q (x ∷ xs) e a q = (a.0, all_more Q xs e a.1 q)
+
+-- ---- events of thread 0
+
+abbrev pub AreZero : List Event → Type 0
+AreZero events = AllByRecursion (λ e. e.thread ≡ 0) events
+
+zero_of : (p : LinkedProgram) (e : Event) → IsProgramEvent p 1 e → e.thread ≡ 0
+zero_of p e (at_class k low within done) = omega (arith, low)
+zero_of p e (prints_text text low is) = omega (arith, low)
+
+pub all_zero : (p : LinkedProgram) (events : List Event) → AllByRecursion (λ e. IsProgramEvent p 1 e) events → AreZero events
+all_zero p [] a = tt
+all_zero p (e ∷ events) a = (zero_of p e a.0, all_zero p events a.1)
+
+zero_filtered : (q : Event → Bool) (xs : List Event) → AreZero xs → AreZero (filter q xs)
+zero_filtered q [] a = tt
+zero_filtered q (x ∷ xs) a = at (q x) refl (zero_filtered q xs a.1) where
+  at : (b : Bool) → q x ≡ b → AreZero (filter q xs) → AreZero (filter q (x ∷ xs))
+  at true e h = rw e (a.0, h)
+  at false e h = rw e h
+
+found_zero : (q : Event → Bool) (xs : List Event) (x : Event) → AreZero xs → find q xs ≡ Some x → x.thread ≡ 0
+found_zero q [] x a e = absurd (let z : None ≡ Some x = e in cc)
+found_zero q (y ∷ xs) x a e = at (q y) refl (found_zero q xs x a.1) where
+  at : (b : Bool) → q y ≡ b → (find q xs ≡ Some x → x.thread ≡ 0) → x.thread ≡ 0
+  at true z further = let found : Some y ≡ Some x = rw z at e in let same : y ≡ x = cc in subst (λ (v : Event). v.thread ≡ 0) same a.0
+  at false z further = further (rw z at e)
+
+owner_of : (f c b : Option Event) (u : ℕ) → label_by f c b ≡ InProgress u → (x : Event) × (b ≡ Some x) × (x.thread ≡ u)
+owner_of (Some x) c b u q = absurd cc
+owner_of None (Some x) b u q = absurd cc
+owner_of None None (Some x) u q = (x, refl, cc)
+owner_of None None None u q = absurd cc
+
+-- a class is in progress by that thread alone
+pub lone_owner : (events : List Event) (c : ClassId) (u : ℕ) → AreZero events → label_at events c ≡ InProgress u → u ≡ 0
+lone_owner events c u a q =
+    let x = owner_of _ _ (find is_beginning (of_class c events)) u q in
+    sym x.2 ∙ found_zero is_beginning (of_class c events) x.0 (zero_filtered (λ e. is_class c e.class) events a) x.1
+
+pub all_of_zero : (events : List Event) → AreZero events → of_thread 0 events ≡ events
+all_of_zero [] a = refl
+all_of_zero (e ∷ events) a = rw (eq-eqb e.thread 0 a.0) (ap (λ (es : List Event). e ∷ es) (all_of_zero events a.1))
+
+pub none_of_others : (t : ℕ) (events : List Event) → t ≢ 0 → AreZero events → of_thread t events ≡ []
+none_of_others t [] n a = refl
+none_of_others t (e ∷ events) n a = rw (ne_eqb e.thread t (λ q. n (sym q ∙ a.0))) (none_of_others t events n a.1)
+
+-- ---- what was written
+
+writes_in : (p : LinkedProgram) (c : ClassId) (k : Kind) → IsDoneAt p c k → WritesHeldIn (statics_of p c) k
+writes_in p c (kind.Puts place v) h = h
+writes_in p c (kind.Gets place v) h = tt
+writes_in p c kind.Waits h = tt
+writes_in p c kind.Recurs h = tt
+writes_in p c kind.FindsInitialized h = tt
+writes_in p c kind.FindsErroneous h = tt
+writes_in p c kind.Begins h = tt
+writes_in p c (kind.SuperFails e) h = tt
+writes_in p c kind.Runs h = tt
+writes_in p c kind.Completes h = tt
+writes_in p c (kind.Fails e) h = tt
+writes_in p c (kind.Prints text) h = absurd h
+
+write_held : (p : LinkedProgram) (c : ClassId) (e : Event) → IsProgramEvent p 1 e → e.class ≡ Some c → WritesHeld (statics_of p c) e
+write_held p c e (at_class {c = d} k low within done) q = let same : d ≡ c = cc in subst (λ (x : ClassId). WritesHeldIn (statics_of p x) k) same (writes_in p d k done)
+write_held p c e (prints_text text low is) q = absurd (let z : None ≡ Some c = q in cc)
+
+pub writes_held : (p : LinkedProgram) (c : ClassId) (events : List Event) → AllByRecursion (λ e. IsProgramEvent p 1 e) events → AllByRecursion (λ e. WritesHeld (statics_of p c) e) (of_class c events)
+writes_held p c [] a = tt
+writes_held p c (e ∷ events) a = at (is_class c e.class) refl (writes_held p c events a.1) where
+  at : (b : Bool) → is_class c e.class ≡ b → AllByRecursion (λ x. WritesHeld (statics_of p c) x) (of_class c events) → AllByRecursion (λ x. WritesHeld (statics_of p c) x) (of_class c (e ∷ events))
+  at true q h = rw q (write_held p c e a.0 (class_is c e.class q), h)
+  at false q h = rw q h
+
+-- ---- one event more
+
+same_class : (c d : ClassId) → (c.number == d.number) ≡ true → c ≡ d
+same_class c d e = let q : Some d ≡ Some c = sym (class_is d (Some c) e) in cc
+
+-- it is seen of its class
+pub sees_one : (events : List Event) (c : ClassId) (k : Kind) → Allows (label_at events c) 0 k → SeesMore (histories events) (λ d. of_class d (event 0 c k ∷ [])) (histories (events ++ event 0 c k ∷ []))
+sees_one events c k ok = record { adds = λ d. filter-append (λ e. is_class d e.class) events (event 0 c k ∷ []); agrees = λ d. at d (c.number == d.number) refl } where
+  at : (d : ClassId) (b : Bool) → (c.number == d.number) ≡ b → AgreesAfter (of_class d events) (of_class d (event 0 c k ∷ []))
+  at d true e = rw e (subst (λ (x : ClassId). Allows (label_at events x) 0 k) (same_class c d e) ok, tt)
+  at d false e = rw e tt
+
+pub sees_none : (events : List Event) → SeesMore (histories events) (λ d. []) (histories events)
+sees_none events = record { adds = λ d. sym (append-nil (of_class d events)); agrees = λ d. tt }
+
+field_within : (fields : List StaticField) (place : ℕ) (v : Value) → IsValueOf (slice_get fields place) v → place < length fields
+field_within fields place v h = at (slice_get fields place) refl h where
+  at : (o : Option StaticField) → slice_get fields place ≡ o → IsValueOf o v → place < length fields
+  at None e h = absurd h
+  at (Some f) e h = slice_get_within fields place f e
+
+-- the numbers of what is done are in their range
+pub in_range : (p : LinkedProgram) (c : ClassId) (k : Kind) → IsLinked p → length p.classes ≤ 1024 → IsDoneAt p c k → IsInRange k
+in_range p c (kind.SuperFails e) linked few h = ending_in_range p c (ending.SuperFails e) few h
+in_range p c (kind.Fails e) linked few h = ending_in_range p c (ending.Fails e) few h
+in_range p c (kind.Gets place v) linked few h = let a = field_within (statics_of p c) place v h in let b = few_statics p linked c in omega (arith, a, b)
+in_range p c (kind.Puts place v) linked few h = let a = field_within (statics_of p c) place v h in let b = few_statics p linked c in omega (arith, a, b)
+in_range p c (kind.Prints text) linked few h = absurd h
+in_range p c kind.Waits linked few h = tt
+in_range p c kind.Recurs linked few h = tt
+in_range p c kind.FindsInitialized linked few h = tt
+in_range p c kind.FindsErroneous linked few h = tt
+in_range p c kind.Begins linked few h = tt
+in_range p c kind.Runs linked few h = tt
+in_range p c kind.Completes linked few h = tt
+
+module _ (p : LinkedProgram) where
+  -- what stands of a class
+  pub state_of : (l : EventLog) (c : ClassId) (r : State) → IsLog p l → IsOfFiles p c → r ≡ slice_index_or l.states.items c.number r → IsStateAfter p l.events.items c r
+  state_of l c r log within at = subst (λ (x : State). IsStateAfter p l.events.items c x) (sym at) (log.states c.number r within)
+
+  -- a class has an event more
+  pub added : (l m : EventLog) (c : ClassId) (k : Kind) (r new : State) → IsLog p l → IsOfFiles p c → r ≡ slice_index_or l.states.items c.number r → new ≡ stepped r 0 k → m.states.items ≡ slice_set l.states.items c.number new → m.events.items ≡ l.events.items ++ event 0 c k ∷ [] →
+      Allows (label_at l.events.items c) 0 k → IsDoneAt p c k → IsInRange k → Holds (statics_of p c) (of_class c l.events.items) k → IsLog p m
+  added l m c k r new log within at is states events ok done range holds = record {
+    count = ap length states ∙ (length-set l.states.items c.number new ∙ log.count);
+    states = λ n other below. subst (λ (es : List Event). IsStateAfter p es (id n) (slice_index_or m.states.items n other)) (sym events)
+        (subst (λ (ss : List State). IsStateAfter p (l.events.items ++ event 0 c k ∷ []) (id n) (slice_index_or ss n other)) (sym states) (by_number n other below (eqb_tells n c.number)));
+    events = subst (λ (es : List Event). AllByRecursion (λ e. IsProgramEvent p 1 e) es) (sym events) (all_more (λ e. IsProgramEvent p 1 e) l.events.items (event 0 c k) log.events (at_class k (omega arith) within done));
+  } where
+    old : IsStateAfter p l.events.items c r
+    old = state_of l c r log within at
+
+    more : IsStateOf (stepped r 0 k) (of_class c l.events.items ++ event 0 r.class k ∷ [])
+    more = state_after r (of_class c l.events.items) 0 k (omega arith) (subst (λ (x : Label). Allows x 0 k) (sym old.state.label) ok) old.state range (subst (λ (fs : List StaticField). Holds fs (of_class c l.events.items) k) (sym old.fields) holds)
+
+    here : of_class c (l.events.items ++ event 0 c k ∷ []) ≡ of_class c l.events.items ++ event 0 c k ∷ []
+    here = one_more l.events.items (event 0 c k) c (eq-eqb c.number c.number refl)
+
+    after : IsStateAfter p (l.events.items ++ event 0 c k ∷ []) c (stepped r 0 k)
+    after = record {
+      class = old.class;
+      fields = old.fields;
+      state = subst (IsStateOf (stepped r 0 k)) (sym here) (subst (λ (d : ClassId). IsStateOf (stepped r 0 k) (of_class c l.events.items ++ event 0 d k ∷ [])) old.class more);
+    }
+
+    same_length : length l.states.items ≡ length p.classes
+    same_length = log.count
+
+    by_number : (n : ℕ) (other : State) → n < length p.classes → ((n == c.number) ≡ true × (n ≡ c.number)) ⊎ (((n == c.number) ≡ false) × (n ≢ c.number)) → IsStateAfter p (l.events.items ++ event 0 c k ∷ []) (id n) (slice_index_or (slice_set l.states.items c.number new) n other)
+    by_number n other below (inl x) =
+        let it : slice_index_or (slice_set l.states.items c.number new) c.number other ≡ new = get_or-set_same l.states.items c.number new other (omega (arith, within, same_length)) in
+        rw x.1 (rw it (subst (λ (s : State). IsStateAfter p (l.events.items ++ event 0 c k ∷ []) c s) (sym is) after))
+    by_number n other below (inr x) =
+        let it : slice_index_or (slice_set l.states.items c.number new) n other ≡ slice_index_or l.states.items n other = get_or-set_other l.states.items c.number n new other x.1 in
+        let o = log.states n other below in
+        let still : of_class (id n) (l.events.items ++ event 0 c k ∷ []) ≡ of_class (id n) l.events.items = no_more l.events.items (event 0 c k) (id n) (ne_eqb c.number n (λ e. x.1 (sym e))) in
+        rw it (record { class = o.class; fields = o.fields; state = subst (IsStateOf (slice_index_or l.states.items n other)) (sym still) o.state })
