@@ -33,7 +33,13 @@ impl Texts {
         Ok(())
     }
 
-    fn put_below(&mut self, word: &str, name: &str, text: &[u8]) -> Result<(), AllocError> {
+    /// Adds a text, with this word before its name.
+    pub(crate) fn put_below(
+        &mut self,
+        word: &str,
+        name: &str,
+        text: &[u8],
+    ) -> Result<(), AllocError> {
         let name = format!(in self.alloc; "{word} {name}")?;
         self.put(name.as_str(), text)
     }
@@ -44,6 +50,14 @@ impl Texts {
             self.put_below(word, name.as_str(), text.as_slice())?;
         }
         Ok(())
+    }
+
+    /// The text of that name, or an empty one.
+    pub(crate) fn text(&self, name: &str) -> &[u8] {
+        match self.by_name.get(name) {
+            Some(text) => text.as_slice(),
+            None => &[],
+        }
     }
 
     fn holds(&self, name: &str, text: &[u8]) -> bool {
