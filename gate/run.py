@@ -22,6 +22,8 @@ from tally import Tally, say
 ROOT = os.path.dirname(os.path.dirname(os.path.realpath(__file__)))
 PROGRAM = f"{ROOT}/crates/jinit/out/jinit"
 CASES = f"{ROOT}/crates/cases/out/cases"
+# How many programs made at random are run.
+RANDOM_RUNS = "1000"
 # A harmless edit, and the crate beside whose edits it is tried: it changes a function that calls edited ones.
 HARMLESS = f"{ROOT}/gate/harmless.edit", "descriptors"
 
@@ -88,6 +90,7 @@ def main(words):
     if os.path.isfile(PROGRAM):
         counted(tally, "archives", ["tests/archives/run", PROGRAM])
         counted(tally, "threads", ["tests/threads/run"])
+        counted(tally, "random", ["tests/code/run", RANDOM_RUNS])
         if shutil.which("cc"):
             counted(tally, "memory", ["tests/refuse_memory/run"])
     return tally.show()
