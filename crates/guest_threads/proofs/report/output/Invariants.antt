@@ -1,6 +1,0 @@
-use Rattle.std.proofs.Common.{◌≡◌, ◌++◌, drop}
-use Rattle.trace.specs.Output.{output_of}
-use Rattle.guest_threads.proofs.report.output.Given as goal
-
-abbrev pub invariant-loop-event : goal.invariant-loop-event
-invariant-loop-event l = l.output.items ++ output_of (drop l.event-index l.events) ≡ output_of l.events
