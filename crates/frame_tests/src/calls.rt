@@ -92,27 +92,30 @@ fn go_up(frames: &mut Frames, depth: usize) {
     }
 }
 
-/// How many frames there are where so many were reached before and left; `None`: memory was taken that wasn't there.
+/// How many frames there are, all of a large method, where so many of a small one were reached before and left; `None`: memory was
+/// taken that wasn't there.
 fn reach_again(
     frames: &mut Frames,
-    code: &MethodCode,
+    small: &MethodCode,
+    large: &MethodCode,
     depth: usize,
 ) -> Result<Option<usize>, AllocError> {
-    go_down(frames, code, depth)?;
+    go_down(frames, small, depth)?;
     go_up(frames, depth);
     if frames.len() != 0 {
         return Ok(Some(0));
     }
-    match go_down(frames, code, depth) {
+    match go_down(frames, large, depth) {
         Ok(()) => Ok(Some(frames.len())),
         Err(_) => Ok(None),
     }
 }
 
 fn reached_again(alloc: Global, depth: usize) -> Result<Option<usize>, AllocError> {
-    let code = method(alloc, 1, 2, &[])?;
+    let small = method(alloc, 1, 2, &[])?;
+    let large = method(alloc, 1_024, 1_024, &[])?;
     let mut frames = Frames::new(alloc);
-    reach_again(&mut frames, &code, depth)
+    reach_again(&mut frames, &small, &large, depth)
 }
 
 #[test]

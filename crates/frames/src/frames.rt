@@ -27,21 +27,24 @@ pub struct Frames {
 }
 
 impl Model for Frames {
-    ghost use Rattle.std.specs.Prelude.{List};
+    ghost use Rattle.std.specs.Prelude.{◌≤◌, ◌+◌, List, length, vec_capacity, vec_len};
     ghost use Rattle.frames.specs.Activations.{Activation, frames_in, IsEmptyWithout};
 
     ghost Value = { List Activation };
 
     ghost view = { λ f. frames_in f.innermost f.below.items };
 
-    ghost invariant = { λ f. IsEmptyWithout f.innermost f.below.items };
+    ghost invariant = { λ f. record {
+      empty : IsEmptyWithout f.innermost f.below.items;
+      kept : vec_len f.spare + length (frames_in f.innermost f.below.items) ≤ vec_capacity f.spare;
+    } };
 }
 
 fn push_below(below: &mut Vec<Slot>, slot: Slot)
     requires { vec_len below.old < vec_capacity below.old }
     ensures { reverse below.new.items ≡ slot ∷ reverse below.old.items }
 {
-    let _ = below.push(slot);
+    below.push_reserved(slot);
 }
 
 /// Takes the frame that waits for the innermost.
@@ -51,6 +54,19 @@ fn pop_below(below: &mut Vec<Slot>) -> Option<Slot>
     ensures empty { IfNone result (below.new.items ≡ []) }
 {
     below.pop()
+}
+
+/// A frame more where there will be so many: one that was left, or else a new one, with room to keep them all.
+fn take_spare(spare: &mut Vec<Slot>, alloc: Global, count: usize) -> Result<Slot, AllocError>
+    requires { vec_len spare.old + count ≤ vec_capacity spare.old + 1 }
+    ensures ok { OnOk result (vec_len spare.new + count ≤ vec_capacity spare.new) }
+    ensures err { OnErr result (vec_len spare.new + count ≤ vec_capacity spare.new + 1) }
+{
+    if let Some(slot) = spare.pop() {
+        return Ok(slot);
+    }
+    spare.reserve(count)?;
+    Slot::new(alloc)
 }
 
 impl Frames {
@@ -116,14 +132,13 @@ impl Frames {
         }
     }
 
-    /// A frame more, and room to keep all frames.
-    fn spare(&mut self) -> Result<Slot, AllocError>
-        ensures { self.new ≡ self.old }
+    /// How many frames there are with one more.
+    fn len_with_next(&self) -> usize
+        ensures { result ≡ length self.now + 1 }
     {
-        self.spare.reserve(self.below.len().saturating_add(2))?;
-        match self.spare.pop() {
-            Some(slot) => Ok(slot),
-            None => Slot::new(self.alloc),
+        match self.innermost {
+            None => 1,
+            Some(_) => self.below.len() + 2,
         }
     }
 
@@ -140,7 +155,8 @@ impl Frames {
         ensures ok { OnOk result (self.new ≡ activation class method true code.now given.now ∷ self.old) }
         ensures err { OnErr result (self.new ≡ self.old) }
     {
-        let mut first = self.spare()?;
+        let frames = self.len_with_next();
+        let mut first = take_spare(&mut self.spare, self.alloc, frames)?;
         first.enter(class, method, true, code, given)?;
         self.below.reserve(1)?;
         if let Some(waiting) = std::mem::replace(&mut self.innermost, Some(first)) {
@@ -164,7 +180,8 @@ impl Frames {
         ensures ok { OnOk result (self.new ≡ called class method code.now count self.old) }
         ensures err { OnErr result (self.new ≡ self.old) }
     {
-        let mut callee = self.spare()?;
+        let frames = self.len_with_next();
+        let mut callee = take_spare(&mut self.spare, self.alloc, frames)?;
         let Some(caller) = &mut self.innermost else {
             return Ok(());
         };
@@ -183,7 +200,7 @@ impl Frames {
     {
         let waiting = pop_below(&mut self.below);
         if let Some(slot) = std::mem::replace(&mut self.innermost, waiting) {
-            let _ = self.spare.push(slot);
+            self.spare.push_reserved(slot);
         }
     }
 

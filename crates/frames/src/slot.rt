@@ -1,10 +1,11 @@
 //! One method's activation: its place, locals and operands.
 
-ghost use Rattle.std.specs.Prelude.{◌≡◌, ◌<◌, ◌≤◌, ◌+◌, ◌^◌, List, OnOk, length, slice_get, true, false};
+ghost use Rattle.std.specs.Prelude.{◌≡◌, ◌<◌, ◌≤◌, ◌+◌, ◌^◌, List, IsOk, OnOk, length, slice_get, true, false};
 ghost use Rattle.frames.specs.Running.{Goes, IsAtNext, Stops};
 ghost use Rattle.frames.specs.Activations.{activation, arguments, at_handler, at_place, dropped, has_room_in, in_frame, next_place, place_in, pushed};
 ghost use Rattle.frames.specs.declared.cell.Cell.TheVariants as cell;
 ghost use Rattle.frames.specs.declared.run.Stop.TheVariants as stop;
+ghost use Rattle.frames.specs.declared.slot.TheConstants.{MOST_LOCALS, MOST_OPERANDS};
 
 use crate::cell::Cell;
 use crate::operands::push;
@@ -13,6 +14,12 @@ use crate::run::{Stop, run};
 use hierarchy::{MethodCode, Op};
 use std::alloc::{AllocError, Global};
 use std::marker::Model;
+
+/// The most locals that a method has.
+const MOST_LOCALS: usize = 1_024;
+
+/// The most operands that a method has.
+const MOST_OPERANDS: usize = 1_024;
 
 /// The last place that a frame can have.
 const LAST_PLACE: usize = 9_223_372_036_854_775_807;
@@ -31,14 +38,15 @@ struct Parts {
     stack: Vec<Cell>,
 }
 
-/// An activation, in memory of its own, so that it is moved as one pointer.
+/// An activation, in memory of its own, so that it is moved as one pointer. It has room for any method's locals and operands.
 #[derive(Debug, Drop)]
 pub(crate) struct Slot {
     parts: Box<Parts>,
 }
 
 impl Model for Slot {
-    ghost use Rattle.std.specs.Prelude.{◌≤◌, ◌<◌, ◌^◌, vec_len};
+    ghost use Rattle.std.specs.Prelude.{◌≤◌, ◌<◌, ◌+◌, ◌^◌, vec_capacity, vec_len};
+    ghost use Rattle.frames.specs.declared.slot.TheConstants.{MOST_LOCALS, MOST_OPERANDS};
     ghost use Rattle.frames.specs.Frame.{frame_in};
     ghost use Rattle.frames.specs.Activations.{Activation};
 
@@ -51,13 +59,16 @@ impl Model for Slot {
       limit : s.parts.value.limit ≤ vec_len s.parts.value.stack;
       one : 1 ≤ vec_len s.parts.value.stack;
       place : s.parts.value.place < 2 ^ 63;
+      locals : MOST_LOCALS ≤ vec_capacity s.parts.value.locals;
+      operands : MOST_OPERANDS + 1 ≤ vec_capacity s.parts.value.stack;
     } };
 }
 
 impl Slot {
-    /// An activation of no method, for one that is entered. An `Err` is want of memory.
+    /// An activation of no method, for any that is entered. An `Err` is out of memory.
     pub(crate) fn new(alloc: Global) -> Result<Self, AllocError> {
-        let mut stack = Vec::new(alloc);
+        let locals = Vec::with_capacity(alloc, MOST_LOCALS)?;
+        let mut stack = Vec::with_capacity(alloc, MOST_OPERANDS + 1)?;
         stack.push(Cell::Unset)?;
         let parts = Parts {
             class: 0,
@@ -66,7 +77,7 @@ impl Slot {
             place: 0,
             top: 0,
             limit: 0,
-            locals: Vec::new(alloc),
+            locals,
             stack,
         };
         Ok(Slot {
@@ -74,7 +85,7 @@ impl Slot {
         })
     }
 
-    /// Becomes a method's activation, with these arguments, the lowest first.
+    /// Becomes a method's activation, with these arguments, the lowest first. Takes no memory for a method within the limits.
     pub(crate) fn enter(
         &mut self,
         class: usize,
@@ -84,7 +95,8 @@ impl Slot {
         given: &[Cell],
     ) -> Result<(), AllocError>
         requires { length given.now ≤ code.now.locals }
-        ensures { OnOk result (self.new ≡ activation class method is_first code.now given.now) }
+        ensures ok { OnOk result (self.new ≡ activation class method is_first code.now given.now) }
+        ensures room { code.now.locals ≤ MOST_LOCALS → code.now.stack ≤ MOST_OPERANDS → IsOk result }
     {
         let parts = &mut *self.parts;
         let limit = code.stack as usize;
@@ -103,7 +115,8 @@ impl Slot {
         Ok(())
     }
 
-    /// Makes another one the activation of a method that is called with the operands on top.
+    /// Makes another one the activation of a method that is called with the operands on top. Takes no memory for a method within
+    /// the limits.
     pub(crate) fn call(
         &self,
         callee: &mut Slot,
@@ -114,7 +127,8 @@ impl Slot {
     ) -> Result<(), AllocError>
         requires few { count ≤ length self.now.frame.stack }
         requires fits { count ≤ code.now.locals }
-        ensures { OnOk result (callee.new ≡ activation class method false code.now (arguments count self.now.frame.stack)) }
+        ensures ok { OnOk result (callee.new ≡ activation class method false code.now (arguments count self.now.frame.stack)) }
+        ensures room { code.now.locals ≤ MOST_LOCALS → code.now.stack ≤ MOST_OPERANDS → IsOk result }
     {
         let operands = self.parts.stack.as_slice().split_at(self.parts.top).0;
         let given = operands.split_at(self.parts.top - count).1;
