@@ -6,5 +6,6 @@ pub mod Files
 pub mod NeedsText
 pub mod Built
 pub mod Limits
+pub mod FaultText
 pub mod ReadRefusals
 pub mod Outcomes

@@ -1,10 +1,12 @@
 //! What keeps the program from its work.
 
-ghost use Rattle.std.specs.Prelude.{◌≡◌};
+ghost use Rattle.std.specs.Prelude.{◌≡◌, OnOk};
+ghost use Rattle.std.specs.Io.KnownBytes.{Appends};
 ghost use Rattle.cli.specs.declared.fault.Fault.TheVariants.{Memory};
+ghost use Rattle.cli.specs.FaultText.{fault_line, jasmin_line, link_line, link_number_of};
 ghost use Rattle.cli.specs.Status.{status_of};
 
-use hierarchy::LinkFault;
+use hierarchy::{LinkFault, LinkFaultKind};
 use jasmin_reader::ReadFault;
 use std::alloc::{AllocError, AllocFailed};
 use std::io;
@@ -68,34 +70,57 @@ impl Fault<'_> {
     }
 
     /// Writes the one line that tells of the fault.
-    pub(crate) fn tell<W: io::Write>(&self, err: &mut W) -> io::Result<()> {
-        let words = match self {
-            Fault::Io(name) => return writeln!(err, "io: {name}"),
-            Fault::Jasmin { file, fault } => return tell_jasmin(file, fault, err),
-            Fault::Link(fault) => return tell_link(fault, err),
-            Fault::Words => "cli: words",
-            Fault::Files => "cli: files",
-            Fault::Steps => "cli: steps",
-            Fault::Patience => "cli: patience",
-            Fault::Mains => "cli: mains",
-            Fault::Body => "cli: body",
-            Fault::Threads => "threads",
-            Fault::Memory => "memory",
-            Fault::Output => "io: output",
-        };
-        writeln!(err, "{words}")
+    pub(crate) fn tell<W: io::Write>(&self, err: &mut W) -> io::Result<()>
+        ensures { OnOk result (Appends (W.contents err.old) (W.contents err.new) (fault_line self.now)) }
+    {
+        match self {
+            Fault::Io(name) => writeln!(err, "io: {name}"),
+            Fault::Jasmin { file, fault } => tell_jasmin(file, fault, err),
+            Fault::Link(fault) => tell_link(fault, err),
+            Fault::Words => err.write_all(b"cli: words\n"),
+            Fault::Files => err.write_all(b"cli: files\n"),
+            Fault::Steps => err.write_all(b"cli: steps\n"),
+            Fault::Patience => err.write_all(b"cli: patience\n"),
+            Fault::Mains => err.write_all(b"cli: mains\n"),
+            Fault::Body => err.write_all(b"cli: body\n"),
+            Fault::Threads => err.write_all(b"threads\n"),
+            Fault::Memory => err.write_all(b"memory\n"),
+            Fault::Output => err.write_all(b"io: output\n"),
+        }
     }
 }
 
-fn tell_jasmin<W: io::Write>(file: &str, fault: &ReadFault, err: &mut W) -> io::Result<()> {
+fn tell_jasmin<W: io::Write>(file: &str, fault: &ReadFault, err: &mut W) -> io::Result<()>
+    ensures { OnOk result (Appends (W.contents err.old) (W.contents err.new) (jasmin_line file.now fault.now)) }
+{
     let line = fault.line;
-    let kind = fault.kind;
-    writeln!(err, "{file}:{line}: {kind}")
+    let number = fault.kind.number();
+    writeln!(err, "{file}:{line}: J{number}")
 }
 
-fn tell_link<W: io::Write>(fault: &LinkFault, err: &mut W) -> io::Result<()> {
-    let kind = fault.kind;
-    write!(err, "link: {kind} ")?;
+/// The number in the code of a fault of linking.
+fn link_number(kind: LinkFaultKind) -> u8
+    ensures { result ≡ link_number_of kind }
+{
+    match kind {
+        LinkFaultKind::RepeatedName => 1,
+        LinkFaultKind::UnknownSupertype => 2,
+        LinkFaultKind::Cycle => 3,
+        LinkFaultKind::SuperclassKind => 4,
+        LinkFaultKind::InterfaceKind => 5,
+        LinkFaultKind::ReservedName => 6,
+        LinkFaultKind::RepeatedMember => 7,
+        LinkFaultKind::TooMany => 8,
+        LinkFaultKind::NoMemory => 9,
+    }
+}
+
+#[tactic(auto, using(crate::proofs::KnownOutput::appends_then))]
+fn tell_link<W: io::Write>(fault: &LinkFault, err: &mut W) -> io::Result<()>
+    ensures { OnOk result (Appends (W.contents err.old) (W.contents err.new) (link_line fault.now)) }
+{
+    let number = link_number(fault.kind);
+    write!(err, "link: H{number} ")?;
     err.write_all(fault.class.as_slice())?;
     writeln!(err)
 }

@@ -1,0 +1,44 @@
+-- The line that tells of a fault.
+use Rattle.std.specs.Prelude.{ℕ, List, ◌++◌, codes, decimal}
+use Rattle.hierarchy.specs.declared.fault.LinkFault.{LinkFault}
+use Rattle.hierarchy.specs.declared.fault.LinkFaultKind.{LinkFaultKind}
+use Rattle.hierarchy.specs.declared.fault.LinkFaultKind.TheVariants.{RepeatedName, UnknownSupertype, Cycle, SuperclassKind, InterfaceKind, ReservedName, RepeatedMember, TooMany, NoMemory}
+use Rattle.jasmin_reader.specs.declared.fault.ReadFault.{ReadFault}
+use Rattle.jasmin_words.specs.Fault.{number_of}
+use Rattle.cli.specs.declared.fault.Fault.{Fault}
+use Rattle.cli.specs.declared.fault.Fault.TheVariants.{Body, Files, Io, Jasmin, Link, Mains, Memory, Output, Patience, Steps, Threads, Words}
+
+-- the number in the code of a fault of linking
+abbrev pub link_number_of : LinkFaultKind → ℕ
+link_number_of RepeatedName = 1
+link_number_of UnknownSupertype = 2
+link_number_of Cycle = 3
+link_number_of SuperclassKind = 4
+link_number_of InterfaceKind = 5
+link_number_of ReservedName = 6
+link_number_of RepeatedMember = 7
+link_number_of TooMany = 8
+link_number_of NoMemory = 9
+
+-- <file>:<line>: <kind>
+abbrev pub jasmin_line : List ℕ → ReadFault → List ℕ
+jasmin_line file f = file ++ codes ":" ++ decimal f.line ++ codes ": J" ++ decimal (number_of f.kind) ++ codes "\n"
+
+-- link: <kind> <class>
+abbrev pub link_line : LinkFault → List ℕ
+link_line f = codes "link: H" ++ decimal (link_number_of f.kind) ++ codes " " ++ f.class ++ codes "\n"
+
+-- what is wrong, and of which file or class
+abbrev pub fault_line : Fault → List ℕ
+fault_line Words = codes "cli: words\n"
+fault_line Files = codes "cli: files\n"
+fault_line (Io file) = codes "io: " ++ file.now ++ codes "\n"
+fault_line (Jasmin file f) = jasmin_line file.now f
+fault_line (Link f) = link_line f
+fault_line Steps = codes "cli: steps\n"
+fault_line Patience = codes "cli: patience\n"
+fault_line Mains = codes "cli: mains\n"
+fault_line Body = codes "cli: body\n"
+fault_line Threads = codes "threads\n"
+fault_line Memory = codes "memory\n"
+fault_line Output = codes "io: output\n"
