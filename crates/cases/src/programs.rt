@@ -13,14 +13,14 @@
 //! | `left NAME` | what the file holds after the run |
 //!
 //! A file that no `left` names holds after the run what it held before, and the run makes no file but those. Where a command runs
-//! one main class and asks for its trace, the ordered run of that class must come to the same output, lines and trace.
+//! one main class and asks for its trace, its run on a thread of its own must come to the same output, lines and trace.
 
-mod ordered;
 mod texts;
+mod threaded;
 
 use crate::archive::{Archive, Part};
-use crate::programs::ordered::ordered_run;
 use crate::programs::texts::Texts;
+use crate::programs::threaded::threaded_run;
 use crate::report::Report;
 use cli::serve;
 use std::alloc::{AllocError, Global};
@@ -116,20 +116,20 @@ fn words_of<'a>(alloc: Global, command: &'a str) -> Result<Vec<&'a str>, AllocEr
     Ok(words)
 }
 
-/// Adds what the ordered run made otherwise, under the heads that say it.
+/// Adds what the run on a thread of its own made otherwise, under the heads that say it.
 fn compare(
     trace: &str,
-    ordered: &Texts,
+    threaded: &Texts,
     files: &Texts,
     came: &mut Texts,
 ) -> Result<(), AllocError> {
     for name in ["stdout", "stderr"] {
-        if ordered.text(name) != came.text(name) {
-            came.put_below("ordered", name, ordered.text(name))?;
+        if threaded.text(name) != came.text(name) {
+            came.put_below("threaded", name, threaded.text(name))?;
         }
     }
-    if ordered.text("trace") != files.text(trace) {
-        came.put("ordered trace", ordered.text("trace"))?;
+    if threaded.text("trace") != files.text(trace) {
+        came.put("threaded trace", threaded.text("trace"))?;
     }
     Ok(())
 }
@@ -142,15 +142,15 @@ fn run<R: Threads + Wait + Sync>(
     files: &mut Texts,
 ) -> Result<Texts, AllocError> {
     let words = words_of(alloc, command)?;
-    let ordered = ordered_run(alloc, words.as_slice(), files)?;
+    let threaded = threaded_run(rt, alloc, words.as_slice(), files)?;
     let mut out = Vec::new(alloc);
     let mut err = Vec::new(alloc);
     let status = serve(rt, alloc, words.as_slice(), files, &mut out, &mut err);
     let line = format!(in alloc; "{status}\n")?;
     let (out, err) = (out.as_slice(), err.as_slice());
     let mut came = outcome_of(alloc, out, err, line.as_bytes(), files)?;
-    if let (Some((trace, ordered)), 0 | 1) = (ordered, status) {
-        compare(trace, &ordered, files, &mut came)?;
+    if let (Some((trace, threaded)), 0 | 1) = (threaded, status) {
+        compare(trace, &threaded, files, &mut came)?;
     }
     Ok(came)
 }

@@ -2,4 +2,5 @@ pub mod CommandLine
 pub mod KnownFiles
 pub mod KnownOutput
 pub mod Names
+pub mod OneMain
 pub mod Quiet

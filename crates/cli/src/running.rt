@@ -1,8 +1,9 @@
 //! From class texts to the run of their main classes.
 
-ghost use Rattle.std.specs.Prelude.{◌≡◌, ◌⊎◌, ◌<◌, ◌≤◌, IfErr, IfOk, IfSome, length, replicate, vec_len};
+ghost use Rattle.std.specs.Prelude.{◌≡◌, ◌⊎◌, ◌<◌, ◌≤◌, ◌∷◌, [], IfErr, IfOk, IfSome, length, replicate, vec_len};
 ghost use Rattle.std.specs.Option.{option_map};
 ghost use Rattle.hierarchy.specs.FirstFault.{LinksTo};
+ghost use Rattle.init_core.specs.ProcedureWord.{IsOfFiles};
 ghost use Rattle.interpreter.specs.CodeRun.{code_bodies, interpreter_at_start};
 ghost use Rattle.bodies.specs.Runs.{AreMains, IsRunOf};
 ghost use Rattle.cli.specs.declared.fault.Fault.TheVariants.{Memory, Threads};
@@ -15,6 +16,7 @@ use guest_threads::{NoGate, RunFault, run_threads};
 use hierarchy::{ClassId, LinkFaultKind, Program, link};
 use interpreter::Interpreter;
 use jasmin_text::ClassText;
+use replayer::run_ordered;
 use std::alloc::{AllocError, Global};
 use std::sync::Wait;
 use std::thread::Threads;
@@ -84,6 +86,22 @@ fn mains_named(
     Ok(Some(mains))
 }
 
+/// Runs one main class on the calling thread.
+fn run_alone<'a>(
+    alloc: Global,
+    program: &Program,
+    main: ClassId,
+    limits: Limits,
+) -> Result<Report, Fault<'a>>
+    requires { IsOfFiles program.now main }
+    ensures ran { IfOk result (IsRunOf program.now (code_bodies program.now) (interpreter_at_start limits.steps ∷ []) (main ∷ []) limits) }
+    ensures refused { IfErr result (λ fault. fault ≡ Memory) }
+{
+    let bodies = Interpreter::new(alloc, limits.steps);
+    let report = run_ordered(alloc, program, main, bodies)?;
+    Ok(report)
+}
+
 /// What runs the code of so many threads, of which each may begin so many instructions.
 fn interpreters(alloc: Global, count: usize, steps: u32) -> Result<Vec<Interpreter>, AllocError>
     ensures { IfOk result (λ made. made.items ≡ replicate count (interpreter_at_start steps)) }
@@ -95,7 +113,7 @@ fn interpreters(alloc: Global, count: usize, steps: u32) -> Result<Vec<Interpret
     Ok(made)
 }
 
-/// Runs these main classes, each on a thread of its own.
+/// Runs these main classes: one on the calling thread, several each on a thread of its own.
 fn run_mains<'a, R: Threads + Wait + Sync>(
     rt: &R,
     alloc: Global,
@@ -109,6 +127,9 @@ fn run_mains<'a, R: Threads + Wait + Sync>(
     ensures ran { IfOk result (IsRunOf program.now (code_bodies program.now) (starts_of mains.now limits) mains.now limits) }
     ensures refused { IfErr result (λ fault. (fault ≡ Memory) ⊎ (fault ≡ Threads)) }
 {
+    if let [main] = mains {
+        return run_alone(alloc, program, *main, limits);
+    }
     let bodies = interpreters(alloc, mains.len(), limits.steps)?;
     match run_threads(rt, alloc, program, mains, bodies, limits, &NoGate) {
         Ok(report) => Ok(report),
@@ -149,11 +170,11 @@ pub struct ProgramRun {
     pub report: Report,
 }
 
-/// Links the classes and runs the main classes that the text of `--mains` names, 1 to 16, parted by commas, each on a thread
-/// of its own.
+/// Links the classes and runs the main classes that the text of `--mains` names, 1 to 16, separated by commas: one on the
+/// calling thread, several each on a thread of its own.
 ///
-/// The program is what linking makes of the class texts, and the report is that of [`run_threads`] for the classes of the
-/// files which are named, whose code may begin so many instructions on each thread. It may wait, for ever where the limits know no
+/// The program is what linking makes of the class texts. The report is that of [`run_ordered`] where one class is named, and else
+/// that of [`run_threads`]; the code may begin so many instructions on each thread. It may wait, for ever where the limits know no
 /// patience.
 ///
 /// # Errors

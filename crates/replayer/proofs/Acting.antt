@@ -33,6 +33,7 @@ use Rattle.init_core.proofs.Knowing.{others_go_on}
 use Rattle.init_core.proofs.Leading.{MakesEnd}
 use Rattle.init_core.proofs.Mains.{ends_main}
 use Rattle.trace.specs.declared.report.Limit.{Limit}
+use Rattle.trace.specs.declared.report.Limit.TheVariants.{Patience}
 use Rattle.bodies.specs.declared.does.Does.{Does}
 use Rattle.bodies.specs.declared.does.Does.TheVariants as does
 use Rattle.bodies.specs.Doing.{MayDo}
@@ -44,10 +45,14 @@ use Rattle.bodies.proofs.ThreadSteps.{allows_use, asks_one, uses_one, goes_of, p
 use Rattle.init_world.proofs.Sound.{no_more}
 use Rattle.replayer.specs.declared.log.EventLog.{EventLog}
 use Rattle.replayer.specs.declared.run.Run.{Run}
-use Rattle.replayer.specs.Going.{Going, IsWhy, IsInBody, HasComeTo, IsDoing, IsOver}
+use Rattle.replayer.specs.Going.{Going, IsWhy, IsInBody, HasComeTo, IsDoing, IsOver, limit_error}
 use Rattle.replayer.specs.Logged.{IsLog, IsStateAfter, histories}
 use Rattle.replayer.proofs.Logged.{all_more, sees_one, writes_held}
 use Rattle.replayer.proofs.Stepping.{stepped, told}
+
+-- a body that waits gives up
+pub gives_up_waiting : {S : Type 0} (p : LinkedProgram) (M : Making S) (s z : S) (last : Option Completed) → M.does s last does.Waits z → IsWhy p M Patience (limit_error p)
+gives_up_waiting p M s z last waits = record { ends = λ limits may. (refl, λ none. may none s z last waits); memory = λ q. cc }
 
 pub none_of : (o : Option ClassId) → ((e : ClassId) → o ≢ Some e) → o ≡ None
 none_of None n = refl

@@ -20,6 +20,7 @@ use Rattle.init_world.proofs.Sound.{class_is}
 use Rattle.std.specs.List.{AllByRecursion}
 use Rattle.trace.specs.declared.report.Limit.{Limit}
 use Rattle.trace.specs.declared.report.Limit.TheVariants.{Memory}
+use Rattle.trace.specs.declared.report.Limits.{Limits}
 use Rattle.trace.specs.declared.report.Report.{Report}
 use Rattle.trace.specs.declared.report.ThreadOutcome.{ThreadOutcome}
 use Rattle.trace.specs.declared.report.ThreadOutcome.TheVariants as outcome
@@ -30,7 +31,7 @@ use Rattle.replayer.specs.declared.log.EventLog.{EventLog}
 use Rattle.replayer.specs.declared.run.Run.{Run}
 use Rattle.replayer.specs.Going.{IsOver, IsWhy, outcome_by}
 use Rattle.replayer.specs.Logged.{IsLog}
-use Rattle.replayer.specs.OrderedRun.{ordered_limits, IsOrderedRunOf}
+use Rattle.replayer.specs.OrderedRun.{MayGiveUp, IsOrderedRunOf}
 use Rattle.replayer.proofs.Logged.{AreZero, all_zero, lone_owner, all_of_zero, none_of_others}
 use Rattle.replayer.proofs.OneThread.{one_is_legal}
 
@@ -72,10 +73,10 @@ module _ {S : Type 0} (p : LinkedProgram) (M : Making S) where
       let one : mine 0 (label_at events c) ≡ 1 = ap (mine 0) (q ∙ ap InProgress zero_is) in
       omega (arith, counted, even, one)
 
-  outcome_is : (r : Outcome) (why : Limit) → ((e : ClassId) → r ≡ Ended e → IsWhy p M why e) → IsOutcome p M ordered_limits r (outcome_by why r)
-  outcome_is Normal why reason = refl
-  outcome_is (Abrupt e) why reason = refl
-  outcome_is (Ended e) why reason = (reason e refl).ends
+  outcome_is : (limits : Limits) → MayGiveUp M limits → (r : Outcome) (why : Limit) → ((e : ClassId) → r ≡ Ended e → IsWhy p M why e) → IsOutcome p M limits r (outcome_by why r)
+  outcome_is limits gives_up Normal why reason = refl
+  outcome_is limits gives_up (Abrupt e) why reason = refl
+  outcome_is limits gives_up (Ended e) why reason = (reason e refl).ends limits gives_up
 
   not_memory : (r : Outcome) (why : Limit) → ((e : ClassId) → r ≡ Ended e → IsWhy p M why e) → outcome_by why r ≢ outcome.Ended Memory
   not_memory Normal why reason q = cc
@@ -84,12 +85,12 @@ module _ {S : Type 0} (p : LinkedProgram) (M : Making S) where
 
   pub ordered : (w : Run S) (r : Outcome) (start : S) (main : ClassId) → IsOver p M r w → w.main ≡ main → w.start.value ≡ start → (report : Report) → report.events ≡ w.log.events.items → report.labels ≡ labels_of p w.log.events.items → report.outcomes ≡ outcome_by w.why r ∷ [] → report.output ≡ output_of w.log.events.items → IsOrderedRunOf p M start main report
   ordered w r start main over is_main is_start report events labels outcomes output = record {
-    run = record {
+    run = λ limits gives_up. record {
       legal = subst (λ (es : List Event). IsLegal p (main ∷ []) es) (sym events) (one_is_legal p main w.log.events.items (subst (λ (es : List Event). ThreadWord p 0 main es) (sym (all_of_zero w.log.events.items zeros)) (forget_thread p 0 (maker_of p M) word)) (λ t past. none_of_others t w.log.events.items (λ q. let z : 1 ≤ 0 = subst (λ n. 1 ≤ n) q past in omega (arith, z)) zeros) lawful);
       events = subst (λ (es : List Event). AllByRecursion (λ e. IsProgramEvent p 1 e) es) (sym events) over.log.events;
       labels = labels ∙ ap (labels_of p) (sym events);
       count = ap length outcomes;
-      outcomes = done;
+      outcomes = done limits gives_up;
       finished = λ c t q. none_left w.log r start w.bodies main over.log lawful word c t (ap (λ (es : List Event). label_at es c) (sym events) ∙ q);
       output = output ∙ ap output_of (sym events);
     };
@@ -104,12 +105,12 @@ module _ {S : Type 0} (p : LinkedProgram) (M : Making S) where
     word : ThreadWordOf p 0 (maker_of p M) start main w.log.events.items r w.bodies
     word = subst (λ (m : ClassId). ThreadWordOf p 0 (maker_of p M) start m w.log.events.items r w.bodies) is_main (subst (λ (s : S). ThreadWordOf p 0 (maker_of p M) s w.main w.log.events.items r w.bodies) is_start over.word)
 
-    first : IsThreadRun p M start ordered_limits 0 main (of_thread 0 report.events) (outcome_by w.why r)
-    first = subst (λ (es : List Event). IsThreadRun p M start ordered_limits 0 main es (outcome_by w.why r)) (sym (ap (of_thread 0) events ∙ all_of_zero w.log.events.items zeros)) (record { result = r; end = w.bodies; word = word; outcome = outcome_is r w.why over.reason })
+    first : (limits : Limits) → MayGiveUp M limits → IsThreadRun p M start limits 0 main (of_thread 0 report.events) (outcome_by w.why r)
+    first limits gives_up = subst (λ (es : List Event). IsThreadRun p M start limits 0 main es (outcome_by w.why r)) (sym (ap (of_thread 0) events ∙ all_of_zero w.log.events.items zeros)) (record { result = r; end = w.bodies; word = word; outcome = outcome_is limits gives_up r w.why over.reason })
 
-    done : AreOutcomes p M (start ∷ []) (main ∷ []) ordered_limits report.events report.outcomes
-    done zero m s q v =
+    done : (limits : Limits) → MayGiveUp M limits → AreOutcomes p M (start ∷ []) (main ∷ []) limits report.events report.outcomes
+    done limits gives_up zero m s q v =
         let same : main ≡ m = cc in
         let begin : start ≡ s = cc in
-        (outcome_by w.why r, ap (λ (os : List ThreadOutcome). slice_get os 0) outcomes, subst (λ (x : ClassId). IsThreadRun p M s ordered_limits 0 x (of_thread 0 report.events) (outcome_by w.why r)) same (subst (λ (x : S). IsThreadRun p M x ordered_limits 0 main (of_thread 0 report.events) (outcome_by w.why r)) begin first))
-    done (suc t) m s q v = absurd (let z : None ≡ Some m = q in cc)
+        (outcome_by w.why r, ap (λ (os : List ThreadOutcome). slice_get os 0) outcomes, subst (λ (x : ClassId). IsThreadRun p M s limits 0 x (of_thread 0 report.events) (outcome_by w.why r)) same (subst (λ (x : S). IsThreadRun p M x limits 0 main (of_thread 0 report.events) (outcome_by w.why r)) begin (first limits gives_up)))
+    done limits gives_up (suc t) m s q v = absurd (let z : None ≡ Some m = q in cc)

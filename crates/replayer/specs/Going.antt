@@ -11,6 +11,7 @@ use Rattle.init_core.specs.Standing.{Standing}
 use Rattle.init_core.specs.Stands.{ending_error}
 use Rattle.trace.specs.declared.report.Limit.{Limit}
 use Rattle.trace.specs.declared.report.Limit.TheVariants.{Memory}
+use Rattle.trace.specs.declared.report.Limits.{Limits}
 use Rattle.trace.specs.declared.report.ThreadOutcome.{ThreadOutcome}
 use Rattle.trace.specs.declared.report.ThreadOutcome.TheVariants as outcome
 use Rattle.bodies.specs.declared.does.Does.{Does}
@@ -20,11 +21,11 @@ use Rattle.bodies.specs.Runs.{IsEndedAt}
 use Rattle.bodies.specs.ThreadStands.{ThreadStands}
 use Rattle.replayer.specs.declared.run.Run.{Run}
 use Rattle.replayer.specs.Logged.{IsLog, histories}
-use Rattle.replayer.specs.OrderedRun.{ordered_limits}
+use Rattle.replayer.specs.OrderedRun.{MayGiveUp}
 
 -- the machine may end the thread at this limit, by this error; for want of memory there is no report
 pub record IsWhy {S : Type 0} (p : LinkedProgram) (M : Making S) (l : Limit) (e : ClassId) : Type 0 where
-  pub ends : IsEndedAt p M ordered_limits l e
+  pub ends : (limits : Limits) → MayGiveUp M limits → IsEndedAt p M limits l e
   pub memory : l ≢ Memory
 
 -- how the thread ended, by the result of what it did, and by what the machine ended it for, if it did

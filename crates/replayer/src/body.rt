@@ -124,6 +124,7 @@ impl<B: Bodies> Run<B> {
 
     /// What the innermost body does next, and how the thread ended where that was its end. Nobody can let a body go on that
     /// waits: it gives up. An `Err` is out of memory, of the machine or of what runs the bodies.
+    #[tactic(auto, using(crate::proofs::Acting::gives_up_waiting))]
     pub(crate) fn go_on(
         &mut self,
         alloc: Global,

@@ -1,14 +1,16 @@
-//! The ordered run of a program's one main class, by which the run on threads of its own is judged.
+//! The run of a program's one main class on a thread of its own, beside which its ordered run is held.
 
 use crate::programs::texts::Texts;
-use cli::{Asked, Named, Run, parse, write_outcomes};
+use cli::{Asked, Named, parse, write_outcomes};
+use guest_threads::{NoGate, RunFault, run_threads};
 use hierarchy::{ClassId, Program, link};
 use interpreter::Interpreter;
 use jasmin_reader::read_class;
 use jasmin_text::ClassText;
-use replayer::run_ordered;
 use std::alloc::{AllocError, Global};
-use trace::write_trace;
+use std::sync::Wait;
+use std::thread::Threads;
+use trace::{Limits, Report, write_trace};
 
 /// The most bytes of a file.
 const MOST_BYTES: usize = 1_048_576;
@@ -43,8 +45,40 @@ fn steps_of(text: Option<&str>) -> u32 {
     }
 }
 
-/// What comes of the ordered run of a main class: its output, its lines on standard error, and its trace.
-fn run_of(
+/// What the run of a main class on a thread of its own makes. An `Err` is also a thread that can't be started.
+fn report_of<R: Threads + Wait + Sync>(
+    rt: &R,
+    alloc: Global,
+    program: &Program,
+    main: ClassId,
+    steps: u32,
+) -> Result<Option<Report>, AllocError> {
+    if main.number >= program.len() {
+        return Ok(None);
+    }
+    let mut bodies = Vec::new(alloc);
+    bodies.push(Interpreter::new(alloc, steps))?;
+    let limits = Limits { steps, patience: 0 };
+    match run_threads(rt, alloc, program, &[main], bodies, limits, &NoGate) {
+        Ok(report) => Ok(Some(report)),
+        Err(RunFault::NoMemory | RunFault::NoThread) => Err(AllocError),
+    }
+}
+
+/// What comes of a run: its output, its lines on standard error, and its trace.
+fn texts_of(alloc: Global, program: &Program, report: &Report) -> Result<Texts, AllocError> {
+    let mut ran = Texts::new(alloc);
+    ran.put("stdout", report.output.as_slice())?;
+    let lines = write_outcomes(alloc, program, report.outcomes.as_slice())?;
+    ran.put("stderr", lines.as_slice())?;
+    let trace = write_trace(alloc, program, report.events.as_slice())?;
+    ran.put("trace", trace.as_slice())?;
+    Ok(ran)
+}
+
+/// What comes of the run of the class of that name on a thread of its own.
+fn run_of<R: Threads + Wait + Sync>(
+    rt: &R,
     alloc: Global,
     program: &Program,
     name: &str,
@@ -53,22 +87,16 @@ fn run_of(
     let Some(main) = program.class_named(name.as_bytes()) else {
         return Ok(None);
     };
-    if main.number >= program.len() {
-        return Ok(None);
+    match report_of(rt, alloc, program, main, steps)? {
+        Some(report) => Ok(Some(texts_of(alloc, program, &report)?)),
+        None => Ok(None),
     }
-    let report = run_ordered(alloc, program, main, Interpreter::new(alloc, steps))?;
-    let mut ran = Texts::new(alloc);
-    ran.put("stdout", report.output.as_slice())?;
-    let lines = write_outcomes(alloc, program, report.outcomes.as_slice())?;
-    ran.put("stderr", lines.as_slice())?;
-    let trace = write_trace(alloc, program, report.events.as_slice())?;
-    ran.put("trace", trace.as_slice())?;
-    Ok(Some(ran))
 }
 
-/// What comes of the ordered run that a command line asks for by one main class and a file for the trace, with that file's name;
-/// nothing where it asks for something else, or where a file is at fault.
-pub(crate) fn ordered_run<'a>(
+/// What comes of the run, on a thread of its own, that a command line asks for by one main class and a file for the trace, with
+/// that file's name; nothing where it asks for something else, or where a file is at fault.
+pub(crate) fn threaded_run<'a, R: Threads + Wait + Sync>(
+    rt: &R,
     alloc: Global,
     words: &'a [&'a str],
     files: &mut Texts,
@@ -82,7 +110,7 @@ pub(crate) fn ordered_run<'a>(
     let Some(program) = program_of(alloc, run.files.as_slice(), files)? else {
         return Ok(None);
     };
-    match run_of(alloc, &program, main, steps_of(run.steps))? {
+    match run_of(rt, alloc, &program, main, steps_of(run.steps))? {
         Some(ran) => Ok(Some((trace, ran))),
         None => Ok(None),
     }
