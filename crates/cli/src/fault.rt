@@ -70,7 +70,7 @@ impl Fault<'_> {
     }
 
     /// Writes the one line that tells of the fault.
-    pub(crate) fn tell<W: io::Write>(&self, err: &mut W) -> io::Result<()>
+    pub fn tell<W: io::Write>(&self, err: &mut W) -> io::Result<()>
         ensures { OnOk result (Appends (W.contents err.old) (W.contents err.new) (fault_line self.now)) }
     {
         match self {
