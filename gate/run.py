@@ -72,11 +72,12 @@ def main(words):
     tally = Tally()
     built = f"{ROOT}/crates/jinit/out/build.stamp"
     if kit.version() == kit.KNOWN:
-        store = Store(ROOT)
+        rt = kit.load()
+        store = Store(ROOT, rt.rtlib.files_of)
         if words:
             store.forget()
         began = time.time()
-        status = Gate(kit.load(), tally, store, HARMLESS).judge()
+        status = Gate(rt, tally, store, HARMLESS).judge()
         if os.path.isfile(PROGRAM) and not status:
             # (so that ./jinit takes the program that was proved here)
             open(built, "w").close()

@@ -13,18 +13,31 @@ HERE = os.path.dirname(os.path.realpath(__file__))
 class Store:
     """A folder with one folder a crate; none where the checkout has no folder .git."""
 
-    def __init__(self, root):
-        self.root = root
+    def __init__(self, root, files_of):
+        """`files_of` answers the files of a crate's folder."""
+        self.root, self.files_of = root, files_of
+        # By a crate's name: a sum of its own sources.
+        self.sums = {}
         self.folder = f"{root}/.git/gate" if os.path.isdir(f"{root}/.git") else None
 
     def key(self, crate, edits):
         """A sum of all that the crate's results rest on."""
-        found = hashlib.sha256(f"{kit.version()} {crate.stamp()}".encode())
+        found = hashlib.sha256(f"{kit.version()} {[self.sum_of(it) for it in [*crate.below(), crate]]}".encode())
         files = [*edits, f"{self.root}/HANDLES", *sorted(f"{HERE}/{it}" for it in os.listdir(HERE) if it.endswith(".py"))]
         for file in files:
             with open(file, "rb") as it:
                 found.update(repr((os.path.basename(file), it.read())).encode())
         return found.hexdigest()
+
+    def sum_of(self, crate):
+        """A sum of what crates.txt says of the crate, and of its own files (each read once, as many crates may stand on it)."""
+        if crate.name not in self.sums:
+            found = hashlib.sha256(repr((crate.said, crate.has_c)).encode())
+            for file in self.files_of(crate.folder):
+                with open(file, "rb") as it:
+                    found.update(repr((os.path.relpath(file, crate.folder), it.read())).encode())
+            self.sums[crate.name] = found.hexdigest()
+        return self.sums[crate.name]
 
     def forget(self):
         """Forgets all that earlier runs found."""
