@@ -19,6 +19,7 @@ pub(crate) fn method(
     Ok(MethodCode {
         stack,
         locals,
+        synchronized: false,
         parameters: Sequence::new(alloc),
         result: None,
         ops,

@@ -98,6 +98,20 @@ pub(crate) fn decide(
         | Op::IfNotGreater(_)
         | Op::IfSame(_)
         | Op::IfNotSame(_) => decide_jump_on_two(op, locals, stack, limit, top, place),
-        _ => Flow::LeadsOut,
+        Op::Switch | Op::ReturnInt | Op::ReturnReference | Op::Return => Flow::LeadsOut,
+        Op::NewArray(_) | Op::ArrayLength | Op::LoadElement(_) | Op::StoreElement(_) =>
+            Flow::LeadsOut,
+        Op::New(_) | Op::NewAbstract | Op::GetField(_, _, _) | Op::PutField(_, _, _) =>
+            Flow::LeadsOut,
+        Op::Throw | Op::EnterMonitor | Op::ExitMonitor => Flow::LeadsOut,
+        Op::CheckCast(_) | Op::CheckCastMissing | Op::InstanceOf(_) | Op::InstanceOfMissing => {
+            Flow::LeadsOut
+        }
+        Op::GetStatic(_, _) | Op::PutStatic(_, _) | Op::GetOut | Op::PutOut => Flow::LeadsOut,
+        Op::InvokeStatic(_, _) | Op::InvokeVirtual(_, _, _) | Op::InvokeInterface(_, _, _) => {
+            Flow::LeadsOut
+        }
+        Op::InvokeSpecial(_, _, _) | Op::InvokeSpecialFails(_, _, _, _) => Flow::LeadsOut,
+        Op::InvokeBuiltIn(_, _) | Op::InvokeSpecialBuiltIn(_, _) => Flow::LeadsOut,
     }
 }

@@ -1,1 +1,4 @@
 pub mod Objects
+pub mod Contents
+pub mod Instances
+pub mod Monitors

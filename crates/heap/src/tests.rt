@@ -1,13 +1,26 @@
-//! The heap of a program without classes.
+//! The heap of a program without classes, and its monitors.
 
-use crate::{Heap, HeapObject, no_class, out_of_memory};
-use hierarchy::{BuiltIn, Element, Program, ResolvedType, link};
+use crate::{Entry, Heap, Holder, Monitor, Monitors, no_class, out_of_memory};
+use descriptors::BaseType;
+use hierarchy::{BuiltIn, Element, Program, ResolvedType, Value, link};
 use std::alloc::Global;
 
-/// What an object of java/lang/Throwable fits.
+/// What any reference other than null fits.
 const ANY: ResolvedType = ResolvedType {
     dimensions: 0,
     element: Element::Any,
+};
+
+/// The type of bytes.
+const BYTE: ResolvedType = ResolvedType {
+    dimensions: 0,
+    element: Element::Base(BaseType::Byte),
+};
+
+/// The type of arrays of bytes.
+const BYTES: ResolvedType = ResolvedType {
+    dimensions: 1,
+    element: Element::Base(BaseType::Byte),
 };
 
 fn class_type(program: &Program, class: BuiltIn) -> ResolvedType {
@@ -17,31 +30,103 @@ fn class_type(program: &Program, class: BuiltIn) -> ResolvedType {
     }
 }
 
-/// Whether objects get the next references, are found by them, and fit what they are.
-fn is_right(alloc: Global) -> Option<bool> {
+/// Whether thrown objects get the next references, are found by them, and fit what they are.
+fn throws(alloc: Global) -> Option<bool> {
     let program = link(alloc, Vec::new(alloc)).ok()?;
     let mut heap = Heap::new(alloc);
     let thrown = heap.throwable(&program, BuiltIn::VerifyError).ok()?;
-    let texts = heap.texts(&program).ok()??;
-    let verify = program.built_in(BuiltIn::VerifyError);
+    let wrapped = heap.initializer_error(&program).ok()?;
+    let object = heap.new_object(&program, thrown.class).ok()??;
     Some(
         thrown.reference == 3
-            && thrown.class == verify
-            && texts == 4
-            && heap.object(&program, 3) == Some(HeapObject::Instance(verify))
-            && heap.object(&program, 4) == Some(HeapObject::Texts)
-            && heap.object(&program, 5).is_none()
-            && heap.fits(&program, class_type(&program, BuiltIn::Error), 3)
+            && thrown.class == program.built_in(BuiltIn::VerifyError)
+            && wrapped.reference == 4
+            && object == 5
+            && heap.class_of(&program, 4) == Some(wrapped.class)
+            && heap.class_of(&program, 6).is_none()
+            && heap.is_instance(&program, class_type(&program, BuiltIn::Error), 3)
             && !heap.fits(&program, class_type(&program, BuiltIn::Exception), 3)
-            && heap.fits(&program, class_type(&program, BuiltIn::Object), 4)
             && heap.fits(&program, ANY, 0)
-            && !heap.fits(&program, ANY, 5)
+            && !heap.fits(&program, ANY, 6)
+            && heap.field(&program, BYTE, 3, 0).is_none()
+            && !heap.put_field(&program, BYTE, 3, 0, Value::Int(1))
             && out_of_memory(&program).reference == 1
             && no_class(&program).reference == 2,
     )
 }
 
+/// Whether an array holds defaults and what is written to it, as its type keeps it.
+fn keeps_bytes(alloc: Global) -> Option<bool> {
+    let program = link(alloc, Vec::new(alloc)).ok()?;
+    let mut heap = Heap::new(alloc);
+    let bytes = heap.new_array(&program, BYTE, 2).ok()??;
+    Some(
+        heap.element_type(&program, bytes) == Some(BYTE)
+            && heap.length(&program, bytes) == Some(2)
+            && heap.put_element(&program, bytes, 1, Value::Int(200))
+            && !heap.put_element(&program, bytes, 2, Value::Int(200))
+            && heap.element(&program, bytes, 0) == Some(Value::Int(0))
+            && heap.element(&program, bytes, 1) == Some(Value::Int(-56))
+            && heap.is_instance(&program, BYTES, bytes)
+            && heap.is_instance(&program, class_type(&program, BuiltIn::Object), bytes)
+            && !heap.is_instance(&program, class_type(&program, BuiltIn::String), bytes)
+            && heap.class_of(&program, bytes) == Some(program.built_in(BuiltIn::Object)),
+    )
+}
+
+/// Whether nothing is made where there is no room.
+fn is_full(alloc: Global) -> Option<bool> {
+    let program = link(alloc, Vec::new(alloc)).ok()?;
+    let mut heap = Heap::new(alloc);
+    let huge = heap.new_array(&program, BYTE, usize::MAX).ok()?;
+    let most = heap.new_array(&program, BYTE, 999_996).ok()?;
+    let more = heap.new_array(&program, BYTE, 0).ok()?;
+    let thrown = heap.throwable(&program, BuiltIn::VerifyError).ok()?;
+    Some(huge.is_none() && most == Some(3) && more.is_none() && thrown.reference == 1)
+}
+
+/// Whether a monitor is held by one thread, as often as it entered it.
+fn is_held(alloc: Global) -> Option<bool> {
+    let mut monitors = Monitors::new(alloc);
+    let monitor = Monitor::Object(7);
+    let first = monitors.enter(1, monitor).ok()?;
+    let again = monitors.enter(1, monitor).ok()?;
+    let other = monitors.enter(2, monitor).ok()?;
+    let held = monitors.holder(monitor);
+    let left = monitors.exit(1, monitor);
+    let not_left = monitors.exit(2, monitor);
+    monitors.release_all(1);
+    Some(
+        first == Entry::Entered
+            && again == Entry::Entered
+            && other == Entry::Busy
+            && held
+                == Some(Holder {
+                    thread: 1,
+                    count: 2,
+                })
+            && left
+            && !not_left
+            && monitors.holder(monitor).is_none(),
+    )
+}
+
 #[test]
-fn objects_are_found_by_their_references(rt: HostRuntime) {
-    assert!(rt; is_right(rt.alloc()) == Some(true));
+fn thrown_objects_are_found_by_their_references(rt: HostRuntime) {
+    assert!(rt; throws(rt.alloc()) == Some(true));
+}
+
+#[test]
+fn arrays_keep_narrowed_values(rt: HostRuntime) {
+    assert!(rt; keeps_bytes(rt.alloc()) == Some(true));
+}
+
+#[test]
+fn a_full_heap_makes_nothing(rt: HostRuntime) {
+    assert!(rt; is_full(rt.alloc()) == Some(true));
+}
+
+#[test]
+fn a_monitor_is_held_by_one_thread(rt: HostRuntime) {
+    assert!(rt; is_held(rt.alloc()) == Some(true));
 }

@@ -3,6 +3,7 @@ pub mod BuiltIn
 pub mod BuiltInMethods
 pub mod ClassLists
 pub mod Code
+pub mod DeclaredMembers
 pub mod Fields
 pub mod FirstFault
 pub mod Found

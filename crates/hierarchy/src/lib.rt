@@ -21,12 +21,14 @@
 mod assembly;
 pub mod built_in;
 pub mod built_in_method;
+mod call_ops;
 pub mod class;
 mod class_code;
 mod class_set;
 pub mod code;
 pub mod declared_method;
 pub mod fault;
+mod field_ops;
 mod field_order;
 pub mod fields;
 pub mod laws;
@@ -49,6 +51,7 @@ mod supertype_names;
 mod supertypes;
 mod tables;
 mod texts;
+mod type_ops;
 pub mod value;
 mod walk;
 
@@ -66,7 +69,7 @@ pub use laws::{
 };
 pub use linking::link;
 pub use methods::Invoke;
-pub use op::Op;
+pub use op::{ElementKind, Op};
 pub use program::Program;
 pub use ready::ReadyObject;
 pub use selection::Call;

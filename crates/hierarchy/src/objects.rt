@@ -10,7 +10,7 @@ use crate::program::Program;
 use jasmin_text::Field;
 
 /// How many of these are instance fields.
-fn instance_count(fields: &[Field]) -> usize
+pub(crate) fn instance_count(fields: &[Field]) -> usize
     ensures count { result ≡ length (filter is_instance_field fields.now) }
     ensures within { result ≤ length fields.now }
 {
@@ -53,7 +53,7 @@ impl Program {
     }
 
     /// How many cells an object of the superclass has.
-    fn cells_above(&self, id: ClassId) -> usize
+    pub(crate) fn cells_above(&self, id: ClassId) -> usize
         ensures cells { result ≡ cells_in self.now (superclass_of self.now.classes id) }
         ensures within { result ≤ 2000000 }
     {

@@ -179,7 +179,7 @@ writes_are_held p c f top h = by (slice_get p.classes c.number) h
     of_field fields None e k = absurd k
     of_field fields (Some x) e k = kind_held p x.field_type.element x.field_type.dimensions top k
 
-    by : (o : Option Class) → IsKindOf (static_in (option_map (class_code p) o) f) top →
+    by : (o : Option Class) → IsKindOf (static_in (option_map (class_code p c) o) f) top →
         IsValueOf (slice_get (map (static_field p) (static_fields_in o)) f) (kept_by (map (static_field p) (static_fields_in o)) f (value_on_top top))
     by None k = absurd k
     by (Some class) k =

@@ -1,12 +1,13 @@
 //! Bodies made by code.
 
-ghost use Rattle.std.specs.Prelude.{◌≡◌, ◌↔◌, ◌⊎◌, IsTrue, OnErr, OnOk};
+ghost use Rattle.std.specs.Prelude.{◌≡◌, ◌↔◌, ◌⊎◌, IfOk, IsTrue, OnErr, OnOk};
 ghost use Rattle.hierarchy.specs.Subclasses.{IsError, IsThrowable};
 ghost use Rattle.hierarchy.specs.declared.class.ClassId.{ClassId as ClassFacts};
-ghost use Rattle.heap.specs.Objects.{with_texts};
+ghost use Rattle.heap.specs.Objects.{no_texts, reference_of_new, with_new};
 ghost use Rattle.init_core.specs.ProcedureWord.{GoesOn};
 ghost use Rattle.interpreter.specs.CodeRun.{Begins, Enters, IsAnswer, IsTold, Replaces, Starts, below_body, cell_of as cell_of_value, fails_by, interpreter_at_start};
 
+use crate::fitting::built_in_type;
 use crate::interpreter::Interpreter;
 use crate::methods::method_code;
 use crate::phase::Phase;
@@ -50,6 +51,15 @@ fn cell_of(value: Value) -> Cell
         Value::Null => Cell::Null,
         Value::Reference(number) => Cell::Reference(number),
     }
+}
+
+/// A new array of no texts, if the heap has room. An `Err` is want of memory, and changes nothing.
+fn new_texts(heap: &mut Heap, program: &Program) -> Result<Option<u32>, AllocError>
+    ensures reference { IfOk result (λ r. r ≡ reference_of_new program.now heap.old (no_texts program.now)) }
+    ensures made { OnOk result (heap.new ≡ with_new program.now heap.old (no_texts program.now)) }
+    ensures err { OnErr result (heap.new ≡ heap.old) }
+{
+    heap.new_array(program, built_in_type(program, BuiltIn::String), 0)
 }
 
 impl Interpreter {
@@ -144,7 +154,7 @@ impl Interpreter {
     /// Begins the method `main` of a class, if it has one, with a new array of no texts. An `Err` is want of memory.
     fn try_enter(&mut self, program: &Program, class: ClassId) -> Result<(), AllocError>
         ensures ok { OnOk result (Enters program.now self.old class self.new) }
-        ensures err { OnErr result ((self.new ≡ self.old) ⊎ (self.new ≡ record self.old { heap = with_texts program.now self.old.heap })) }
+        ensures err { OnErr result ((self.new ≡ self.old) ⊎ (self.new ≡ record self.old { heap = with_new program.now self.old.heap (no_texts program.now) })) }
     {
         let Some(code) = program.code(class.number) else {
             return Err(AllocError);
@@ -153,7 +163,7 @@ impl Interpreter {
             self.phase = Phase::Over(None);
             return Ok(());
         };
-        match self.heap.texts(program)? {
+        match new_texts(&mut self.heap, program)? {
             Some(reference) => self.begin(program, class, method, &[Cell::Reference(reference)]),
             None => {
                 self.phase = Phase::Over(Some(out_of_memory(program)));

@@ -2,12 +2,23 @@
 
 ghost use Rattle.std.specs.Prelude.{◌≡◌, ◌↔◌, IsTrue, Some, reverse};
 ghost use Rattle.frames.specs.Activations.{operands_of};
-ghost use Rattle.interpreter.specs.Leads.{is_int_type as has_ints, FitsType, IsFit, AreOnTop, IsCallable};
+ghost use Rattle.interpreter.specs.Leads.{built_in_type as type_of_built_in, is_int_type as has_ints, FitsType, IsFit, AreOnTop, IsCallable};
 ghost use Rattle.interpreter.specs.Rows.{IsKindOf};
 
 use frames::{Cell, Frames};
 use heap::Heap;
-use hierarchy::{Element, MethodCode, Program, ResolvedType};
+use hierarchy::{BuiltIn, Element, MethodCode, Program, ResolvedType};
+
+/// A built-in class as a type.
+pub(crate) fn built_in_type(program: &Program, class: BuiltIn) -> ResolvedType
+    ensures { result ≡ type_of_built_in program.now class }
+{
+    program.is_linked();
+    ResolvedType {
+        dimensions: 0,
+        element: Element::Class(program.built_in(class).number as u16),
+    }
+}
 
 /// Whether the values of a type are ints.
 pub(crate) fn is_int_type(wanted: ResolvedType) -> bool
@@ -82,6 +93,7 @@ pub(crate) fn is_callable(
 ) -> bool
     ensures { IsTrue result ↔ IsCallable program.now heap.now (Some code.now) (operands_of frames.now) }
 {
-    code.parameters.len() <= code.locals as usize
+    !code.synchronized
+        && code.parameters.len() <= code.locals as usize
         && are_on_top(frames, heap, program, code.parameters.as_slice())
 }

@@ -11,13 +11,13 @@ ghost use Rattle.interpreter.specs.Methods.{instruction_at as text_at};
 ghost use Rattle.interpreter.specs.Printing.{IsPrintable, IsPrintableBy, printed_count};
 ghost use Rattle.interpreter.specs.declared.lead.Lead.TheVariants.{Throws};
 
-use crate::fitting::{fits, is_callable, is_fit};
+use crate::fitting::{built_in_type, fits, is_callable, is_fit};
 use crate::methods::{instruction_at, method_code, static_type};
 use crate::switching::target_for;
 use frames::{Cell, FramePlace, Frames};
 use heap::Heap;
 use hierarchy::{
-    BuiltIn, BuiltInMethod, ClassId, Element, MethodCode, Op, Printed, Program, ResolvedType,
+    BuiltIn, BuiltInMethod, ClassId, MethodCode, Op, Printed, Program, ResolvedType,
 };
 
 /// What an instruction comes to that asks something of what lies outside of its frame.
@@ -61,11 +61,7 @@ fn when(allowed: bool, lead: Lead) -> Lead
 fn print_stream(program: &Program) -> ResolvedType
     ensures { result ≡ stream_type program.now }
 {
-    program.is_linked();
-    ResolvedType {
-        dimensions: 0,
-        element: Element::Class(program.built_in(BuiltIn::PrintStream).number as u16),
-    }
+    built_in_type(program, BuiltIn::PrintStream)
 }
 
 /// The int that a value is, if it is one.
@@ -165,7 +161,7 @@ fn print(
     code: &MethodCode,
     method: BuiltInMethod,
 ) -> Lead
-    ensures { LeadsTo program.now heap.now frames.now at code.now (op.InvokeBuiltIn method) result }
+    ensures { (named : _) → LeadsTo program.now heap.now frames.now at code.now (op.InvokeBuiltIn named method) result }
 {
     if !is_printable_by(program, method, frames.operand(0)) {
         return VERIFY;
@@ -310,7 +306,7 @@ pub(crate) fn lead_of(
             Some(when(fits, Lead::Drops))
         }
         Op::InvokeStatic(class, method) => call(frames, heap, program, at, code, class, method),
-        Op::InvokeBuiltIn(method) => Some(print(frames, heap, program, at, code, method)),
+        Op::InvokeBuiltIn(_, method) => Some(print(frames, heap, program, at, code, method)),
         Op::ReturnInt => Some(return_int(frames, heap, program, at, code)),
         Op::ReturnReference => Some(return_reference(frames, heap, program, at, code)),
         Op::Return => Some(when(code.result.is_none(), Lead::Returns(None))),

@@ -14,10 +14,7 @@ pub(crate) fn method_code(program: &Program, class: usize, method: usize) -> Opt
     let Some(class) = program.code(class) else {
         return None;
     };
-    match class.methods.as_slice().get(method) {
-        Some(Some(code)) => Some(code),
-        _ => None,
-    }
+    class.methods.as_slice().get(method)
 }
 
 /// The type of a static field.

@@ -1,0 +1,64 @@
+//! The elements of arrays.
+
+ghost use Rattle.std.specs.Prelude.{◌≡◌};
+ghost use Rattle.heap.specs.Contents.{PutsElement, PutsItem, array_length, element_at, element_type as element_type_of};
+ghost use Rattle.heap.specs.Objects.{cells_of_all};
+
+use crate::Heap;
+use crate::object::HeapObject;
+use hierarchy::{Program, ResolvedType, Value};
+
+/// Writes an element of the array at a place, if there is one.
+fn put_item(made: &mut Vec<HeapObject>, place: usize, index: usize, value: Value) -> bool
+    ensures put { PutsItem made.old.items place index value result made.new.items }
+    ensures cells { cells_of_all made.new.items ≡ cells_of_all made.old.items }
+{
+    if place >= made.len() {
+        return false;
+    }
+    let object = &mut made[place];
+    object.put_element(index, value)
+}
+
+impl Heap {
+    /// The type of the elements of the array to which a reference refers, if it refers to one. Takes no memory.
+    pub fn element_type(&self, program: &Program, reference: u32) -> Option<ResolvedType>
+        ensures { result ≡ element_type_of program.now self.now reference }
+    {
+        self.made_at(program, reference)?.element_type()
+    }
+
+    /// How many elements the array has to which a reference refers, if it refers to one (JVMS SE 8 6.5 arraylength). Takes no memory.
+    pub fn length(&self, program: &Program, reference: u32) -> Option<usize>
+        ensures { result ≡ array_length program.now self.now reference }
+    {
+        self.made_at(program, reference)?.length()
+    }
+
+    /// What an element of an array holds: none where the reference refers to no array with such an element (JVMS SE 8 6.5 iaload).
+    /// Takes no memory.
+    pub fn element(&self, program: &Program, reference: u32, index: usize) -> Option<Value>
+        ensures { result ≡ element_at program.now self.now reference index }
+    {
+        self.made_at(program, reference)?.element(index)
+    }
+
+    /// Writes an element of an array, which keeps an int as its type does (JVMS SE 8 6.5 iastore, bastore, castore, sastore, aastore).
+    /// Answers whether the reference refers to an array with such an element; where it doesn't, nothing changes. Takes no memory.
+    #[tactic(auto, using(crate::proofs::Puts::element_put))]
+    pub fn put_element(
+        &mut self,
+        program: &Program,
+        reference: u32,
+        index: usize,
+        value: Value,
+    ) -> bool
+        ensures { PutsElement program.now self.old reference index value result self.new }
+    {
+        if program.ready_object(reference).is_some() {
+            return false;
+        }
+        let place = (reference as usize).saturating_sub(program.ready_count());
+        put_item(&mut self.made, place, index, value)
+    }
+}

@@ -1,0 +1,227 @@
+//! Who holds the monitors of objects and classes (JLS SE 8 17.1).
+
+ghost use Rattle.std.specs.Prelude.{◌≡◌, IfOk, OnErr, OnOk, map, slice_get, slice_set};
+ghost use Rattle.heap.specs.Monitors.{Enters, Exits, entered_by, held_in, holder_of, left_once, no_holders, released, with_changed, with_entry, with_holder, with_released};
+
+use hierarchy::ClassId;
+use std::alloc::{AllocError, Global};
+use std::marker::Model;
+
+/// What has a monitor.
+#[derive(Clone, Copy, Debug, PartialEq, Eq)]
+pub enum Monitor {
+    /// The object or array to which a reference refers.
+    Object(u32),
+    /// The Class object of a class.
+    Class(ClassId),
+}
+
+/// A thread that holds a monitor.
+#[derive(Clone, Copy, Debug, PartialEq, Eq)]
+pub struct Holder {
+    /// The thread's number.
+    pub thread: u8,
+    /// How often it entered the monitor more than it left it, at least 1.
+    pub count: u64,
+}
+
+/// What came of an attempt to enter a monitor.
+#[derive(Clone, Copy, Debug, PartialEq, Eq)]
+pub enum Entry {
+    /// The thread holds the monitor once more.
+    Entered,
+    /// Another thread holds it.
+    Busy,
+}
+
+/// Who holds which monitor, and how often.
+#[derive(Debug, Drop)]
+pub struct Monitors {
+    objects: Vec<Option<Holder>>,
+    classes: Vec<Option<Holder>>,
+}
+
+impl Model for Monitors {
+    ghost use Rattle.heap.specs.Monitors.{Holders};
+
+    ghost Value = { Holders };
+
+    ghost view = { λ m. record { objects = m.objects.items; classes = m.classes.items } };
+}
+
+/// Who holds the monitor at a place.
+fn held_at(held: &[Option<Holder>], place: usize) -> Option<Holder>
+    ensures { result ≡ held_in (slice_get held.now place) }
+{
+    match held.get(place) {
+        Some(holder) => *holder,
+        None => None,
+    }
+}
+
+/// Changes who holds the monitor at a place, which nobody holds where the list ends before it. An `Err` is out of memory, and
+/// changes nothing.
+fn hold_at(
+    held: &mut Vec<Option<Holder>>,
+    place: usize,
+    holder: Option<Holder>,
+) -> Result<(), AllocError>
+    ensures ok { OnOk result (held.new.items ≡ with_entry held.old.items place holder) }
+    ensures err { OnErr result (held.new.items ≡ held.old.items) }
+{
+    if place < held.len() {
+        held[place] = holder;
+        return Ok(());
+    }
+    let Some(missing) = (place - held.len()).checked_add(1) else {
+        return Err(AllocError);
+    };
+    held.reserve(missing)?;
+    held.resize(place, None)?;
+    held.push_reserved(holder);
+    Ok(())
+}
+
+/// Changes who holds the monitor at a place, if the list has one.
+fn change_at(held: &mut Vec<Option<Holder>>, place: usize, holder: Option<Holder>)
+    ensures { held.new.items ≡ slice_set held.old.items place holder }
+{
+    if place < held.len() {
+        held[place] = holder;
+    }
+}
+
+/// Who holds a monitor after a thread entered it, none where another thread holds it. An `Err` is a count beyond 2^64 - 1.
+fn next_holder(held: Option<Holder>, thread: u8) -> Result<Option<Holder>, AllocError>
+    ensures { IfOk result (λ next. next ≡ entered_by thread held) }
+{
+    let Some(holder) = held else {
+        return Ok(Some(Holder { thread, count: 1 }));
+    };
+    if holder.thread != thread {
+        return Ok(None);
+    }
+    match holder.count.checked_add(1) {
+        Some(count) => Ok(Some(Holder { thread, count })),
+        None => Err(AllocError),
+    }
+}
+
+/// What a thread holds that left a monitor once.
+fn left(holder: Holder) -> Option<Holder>
+    ensures { result ≡ left_once holder }
+{
+    if 1 < holder.count {
+        return Some(Holder {
+            thread: holder.thread,
+            count: holder.count - 1,
+        });
+    }
+    None
+}
+
+/// What is left where a thread leaves all that it holds.
+fn released_by(thread: u8, holder: Option<Holder>) -> Option<Holder>
+    ensures { result ≡ released thread holder }
+{
+    match holder {
+        Some(held) if held.thread == thread => None,
+        _ => holder,
+    }
+}
+
+/// A thread leaves all monitors of a list that it holds.
+fn release(held: &mut [Option<Holder>], thread: u8)
+    ensures { held.new ≡ map (released thread) held.old }
+{
+    for place in 0..held.len() {
+        let holder = held[place];
+        held[place] = released_by(thread, holder);
+    }
+}
+
+impl Monitors {
+    /// The monitors before a program runs, which nobody holds. Takes no memory.
+    pub fn new(alloc: Global) -> Self
+        ensures { result ≡ no_holders }
+    {
+        Monitors {
+            objects: Vec::new(alloc),
+            classes: Vec::new(alloc),
+        }
+    }
+
+    /// Who holds a monitor. Takes no memory.
+    pub fn holder(&self, monitor: Monitor) -> Option<Holder>
+        ensures { result ≡ holder_of self.now monitor }
+    {
+        match monitor {
+            Monitor::Object(reference) => held_at(&self.objects, reference as usize),
+            Monitor::Class(class) => held_at(&self.classes, class.number),
+        }
+    }
+
+    /// Changes who holds a monitor. An `Err` is out of memory, and changes nothing.
+    fn hold(&mut self, monitor: Monitor, holder: Option<Holder>) -> Result<(), AllocError>
+        ensures ok { OnOk result (self.new ≡ with_holder self.old monitor holder) }
+        ensures err { OnErr result (self.new ≡ self.old) }
+    {
+        match monitor {
+            Monitor::Object(reference) => hold_at(&mut self.objects, reference as usize, holder),
+            Monitor::Class(class) => hold_at(&mut self.classes, class.number, holder),
+        }
+    }
+
+    /// A thread enters a monitor that nobody holds, or once more one that it holds (JVMS SE 8 6.5 monitorenter); one that another
+    /// thread holds is busy, and nothing changes.
+    ///
+    /// # Errors
+    ///
+    /// Out of memory, or the thread entered the monitor 2^64 - 1 times; nothing changes.
+    #[tactic(auto, using(crate::proofs::Held::enters_by, crate::proofs::Held::busy_by))]
+    pub fn enter(&mut self, thread: u8, monitor: Monitor) -> Result<Entry, AllocError>
+        ensures entered { IfOk result (λ entry. Enters self.old thread monitor entry self.new) }
+        ensures err { OnErr result (self.new ≡ self.old) }
+    {
+        let Some(next) = next_holder(self.holder(monitor), thread)? else {
+            return Ok(Entry::Busy);
+        };
+        self.hold(monitor, Some(next))?;
+        Ok(Entry::Entered)
+    }
+
+    /// Changes who holds a monitor that is held.
+    fn change(&mut self, monitor: Monitor, holder: Option<Holder>)
+        ensures { self.new ≡ with_changed self.old monitor holder }
+    {
+        match monitor {
+            Monitor::Object(reference) => {
+                change_at(&mut self.objects, reference as usize, holder);
+            }
+            Monitor::Class(class) => change_at(&mut self.classes, class.number, holder),
+        }
+    }
+
+    /// A thread leaves a monitor that it holds, once (JVMS SE 8 6.5 monitorexit). Answers whether it holds it; where it doesn't, nothing
+    /// changes. Takes no memory.
+    #[tactic(auto, using(crate::proofs::Held::leaves_held, crate::proofs::Held::none_held, crate::proofs::Held::other_held))]
+    pub fn exit(&mut self, thread: u8, monitor: Monitor) -> bool
+        ensures { Exits self.old thread monitor result self.new }
+    {
+        match self.holder(monitor) {
+            Some(holder) if holder.thread == thread => {
+                self.change(monitor, left(holder));
+                true
+            }
+            _ => false,
+        }
+    }
+
+    /// A thread leaves all monitors that it holds. Takes no memory.
+    pub fn release_all(&mut self, thread: u8)
+        ensures { self.new ≡ with_released self.old thread }
+    {
+        release(&mut self.objects, thread);
+        release(&mut self.classes, thread);
+    }
+}
