@@ -16,9 +16,7 @@ use crate::methods::{instruction_at, method_code, static_type};
 use crate::switching::target_for;
 use frames::{Cell, FramePlace, Frames};
 use heap::Heap;
-use hierarchy::{
-    BuiltIn, BuiltInMethod, ClassId, MethodCode, Op, Printed, Program, ResolvedType,
-};
+use hierarchy::{BuiltIn, BuiltInMethod, ClassId, MethodCode, Op, Printed, Program, ResolvedType};
 
 /// What an instruction comes to that asks something of what lies outside of its frame.
 #[derive(Clone, Copy, Debug, PartialEq, Eq)]
