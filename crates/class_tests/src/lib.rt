@@ -5,6 +5,14 @@
 #[cfg(test)]
 mod comparing;
 #[cfg(test)]
+mod frame_calls;
+#[cfg(test)]
+mod frame_runs;
+#[cfg(test)]
+mod frame_steps;
+#[cfg(test)]
+mod frame_throws;
+#[cfg(test)]
 mod handlers;
 #[cfg(test)]
 mod procedures;

@@ -2,6 +2,7 @@
 //! holds it costs its proof.
 
 use crate::comparing::{Case, agrees, differs};
+use crate::frame_throws::{Throw, throws};
 use crate::handlers::handlers;
 use crate::procedures::procedures;
 use crate::records::records;
@@ -22,6 +23,8 @@ pub(crate) enum Question {
     Procedures,
     /// Handler tables, and step 11.
     Handlers,
+    /// An object is thrown in frames.
+    Throws(Throw),
     /// Resolved instructions.
     Resolved,
     /// The text of traces.
@@ -46,6 +49,7 @@ fn answers(alloc: Global, program: &Program, question: &Question) -> Result<bool
         Question::Records => records(alloc, program),
         Question::Procedures => procedures(alloc, program),
         Question::Handlers => Ok(handlers(program)),
+        Question::Throws(throw) => throws(alloc, program, throw),
         Question::Resolved => Ok(resolved(program)),
         Question::Traces => traces(alloc, program),
         Question::Agrees(case, depth) => agrees(alloc, program, case, *depth),

@@ -22,10 +22,3 @@ pub use outcomes::{status_of_outcomes, write_outcomes};
 pub use running::{ProgramRun, run_texts};
 pub use serving::serve;
 pub use words::{Asked, Run, parse};
-
-#[cfg(test)]
-mod refusal_tests;
-#[cfg(test)]
-mod sheet_tests;
-#[cfg(test)]
-mod tests;

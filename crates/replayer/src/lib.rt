@@ -10,7 +10,5 @@ mod body;
 mod log;
 mod ordered;
 mod run;
-#[cfg(test)]
-mod tests;
 
 pub use ordered::run_ordered;

@@ -17,7 +17,7 @@ use Rattle.cli.specs.Files.{AreSpelled, Files}
 use Rattle.cli.specs.Limits.{AreLimits}
 use Rattle.cli.specs.Running.{IsRunOfNamed}
 use Rattle.cli.specs.Serving.{HasRun, IsDone, IsServed, Surroundings, around}
-use Rattle.cli.proofs.sheet_tests.trace_the_sheet.Goals as goal
+use Rattle.cli_tests.proofs.sheet.trace_the_sheet.Goals as goal
 
 abbrev words : List Text
 words = codes "jinit" ∷ codes "run" ∷ codes "--mains" ∷ codes "Solo" ∷ codes "--trace" ∷ codes "sheet" ∷ codes "sheet" ∷ []

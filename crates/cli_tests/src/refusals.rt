@@ -2,7 +2,7 @@
 
 ghost use Rattle.std.specs.Prelude.{◌≤◌, vec_len, IfOk};
 
-use crate::{Named, NamedFault, serve};
+use cli::{Named, NamedFault, serve};
 use std::alloc::Global;
 use std::io;
 use std::sync::Wait;

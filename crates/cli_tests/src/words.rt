@@ -1,7 +1,7 @@
 //! What the words of the command line ask for, and the exit status of a fault. Runs of the whole program are cases of
 //! the crate `cases`.
 
-use crate::{Asked, Fault, parse};
+use cli::{Asked, Fault, parse};
 use std::test::Fail;
 
 #[test]

@@ -63,6 +63,13 @@ pub(crate) fn push(frames: &mut Frames, value: Cell) {
     }
 }
 
+/// Pushes these operands, where they have room.
+pub(crate) fn push_all(frames: &mut Frames, values: &[Cell]) {
+    for value in values {
+        push(frames, *value);
+    }
+}
+
 /// Drops so many operands, where they are there.
 #[tactic(auto, using(std::proofs::lemmas::Option::slice_get_within))]
 pub(crate) fn drop_operands(frames: &mut Frames, count: usize) {
@@ -75,7 +82,7 @@ pub(crate) fn drop_operands(frames: &mut Frames, count: usize) {
 }
 
 /// Why a run of instructions stops.
-#[derive(Clone, Copy, Debug, PartialEq, Eq)]
+#[derive(Clone, Copy, PartialEq, Eq)]
 pub(crate) enum Reason {
     Limit,
     PastTheEnd,

@@ -1,39 +1,12 @@
-//! Runs of classes some of whose methods have code, with no bodies that are run.
+//! Runs in order of classes some of whose methods have code, with no bodies that are run.
 
-use crate::run_ordered;
+use crate::runs::linked;
 use bodies::NoCode;
-use hierarchy::{ClassId, Program, link};
+use hierarchy::{ClassId, Program};
 use init_core::Label;
-use jasmin_reader::read_class;
-use jasmin_text::ClassText;
+use replayer::run_ordered;
 use std::alloc::{AllocError, Global};
 use trace::{Report, write_trace};
-
-/// Adds the class of a file, and tells whether it is read.
-fn add_text(alloc: Global, file: &[u8], classes: &mut Vec<ClassText>) -> bool {
-    match read_class(alloc, file) {
-        Ok(text) => classes.push(text).is_ok(),
-        Err(_) => false,
-    }
-}
-
-/// Adds the classes of the files, and tells whether all are read.
-fn add_texts(alloc: Global, files: &[&[u8]], classes: &mut Vec<ClassText>) -> bool {
-    for file in files {
-        if !add_text(alloc, file, classes) {
-            return false;
-        }
-    }
-    true
-}
-
-fn linked(alloc: Global, files: &[&[u8]]) -> Option<Program> {
-    let mut classes = Vec::new(alloc);
-    if !add_texts(alloc, files, &mut classes) {
-        return None;
-    }
-    link(alloc, classes).ok()
-}
 
 fn label_line(label: Label) -> &'static [u8] {
     match label {

@@ -1,7 +1,7 @@
 use Rattle.std.proofs.Common.{ℕ, List, [], ◌∷◌, map, sym, ap, ◌∙◌, subst, IsPermutation}
 use Rattle.std.proofs.lemmas.List.Sorted.{IsPermutation-append_comm}
 use Rattle.init_lock.specs.Closing.{numbers}
-use Rattle.init_lock.proofs.tests.finishes_in_any_order.Goals as goal
+use Rattle.thread_tests.proofs.lock.finishes_in_any_order.Goals as goal
 
 pub finish-closed-requires-clause-passes : goal.finish-closed-requires-clause-passes
 finish-closed-requires-clause-passes g c =

@@ -13,7 +13,7 @@ ghost use Rattle.trace.specs.declared.report.Report.{Report};
 ghost use Rattle.cli.specs.Limits.{AreLimits};
 ghost use Rattle.cli.specs.Running.{IsRunOfNamed};
 
-use crate::{Named, NamedFault, serve};
+use cli::{Named, NamedFault, serve};
 use std::alloc::Global;
 use std::sync::Wait;
 use std::test::Fail;

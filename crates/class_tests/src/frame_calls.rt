@@ -1,6 +1,6 @@
-//! Calls and returns.
+//! Calls and returns of frames.
 
-use crate::steps::{Reason, begin, call, method, push, reason_of};
+use crate::frame_steps::{Reason, begin, call, method, push, reason_of};
 use frames::{Cell, FramePlace, Frames};
 use hierarchy::{MethodCode, Op};
 use std::alloc::{AllocError, Global};

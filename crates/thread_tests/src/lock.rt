@@ -1,13 +1,9 @@
-//! The calls on a small record, on one thread and on two.
+//! The calls of the lock on a small record, on one thread and on two.
+
 ghost use Rattle.std.specs.Prelude.{◌≡◌, ◌+◌, ◌<◌, ◌≤◌, [], vec_len, Some, IfOk};
 ghost use Rattle.init_lock.specs.Known.{seen_at, out_of, IsAway, IsAwayBut, IsSamePass};
 
-use crate::finish::Closed;
-use crate::keeps::Keeps;
-use crate::merging::merge;
-use crate::pass::{Held, Pass};
-use crate::table::InitTable;
-use crate::take::GaveUp;
+use init_lock::{Closed, GaveUp, Held, InitTable, Keeps, Pass, merge};
 use std::alloc::{AllocError, Global};
 use std::sync::Wait;
 use std::test::Fail;
