@@ -102,8 +102,12 @@ class Edits:
         """Whether the prover refuses the crate with this edit alone, and what to say; over the kept work, and where that
         doesn't refuse it, from nothing."""
         with copied(self.kept) as room:
-            tried = self.rt.must_fail(self.crate, edit, ["--jobs", "1"], f"{room}/kept")
-        return tried if tried[0] else self.rt.must_fail(self.crate, edit, ["--jobs", "1"])
+            tried = self.tried(edit, f"{room}/kept")
+        return tried if tried[0] else self.tried(edit)
+
+    def tried(self, edit, *kept):
+        kind, text = self.rt.must_fail(self.crate, edit, ["--jobs", "1"], *kept)
+        return kind in (self.rt.REFUSED, self.rt.AT_LIMIT), text
 
 
 class copied:

@@ -64,7 +64,7 @@ class Gate:
 
     def judge(self):
         """Runs the kit's gate so, and answers its exit status."""
-        self.original = {it: getattr(self.rt, it) for it in ("crates_of", "in_lanes", "run", "put_back")}
+        self.original = {it: getattr(self.rt, it) for it in ("crates_of", "add_edits", "in_lanes", "run", "put_back")}
         for name in self.original:
             setattr(self.rt, name, getattr(self, name))
         self.rt.Crate = self.crate_class()
@@ -74,7 +74,7 @@ class Gate:
         self.rt.rtlib.VERDICT = re.compile(line.pattern.replace(end, r" statements=trusted(?: incremental=trusted)?\n"), re.M)
         sys.stdout = Lines()
         try:
-            return self.rt.ci()
+            return self.rt.ci(anew=True)
         finally:
             said, sys.stdout = "".join(sys.stdout.all), sys.__stdout__
             if not self.crates:
@@ -117,8 +117,8 @@ class Gate:
 
         return Crate
 
-    def crates_of(self, root, aside):
-        found = self.original["crates_of"](root, aside)
+    def crates_of(self, root):
+        found = self.original["crates_of"](root)
         for it in found:
             self.crates[it.name] = it
             self.keys[it.name] = self.store.key(it, [*self.rt.edits_of(it)[0], self.harmless])
@@ -128,6 +128,12 @@ class Gate:
         if known:
             say(f"unchanged since an earlier run in this checkout, and taken from it: {' '.join(known)}")
         return found
+
+    def add_edits(self, tasks, crate, edits, below, waits, *_):
+        """Adds one task in place of a crate's edits, and returns what gives their results as the kit's script has them."""
+        tasks[crate.name, "edits"] = waits, crate.count(rb"\n"), 0, None
+        kinds = {True: self.rt.REFUSED, False: self.rt.MISSED}
+        return lambda given: [(kinds[bool(it)], text) for it, text in given[crate.name, "edits"][2]], dict
 
     def in_lanes(self, tasks):
         """Has a crate's tests and edits wait for its proof, whose work they take, and tries its edits by several tasks."""
