@@ -1,0 +1,2 @@
+.class public Spare
+.super Part
