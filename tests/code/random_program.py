@@ -1,275 +1,193 @@
-"""Makes programs at random, most of whose instructions find what they want, and writes them as Jasmin files."""
+"""Makes programs at random, most of whose instructions find what they want."""
 
-from machine import COMPUTED, CONVERTED, JUMPS, MOVED
-from program import INTS, LANG, OBJECT, STREAM, SYSTEM, TEXT, TEXTS, Class, Field, Method, signature
+from arithmetic import JUMPS, SWITCHES
+from expressions import NUMBERS, STRINGS
+from hierarchy import Program
+from program import (
+    CLINIT, INIT, INTS, LANG, LIBRARY_THROWABLES, MAIN, OBJECT, OBJECT_TYPE, TEXT_TYPE, TEXTS, THROWABLE, Class, Field, Method, signature
+)
+from statements import HERE, Statements
 
-NUMBERS = [0, 1, -1, 2, 3, 7, 31, 32, 33, 255, 256, -129, 32768, 65535, 65536, 2147483647, -2147483648, 0xD800, 0x20AC]
-STRINGS = ["a", "b", "", "text", "é", 'tab\t"quoted"\\', "\n"]
-THROWABLES = (
+CAUGHT = (
     "ArithmeticException RuntimeException Exception Throwable Error LinkageError NoClassDefFoundError VerifyError "
     "ExceptionInInitializerError NullPointerException StackOverflowError IncompatibleClassChangeError Object String"
 ).split()
-STRING, THROWABLE = f"L{TEXT};", f"L{LANG}Throwable;"
-TYPES = ["I", "I", "I", "Z", "B", "C", "S", STRING, STRING, THROWABLE, "LI;", "LA;", "LGone;", "[I", TEXTS]
-DESCRIPTORS = ["()V", "()V", "(I)V", "()I", "(I)I", "(II)I", f"({STRING}){STRING}", f"({STRING})V", f"(I{STRING})I", "()Z"]
-INT_LOCALS, TEXT_LOCALS = range(2, 6), range(6, 9)
-COMPARING = [word for word in JUMPS if word != "goto"]
+TYPES = ["I", "I", "I", "Z", "B", "C", "S", TEXT_TYPE, TEXT_TYPE, f"L{THROWABLE};", "LI;", "LA;", "LGone;", "[I", TEXTS]
+DESCRIPTORS = ["()V", "()V", "(I)V", "()I", "(I)I", "(II)I", f"({TEXT_TYPE}){TEXT_TYPE}", f"({TEXT_TYPE})V", f"(I{TEXT_TYPE})I", "()Z"]
+INIT_DESCRIPTORS = ["()V", "()V", "()V", "(I)V", f"({TEXT_TYPE})V"]
+INT_LOCALS, TEXT_LOCALS, OTHER_LOCALS = range(4, 8), range(8, 11), range(11, 15)
+LOCALS = 15
 
 
-class Maker:
-    """Makes one program. A statement is a list of instructions with no operands before and after; a label in it is a number of a
-    statement until all are there."""
+class Maker(Statements):
+    """Makes one program: with objects, or with static members, arithmetic and prints alone. With `junk` among its instructions."""
 
-    def __init__(self, random, junk):
-        self.random, self.junk = random, junk
+    def __init__(self, random, junk, with_objects):
+        self.random, self.junk, self.with_objects = random, junk, with_objects
         self.classes = []
-        for names, is_interface in (("IJK"[: random.randint(0, 3)], True), ("ABCDE"[: random.randint(2, 5)], False)):
+        for names, is_interface in (("IJKL"[: random.randint(0, 4)], True), ("ABCDE"[: random.randint(2, 5)], False)):
             for name in names:
                 self.classes.append(self.declared(name, is_interface))
-        own = [each for each in self.classes if not each.is_interface or random.random() < 0.05]
+        self.program = Program(self.classes)
+        self.set_types()
+        for each in self.classes:
+            self.add_members(each)
+        own = [each for each in self.classes if not each.is_interface or self.chance(0.05)]
         self.main = random.choice(own)
-        if random.random() < 0.93:
-            self.main.methods.append(Method("main", f"({TEXTS})V", True))
+        if self.chance(0.93):
+            self.main.methods.append(Method(*MAIN, True, is_synchronized=self.with_objects and self.chance(0.05)))
+        self.rare = 0.1 if self.chance(0.5) else 0.02
         for each in self.classes:
             for method in each.methods:
                 if not method.is_abstract:
-                    self.fill(method)
+                    self.fill(each, method)
         random.shuffle(self.classes)
+        self.program = Program(self.classes)
+
+    # Declarations
 
     def declared(self, name, is_interface):
         random = self.random
         interfaces = [each.name for each in self.classes if each.is_interface]
         above = [OBJECT] + [each.name for each in self.classes if not each.is_interface and not is_interface]
+        if self.with_objects and not is_interface:
+            above = [*above, *above, random.choice(LIBRARY_THROWABLES + [LANG + "Error", LANG + "Exception"] * 5)]
         some = random.sample(interfaces, random.randint(0, len(interfaces)))
-        made = Class(name, is_interface, random.choice(above), some)
-        for field_name, type in self.pairs("xy", TYPES):
-            made.fields.append(self.field(field_name, type))
-        for method_name, descriptor in self.pairs("fgh", DESCRIPTORS):
-            is_static = random.random() < 0.85
-            is_abstract = not is_static and random.random() < 0.4
-            is_private = not is_abstract and random.random() < 0.1
-            made.methods.append(Method(method_name, descriptor, is_static, is_abstract, is_private))
-        if random.random() < 0.75:
-            made.methods.append(Method("<clinit>", "()V", True))
-        random.shuffle(made.methods)
-        return made
+        is_abstract = self.with_objects and not is_interface and self.chance(0.12)
+        return Class(name, is_interface, random.choice(above), some, is_abstract=is_abstract)
 
-    def pairs(self, names, types):
-        """Names with types, each pair once."""
-        count = self.random.randint(0, 4)
-        return dict.fromkeys((self.random.choice(names), self.random.choice(types)) for _ in range(count))
+    def set_types(self):
+        """The types of fields, parameters and locals, and the names and descriptors that methods may have."""
+        random = self.random
+        names = [each.name for each in self.classes]
+        self.types, self.descriptors = TYPES, DESCRIPTORS
+        if self.with_objects:
+            arrays = [f"[{type}" for type in "IZBCS"] + [f"[L{name};" for name in names] + ["[[I", "[" + OBJECT_TYPE, "[[LA;"]
+            self.types = [*TYPES[:8], OBJECT_TYPE, *(f"L{name};" for name in names * 2), "LGone;", *arrays, f"L{THROWABLE};"]
+            some = lambda: random.choice(self.types)
+            more = [f"({some()})V", f"(){some()}", f"({some()}){some()}", f"(I{some()})V", f"()L{random.choice(names)};"]
+            self.descriptors = random.sample([*DESCRIPTORS[:6], *more], 5)
+        self.reference_types = [each for each in self.types if each not in INTS]
+        self.method_keys = [(name, each) for name in "fgh" for each in self.descriptors]
+        self.field_keys = [(name, each) for name in "xy" for each in self.types]
+        if self.with_objects:
+            self.method_keys = random.sample(self.method_keys, 5)
+            self.field_keys = random.sample(self.field_keys, 9)
+
+    def some(self, keys):
+        """Some of these, each once."""
+        return dict.fromkeys(self.random.choice(keys) for _ in range(self.random.randint(0, 4)))
+
+    def add_members(self, each):
+        random = self.random
+        each.fields = [self.field(*key) for key in self.some(self.field_keys)]
+        static_share = 0.3 if self.with_objects else 0.85
+        for key in self.some(self.method_keys):
+            is_static = self.chance(static_share)
+            is_abstract = not is_static and self.chance(0.4 if each.is_interface or not self.with_objects else 0.12)
+            is_private = self.chance(0.02 if is_abstract else 0.12)
+            is_synchronized = self.with_objects and self.chance(0.15)
+            each.methods.append(Method(*key, is_static, is_abstract, is_private, is_synchronized))
+        if self.with_objects and self.chance(0.03 if each.is_interface else 0.85):
+            for _, descriptor in self.some([("<init>", one) for one in INIT_DESCRIPTORS]) or [INIT]:
+                is_static = self.chance(0.04)
+                each.methods.append(Method("<init>", descriptor, is_static, not is_static and self.chance(0.03)))
+        if self.chance(0.6 if self.with_objects else 0.75):
+            each.methods.append(Method(*CLINIT, True, is_synchronized=self.with_objects and self.chance(0.1)))
+        random.shuffle(each.methods)
 
     def field(self, name, type):
         constant = None
-        if self.random.random() < 0.4 and (type in INTS or type == STRING):
+        if self.chance(0.4) and (type in INTS or type == TEXT_TYPE):
             constant = self.random.choice(NUMBERS if type in INTS else STRINGS)
-        return Field(name, type, self.random.random() < 0.92, constant)
-
-    # Expressions, which give one value
-
-    def named(self, owner):
-        """The class that declares a member, or another that may not have it."""
-        others = [each.name for each in self.classes] + ["Gone", OBJECT]
-        return self.random.choice(others) if self.random.random() < 0.07 else owner
-
-    def read(self, types):
-        """A read of a field of one of these types, perhaps."""
-        found = [(each.name, one) for each in self.classes for one in each.fields if one.type in types]
-        if not found:
-            return None
-        owner, field = self.random.choice(found)
-        return [("getstatic", self.named(owner), field.name, field.type)]
-
-    def call(self, results, depth):
-        """A call of a method with one of these results, perhaps."""
-        found = [(each.name, one) for each in self.classes for one in each.methods if signature(one.descriptor)[1] in results]
-        found = [each for each in found if each[1].name != "main"]
-        if not found:
-            return None
-        owner, method = self.random.choice(found)
-        arguments = [each for type in signature(method.descriptor)[0] for each in self.value(type, depth + 1)]
-        return arguments + [("invokestatic", self.named(owner), method.name, method.descriptor)]
-
-    def int(self, depth=0):
-        random, chance = self.random, self.random.random()
-        if depth > 3 or chance < 0.35:
-            return [("ldc", random.choice(NUMBERS))]
-        if chance < 0.5:
-            return [("iload", random.choice(INT_LOCALS))]
-        made = self.read(INTS) if chance < 0.65 else self.call("IZ", depth) if chance < 0.8 else None
-        if made:
-            return made
-        if chance < 0.87:
-            return self.int(depth + 1) + [(random.choice(list(CONVERTED)),)]
-        second = [("ldc", random.choice(NUMBERS))] if random.random() < 0.5 else self.int(depth + 1)
-        return self.int(depth + 1) + second + [(random.choice(list(COMPUTED)),)]
-
-    def text(self, depth=0):
-        chance = self.random.random()
-        if depth > 3 or chance < 0.5:
-            return [("ldc", self.random.choice(STRINGS))]
-        made = self.read([STRING]) if chance < 0.7 else self.call([STRING], depth) if chance < 0.85 else None
-        return made or [self.random.choice([("aconst_null",), ("aload", self.random.choice(TEXT_LOCALS))])]
-
-    def value(self, type, depth=0):
-        if type in INTS:
-            return self.int(depth)
-        if type == STRING or self.random.random() < 0.3:
-            return self.text(depth)
-        stream = ("getstatic", SYSTEM, "out", f"L{STREAM};")
-        return [self.random.choice([("aconst_null",), ("aload", 0), ("aload", self.random.choice(TEXT_LOCALS)), stream])]
-
-    # Statements
-
-    def statement(self):
-        kinds = [self.print, self.print, self.write, self.write, self.store, self.store, self.drop, self.jump, self.throw]
-        return self.random.choice(kinds)() or [("nop",)]
-
-    def print(self):
-        type = self.random.choice(["I", "I", "C", "Z", STRING])
-        print = ("invokevirtual", STREAM, self.random.choice(["print", "println"]), f"({type})V")
-        return [("getstatic", SYSTEM, "out", f"L{STREAM};"), *self.value(type), print]
-
-    def write(self):
-        found = [(each.name, one) for each in self.classes for one in each.fields]
-        if not found:
-            return None
-        owner, field = self.random.choice(found)
-        return self.value(field.type) + [("putstatic", self.named(owner), field.name, field.type)]
-
-    def store(self):
-        if self.random.random() < 0.3:
-            return self.text() + [("astore", self.random.choice(TEXT_LOCALS))]
-        if self.random.random() < 0.3:
-            return [("iinc", self.random.choice(INT_LOCALS), self.random.randint(-3, 3))]
-        return self.int() + [("istore", self.random.choice(INT_LOCALS))]
-
-    def drop(self):
-        return self.call("V", 0) if self.random.random() < 0.8 else self.int() + [("pop",)]
-
-    def throw(self):
-        null_stream = [("aconst_null",), ("invokevirtual", STREAM, "println", "()V")]
-        division = [("ldc", 1), *self.int(), ("idiv",), ("pop",)]
-        return self.random.choice([division, division, self.print(), self.print(), null_stream, [("getstatic", "Gone", "x", "I"), ("pop",)]])
-
-    def jump(self):
-        word = self.random.choice(COMPARING + ["goto", "tableswitch", "lookupswitch"])
-        if word == "tableswitch":
-            low = self.random.randint(-2, 3)
-            return self.int() + [(word, dict.fromkeys(range(low, low + self.random.randint(0, 4))), None)]
-        if word == "lookupswitch":
-            return self.int() + [(word, dict.fromkeys(sorted(self.random.sample(NUMBERS, self.random.randint(0, 4)))), None)]
-        kinds = JUMPS[word][0]
-        return [each for kind in kinds for each in (self.int() if kind is int else self.text())] + [(word, None)]
-
-    def junk_word(self):
-        random = self.random
-        word = random.choice([*MOVED, "iadd", "ineg", "aconst_null", "iload", "aload", "istore", "astore", "iinc", "return", "ireturn", "areturn"])
-        if word == "iinc":
-            return word, random.choice([0, 2, 6, 1024]), 1
-        return (word, random.choice([0, 1, 2, 6, 1023, 1024, 65535])) if word in ("iload", "aload", "istore", "astore") else (word,)
+        return Field(name, type, self.chance(0.5 if self.with_objects else 0.92), constant)
 
     # Bodies
 
-    def fill(self, method):
+    def fill(self, owner, method):
         random = self.random
+        self.owner, self.method, self.ints, self.typed = owner, method, list(INT_LOCALS), {}
+        self.kept = {number: TEXT_TYPE for number in TEXT_LOCALS}
+        types = ([] if method.is_static else [f"L{owner.name};"]) + signature(method.descriptor)[0]
+        self.ints += [number for number, type in enumerate(types) if type in INTS]
+        self.typed |= {number: type for number, type in enumerate(types) if type not in INTS}
         statements = []
-        if random.random() < 0.95:
-            numbers = [each for at in INT_LOCALS for each in (("ldc", random.randint(-2, 6)), ("istore", at))]
-            texts = [each for at in TEXT_LOCALS for each in (("ldc", random.choice(STRINGS)), ("astore", at))]
-            statements.append(numbers + texts)
-        statements += [self.statement() for _ in range(random.randint(1, 10 if method.name == "main" else 6))]
+        if self.with_objects and self.chance(0.04) and method.key not in (MAIN, CLINIT):
+            statements.append(self.recursion())
+        elif self.chance(0.2 if self.with_objects and method.name == "<init>" else 0.95):
+            statements.append(self.start())
+        if method.name == "<init>" and self.chance(0.9):
+            statements.insert(0, [("aload", 0), ("invokespecial", owner.superclass, *INIT)])
+        is_start = method.name in ("main", "<clinit>")
+        if self.with_objects and self.chance(0.03 if is_start else 0.01):
+            statements += self.filling()
+        statements += [self.statement() for _ in range(random.randint(*self.length(method)))]
+        if method.is_synchronized and not method.is_static and self.chance(0.3):
+            statements.append([("aload", 0), ("monitorexit",)])
         result = signature(method.descriptor)[1]
-        if random.random() < 0.97:
+        if self.chance(0.97) or not statements:
             end = {"V": "return"}.get(result, "ireturn" if result in INTS else "areturn")
             statements.append(([] if result == "V" else self.value(result)) + [(end,)])
         self.lay(method, statements)
-        rare = 0.02 if method.name in ("main", "<clinit>") else 0.1
-        if random.random() < rare:
+        rare = self.rare / 2 if is_start else self.rare
+        if self.chance(rare):
             method.stack = random.randint(0, 4)
-        if random.random() < rare:
-            method.locals = random.choice([0, 1, 2, 9, 9])
+        if self.chance(rare):
+            method.locals = random.choice([0, 1, 2, LOCALS, LOCALS])
+
+    def length(self, method):
+        """The least and the most number of statements."""
+        if self.with_objects and method.name == "<init>":
+            return (0, 1)
+        return (1, 12) if method.name == "main" else (1, 4) if self.with_objects and method.name != "<clinit>" else (1, 6)
+
+    def start(self):
+        """Gives the locals their first values."""
+        random = self.random
+        made = [each for at in INT_LOCALS for each in (("ldc", random.randint(-2, 6)), ("istore", at))]
+        made += [each for at in TEXT_LOCALS for each in (("ldc", random.choice(STRINGS)), ("astore", at))]
+        self.typed |= self.kept
+        if self.with_objects:
+            for at in random.sample(OTHER_LOCALS, random.randint(0, 3)):
+                self.kept[at] = random.choice(self.reference_types)
+                made += self.value(self.kept[at], 1) + [("astore", at)]
+                self.typed[at] = self.kept[at]
+        return made
 
     def lay(self, method, statements):
         """Puts the statements behind one another, junk among them, and gives jumps and handlers their places."""
         random, places = self.random, []
         for each in statements:
-            while random.random() < self.junk:
+            while self.chance(self.junk):
                 each.insert(random.randint(0, len(each)), self.junk_word())
             places.append(len(method.code))
             method.code += each
         places.append(len(method.code))
         method.code = [self.placed(each, at, places) for at, each in enumerate(method.code)]
         for _ in range(random.randint(0, 2)):
-            self.handle(method, *sorted(random.sample(places, 2)), random.choice(places))
-        if random.random() < 0.85:
+            self.handle(method, *sorted(random.choices(places, k=2)), random.choice(places))
+        if self.chance(0.85):
             for first, last in zip(places[:-2], places[1:-1]):
                 self.handle(method, first, last, last)
 
     def placed(self, instruction, at, places):
         """A jump with its places, more of them forward."""
         word, *operands = instruction
+        if operands and operands[0] == HERE:
+            return word, max(each for each in places if each <= at)
         ahead = [each for each in places if each > at]
-        target = lambda: self.random.choice(ahead if self.random.random() < 0.85 else places)
+        target = lambda: self.random.choice(ahead if self.chance(0.85) else places)
         if word in JUMPS:
             return word, target()
-        if word in ("tableswitch", "lookupswitch"):
+        if word in SWITCHES:
             return word, {key: target() for key in operands[0]}, target()
         return instruction
 
     def handle(self, method, first, last, next):
         """A handler behind the last instruction, which drops or keeps the object and goes on there."""
         random = self.random
-        caught = random.choice(["all"] * 40 + [*(LANG + each for each in THROWABLES), "Gone", "A"])
+        own = [each.name for each in self.classes if self.program.is_subclass(each.name, THROWABLE)]
+        caught = random.choice(["all"] * 40 + [*(LANG + each for each in CAUGHT), "Gone", "A", *own])
         method.handlers.append((caught, first, last, len(method.code)))
         keep = random.choice([("pop",), ("pop",), ("astore", random.choice(TEXT_LOCALS))])
         method.code += [keep, ("goto", next)]
-
-
-# Files
-
-
-def file_of(each):
-    kind = ".interface" if each.is_interface else ".class"
-    lines = [f"{kind} {each.name}", f".super {each.superclass}", *(f".implements {name}" for name in each.interfaces)]
-    for field in each.fields:
-        constant = "" if field.constant is None else f" = {spelled(field.constant)}"
-        lines.append(f".field {'static ' * field.is_static}{field.name} {field.type}{constant}")
-    for method in each.methods:
-        lines += method_lines(method)
-    return "\n".join(lines) + "\n"
-
-
-def method_lines(method):
-    words = "static " * method.is_static + "abstract " * method.is_abstract + "private " * method.is_private
-    lines = [f".method {words}{method.name}{method.descriptor}"]
-    if not method.is_abstract:
-        lines += [f".limit stack {method.stack}", f".limit locals {method.locals}"]
-        lines += [f".catch {name} from L{first} to L{last} using L{to}" for name, first, last, to in method.handlers]
-        for place, instruction in enumerate(method.code):
-            lines += [f"L{place}:", *instruction_lines(*instruction)]
-        lines.append(f"L{len(method.code)}:")
-    return [*lines, ".end method"]
-
-
-def instruction_lines(word, *operands):
-    if word == "tableswitch":
-        targets, default = operands
-        return [f"{word} {min(targets, default=0)}", *(f"L{to}" for to in targets.values()), f"default : L{default}"]
-    if word == "lookupswitch":
-        targets, default = operands
-        return [word, *(f"{key} : L{to}" for key, to in targets.items()), f"default : L{default}"]
-    if word in JUMPS:
-        return [f"{word} L{operands[0]}"]
-    if word in ("getstatic", "putstatic"):
-        return [f"{word} {operands[0]}/{operands[1]} {operands[2]}"]
-    if word in ("invokestatic", "invokevirtual"):
-        return [f"{word} {operands[0]}/{operands[1]}{operands[2]}"]
-    return [" ".join([word, *map(spelled, operands)])]
-
-
-def spelled(value):
-    if isinstance(value, int):
-        return str(value)
-    escapes = {'"': '\\"', "\\": "\\\\", "\n": "\\n", "\t": "\\t"}
-    return '"' + value.translate(str.maketrans(escapes)) + '"'

@@ -1,0 +1,167 @@
+"""Makes statements at random: lists of instructions with no operands before and after. A jump has None, or HERE for the start of
+its own statement, in place of where it goes until all statements are there."""
+
+from arithmetic import COMPUTED, CONVERTED, JUMPS, MOVED, SWITCHES
+from expressions import NUMBERS, OUT, STRINGS, Expressions
+from instructions import ARRAY_LOADS, ARRAY_STORES
+from program import INTS, LANG, LIBRARY_THROWABLES, MAIN, OBJECT_TYPE, STREAM, TEXT, TEXT_TYPE, THROWABLE, signature
+
+COMPARING = [word for word in JUMPS if word != "goto"]
+HERE = "here"
+LOCALS = ["iload", "aload", "istore", "astore"]
+RETURNS = ["return", "ireturn", "areturn"]
+STATIC_MEMBERS = ["getstatic", "putstatic", "invokestatic"]
+MEMBERS = ["getfield", "putfield", "invokevirtual", "invokespecial", "invokeinterface"]
+TYPED = ["new", "anewarray", "checkcast", "instanceof"]
+JUNK = [*MOVED, *MOVED, *COMPUTED, *CONVERTED, *COMPARING, *SWITCHES, *LOCALS, *RETURNS, *STATIC_MEMBERS, "aconst_null", "ldc", "iinc"]
+OBJECT_JUNK = [*ARRAY_LOADS, *ARRAY_STORES, *MEMBERS, *TYPED, "newarray", "arraylength", "athrow", "monitorenter", "monitorexit"]
+
+
+class Statements(Expressions):
+    def statement(self):
+        kinds = [self.print, self.print, self.write, self.write, self.store, self.store, self.drop, self.jump, self.throw]
+        kinds += [self.wrong] if self.chance(0.5) else []
+        if self.with_objects:
+            kinds += [self.drop, self.drop, self.write, self.store, self.store_element, self.store_element, self.throw_object]
+            kinds += [self.lock, self.create, self.check]
+        return self.random.choice(kinds)() or [("nop",)]
+
+    def print(self):
+        type = self.random.choice(["I", "I", "C", "Z", TEXT_TYPE, None])
+        word = "invokespecial" if self.with_objects and self.chance(0.03) else "invokevirtual"
+        stream = self.value(f"L{STREAM};") if self.with_objects and self.chance(0.1) else [OUT]
+        if type is None:
+            return [*stream, (word, STREAM, "println", "()V")]
+        return [*stream, *self.value(type), (word, STREAM, self.random.choice(["print", "println"]), f"({type})V")]
+
+    def write(self):
+        found = [(each.name, one) for each in self.classes for one in each.fields]
+        if not found:
+            return None
+        owner, field = self.random.choice(found)
+        name = self.named(owner)
+        if not self.with_objects or field.is_static != self.chance(0.02):
+            return self.value(field.type) + [("putstatic", name, field.name, field.type)]
+        return self.value(f"L{name};") + self.value(field.type) + [("putfield", name, field.name, field.type)]
+
+    def store(self):
+        if self.chance(0.4 if self.with_objects else 0.3):
+            number = self.random.choice(sorted(self.kept))
+            self.typed[number] = self.kept[number]
+            return self.value(self.kept[number]) + [("astore", number)]
+        if self.chance(0.3):
+            return [("iinc", self.random.choice(self.ints), self.random.randint(-3, 3))]
+        return self.int() + [("istore", self.random.choice(self.ints))]
+
+    def drop(self):
+        return self.call("V", 0) if self.chance(0.8) else self.int() + [("pop",)]
+
+    def throw(self):
+        null_stream = [("aconst_null",), ("invokevirtual", STREAM, "println", "()V")]
+        division = [("ldc", 1), *self.int(), ("idiv",), ("pop",)]
+        gone = [("getstatic", "Gone", "x", "I"), ("pop",)]
+        return self.random.choice([division, division, self.print(), self.print(), null_stream, gone])
+
+    def jump(self):
+        word = self.random.choice(COMPARING + ["goto", "tableswitch", "lookupswitch"])
+        if word == "tableswitch":
+            low = self.random.randint(-2, 3)
+            return self.int() + [(word, dict.fromkeys(range(low, low + self.random.randint(0, 4))), None)]
+        if word == "lookupswitch":
+            return self.int() + [(word, dict.fromkeys(sorted(self.random.sample(NUMBERS, self.random.randint(0, 4)))), None)]
+        kinds = JUMPS[word][0]
+        return [each for kind in kinds for each in (self.int() if kind is int else self.some_reference())] + [(word, None)]
+
+    def some_reference(self):
+        return self.value(self.random.choice(self.reference_types)) if self.with_objects and self.chance(0.5) else self.text()
+
+    # Of objects
+
+    def store_element(self):
+        type = self.random.choice([each for each in self.types if each[0] == "["])
+        element = type[1:]
+        value = self.value(element)
+        if element not in INTS and self.chance(0.3):
+            value = self.some_reference()
+        return self.value(type) + self.index(0) + value + [(self.letter(element) + "astore",)]
+
+    def throw_object(self):
+        if self.chance(0.1):
+            return self.value(OBJECT_TYPE) + [("athrow",)]
+        own = [each.name for each in self.classes if self.program.is_subclass(each.name, THROWABLE)]
+        name = self.random.choice(own * 3 + LIBRARY_THROWABLES)
+        return (self.made_object(name, 1) if self.chance(0.8) else self.value(f"L{THROWABLE};")) + [("athrow",)]
+
+    def lock(self):
+        """Something done while a monitor is held, or with it left once too often or not at all."""
+        numbers = [number for number in self.typed if number not in self.kept] or [*self.kept]
+        load = ("aload", self.random.choice(numbers))
+        within = self.random.choice([[], self.print(), self.drop() or [], self.write() or []])
+        enter, leave = [load, ("monitorenter",)], [load, ("monitorexit",)]
+        return self.random.choice([[*enter, *within, *leave]] * 3 + [[*enter, *enter, *leave, *within, *leave], leave, enter])
+
+    def create(self):
+        """An object or array that is dropped: a class or length that isn't right, or right but for room."""
+        random = self.random
+        names = [each.name for each in self.classes] + ["Gone", TEXT, "[LGone;", "[I"]
+        word = random.choice(["new", "new", "anewarray", "newarray"])
+        if word == "new":
+            return [("new", random.choice([each for each in names if each[0] != "["])), ("pop",)]
+        length = [("ldc", random.choice([-1, -2147483648, 0, 1, 999_000, 1_000_000, 2147483647]))] if self.chance(0.15) else self.int()
+        name = random.choice(names) if word == "anewarray" else random.choice(["boolean", "char", "byte", "short", "int"])
+        return [*length, (word, name), ("pop",)]
+
+    def check(self):
+        return self.some_reference() + [("checkcast", self.cast()), self.random.choice([("pop",), ("astore", min(self.kept))])]
+
+    def filling(self):
+        """Statements that take the heap's cells, down to a few or to none; each goes on until the heap refuses it."""
+        sizes = self.random.choice([[990_000], [990_000, 1000], [990_000, 1000, 30], [990_000, 1000, 30, 0], [990_000, 1000, 30, 0]])
+        return [[("ldc", size), ("newarray", "int"), ("pop",), ("goto", HERE)] for size in sizes]
+
+    def recursion(self):
+        """A call of the method that it stands in."""
+        method, types = self.method, signature(self.method.descriptor)
+        receiver = [] if method.is_static else [("aload", 0)]
+        arguments = [each for type in types[0] for each in ([("ldc", 1)] if type in INTS else [("aconst_null",)])]
+        word = "invokestatic" if method.is_static else "invokespecial" if method.is_private else "invokevirtual"
+        if self.owner.is_interface and not method.is_static:
+            word = "invokespecial" if method.is_private else "invokeinterface"
+        dropped = [] if types[1] == "V" else [("pop",)]
+        return [*receiver, *arguments, (word, self.owner.name, method.name, method.descriptor), *dropped]
+
+    # Junk
+
+    def wrong(self):
+        """A word behind operands that it may not take, or behind too few."""
+        count = self.random.choice([0, 0, 1, 1, 2, 2, 3, 4])
+        return [self.operand() for _ in range(count)] + [self.junk_word()]
+
+    def operand(self):
+        operands = [("ldc", self.random.choice(NUMBERS)), ("ldc", self.random.choice([0, 1])), ("aconst_null",)]
+        return self.random.choice([*operands, ("ldc", self.random.choice(STRINGS)), ("aload", self.random.choice([0, *self.typed])), OUT])
+
+    def junk_word(self):
+        random = self.random
+        word = random.choice(JUNK + (OBJECT_JUNK * 2 if self.with_objects else []))
+        if word in JUMPS:
+            return word, None
+        if word in SWITCHES:
+            return word, {0: None, 1: None}, None
+        if word == "ldc":
+            return word, random.choice(NUMBERS)
+        if word == "iinc":
+            return word, random.choice([0, 4, 8, 1024]), 1
+        if word in LOCALS:
+            return word, random.choice([0, 1, 4, 8, 15, 1023, 1024, 65535])
+        if word == "newarray":
+            return word, random.choice(["int", "char"])
+        if word in TYPED:
+            return word, random.choice([each.name for each in self.classes] + [LANG + "Object", "Gone"])
+        return (word, *self.junk_member(word)) if word in MEMBERS + STATIC_MEMBERS else (word,)
+
+    def junk_member(self, word):
+        is_field = word in ("getfield", "putfield", "getstatic", "putstatic")
+        found = [(each.name, *one.key) for each in self.classes for one in (each.fields if is_field else each.methods)]
+        found = [each for each in found if each[1:] != MAIN]
+        return self.random.choice(found + [("Gone", "x", "I") if is_field else ("Gone", "f", "()V")])
