@@ -30,7 +30,8 @@ class Expressions:
     def suits(self, type, wanted):
         if type in INTS or wanted in INTS:
             return type in INTS and wanted in INTS
-        return self.program.takes_all(wanted) or (not self.program.takes_all(type) and self.program.is_subtype(type, wanted))
+        known = [each is None or each in self.program.known for each in (innermost(type), innermost(wanted))]
+        return not known[1] or (known[0] and self.program.is_subtype(type, wanted))
 
     def read(self, wanted, depth):
         """A read of a field whose type suits, perhaps."""
@@ -47,7 +48,7 @@ class Expressions:
         return self.value(f"L{name};", depth + 1) + [("getfield", name, field.name, field.type)]
 
     def call(self, wanted, depth):
-        """A call of a method whose result suits, perhaps."""
+        """A call of a method whose result suits, where one is wanted, perhaps."""
         found = [(each, one) for each in self.classes for one in each.methods if self.may_call(one, wanted)]
         if not found:
             return None
@@ -63,7 +64,7 @@ class Expressions:
     def may_call(self, method, wanted):
         result = signature(method.descriptor)[1]
         is_rare = method.name.startswith("<") or method.name == "main"
-        suits = result == wanted if "V" in (result, wanted) else self.suits(result, wanted)
+        suits = wanted is None or (result == wanted if "V" in (result, wanted) else self.suits(result, wanted))
         if self.with_objects and self.rank(method) <= self.rank(self.method) and not self.chance(0.03):
             return False
         return suits and (not is_rare or self.chance(0.01)) and (self.with_objects or method.is_static or self.chance(0.2))
@@ -89,7 +90,7 @@ class Expressions:
             return [("ldc", random.choice(NUMBERS))]
         if self.chance(0.2):
             return [("iload", random.choice(self.ints))]
-        made = self.read("I", depth) if self.chance(0.2) else self.call("I", depth) if self.chance(0.2) else None
+        made = self.read("I", depth) if self.chance(0.2) else self.call("I", depth) if self.chance(0.3) else None
         if made is None and self.with_objects and self.chance(0.35):
             made = self.int_of_object(depth)
         if made:
@@ -174,7 +175,8 @@ class Expressions:
         if type == OBJECT_TYPE and self.chance(0.3):
             return self.made_array(self.random.choice([each for each in self.types if each[0] == "["]), depth)
         names = [each.name for each in self.classes if not each.is_interface] * 2 + MADE
-        names = [each for each in names if self.program.takes_all(type) or self.program.is_subclass(each, type[1:-1])]
+        is_any = innermost(type) not in self.program.known or (self.program.takes_all(type) and self.chance(0.1))
+        names = [each for each in names if is_any or self.program.is_subclass(each, innermost(type))]
         names = [each for each in names if not self.program.known[each].is_abstract or self.chance(0.1)]
         if self.chance(0.03):
             names = ["Gone", *(each.name for each in self.classes if each.is_interface or each.is_abstract)]

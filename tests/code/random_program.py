@@ -1,10 +1,10 @@
 """Makes programs at random, most of whose instructions find what they want."""
 
 from arithmetic import JUMPS, SWITCHES
-from expressions import NUMBERS, STRINGS
+from expressions import NUMBERS, OUT, STRINGS
 from hierarchy import Program
 from program import (
-    CLINIT, INIT, INTS, LANG, LIBRARY_THROWABLES, MAIN, OBJECT, OBJECT_TYPE, TEXT_TYPE, TEXTS, THROWABLE, Class, Field, Method, signature
+    CLINIT, INIT, INTS, LANG, LIBRARY_THROWABLES, MAIN, OBJECT, OBJECT_TYPE, STREAM, TEXT_TYPE, TEXTS, THROWABLE, Class, Field, Method, signature
 )
 from statements import HERE, Statements
 
@@ -16,6 +16,9 @@ TYPES = ["I", "I", "I", "Z", "B", "C", "S", TEXT_TYPE, TEXT_TYPE, f"L{THROWABLE}
 DESCRIPTORS = ["()V", "()V", "(I)V", "()I", "(I)I", "(II)I", f"({TEXT_TYPE}){TEXT_TYPE}", f"({TEXT_TYPE})V", f"(I{TEXT_TYPE})I", "()Z"]
 INIT_DESCRIPTORS = ["()V", "()V", "()V", "(I)V", f"({TEXT_TYPE})V"]
 INT_LOCALS, TEXT_LOCALS, OTHER_LOCALS = range(4, 8), range(8, 11), range(11, 15)
+OFTEN, SELDOM = 0.1, 0.02
+STARTS = (MAIN, CLINIT)
+TELL = ("invokestatic", "Teller", "tell", f"(L{THROWABLE};)V")
 LOCALS = 15
 
 
@@ -35,12 +38,17 @@ class Maker(Statements):
         own = [each for each in self.classes if not each.is_interface or self.chance(0.05)]
         self.main = random.choice(own)
         if self.chance(0.93):
-            self.main.methods.append(Method(*MAIN, True, is_synchronized=self.with_objects and self.chance(0.05)))
-        self.rare = 0.1 if self.chance(0.5) else 0.02
+            is_static = not self.with_objects or not self.chance(0.02)
+            self.main.methods.append(Method(*MAIN, is_static, is_synchronized=self.with_objects and self.chance(0.05)))
+        self.rare, self.wrongs = random.choice([OFTEN, SELDOM]), random.choice([0, 1, 4])
+        self.choose_twins()
+        self.choose_deep()
         for each in self.classes:
             for method in each.methods:
                 if not method.is_abstract:
                     self.fill(each, method)
+        if with_objects:
+            self.classes.append(self.teller())
         random.shuffle(self.classes)
         self.program = Program(self.classes)
 
@@ -86,13 +94,13 @@ class Maker(Statements):
             is_static = self.chance(static_share)
             is_abstract = not is_static and self.chance(0.4 if each.is_interface or not self.with_objects else 0.12)
             is_private = self.chance(0.02 if is_abstract else 0.12)
-            is_synchronized = self.with_objects and self.chance(0.15)
+            is_synchronized = self.with_objects and self.chance(0.2)
             each.methods.append(Method(*key, is_static, is_abstract, is_private, is_synchronized))
         if self.with_objects and self.chance(0.03 if each.is_interface else 0.85):
             for _, descriptor in self.some([("<init>", one) for one in INIT_DESCRIPTORS]) or [INIT]:
                 is_static = self.chance(0.04)
                 each.methods.append(Method("<init>", descriptor, is_static, not is_static and self.chance(0.03)))
-        if self.chance(0.6 if self.with_objects else 0.75):
+        if self.chance(0.5 if self.with_objects else 0.75):
             each.methods.append(Method(*CLINIT, True, is_synchronized=self.with_objects and self.chance(0.1)))
         random.shuffle(each.methods)
 
@@ -101,6 +109,22 @@ class Maker(Statements):
         if self.chance(0.4) and (type in INTS or type == TEXT_TYPE):
             constant = self.random.choice(NUMBERS if type in INTS else STRINGS)
         return Field(name, type, self.chance(0.5 if self.with_objects else 0.92), constant)
+
+    def choose_deep(self):
+        """The method that calls itself as often as it can, if there is one, and its class."""
+        found = [(each, one) for each in self.classes for one in each.methods if not one.is_abstract and one.key in self.method_keys]
+        self.deep = self.random.choice(found) if self.with_objects and found and self.chance(0.15) else (None, None)
+
+    def choose_twins(self):
+        """A method that two interfaces give, and no class, if there is one."""
+        found = [each for each in self.classes if each.is_interface]
+        self.twins = None
+        if self.with_objects and len(found) > 1 and self.chance(0.2):
+            self.twins = self.random.choice(self.method_keys)
+            for each in self.classes:
+                each.methods = [one for one in each.methods if one.key != self.twins]
+            for each in self.random.sample(found, self.random.randint(2, len(found))):
+                each.methods.append(Method(*self.twins, False, self.chance(0.15)))
 
     # Bodies
 
@@ -111,35 +135,57 @@ class Maker(Statements):
         types = ([] if method.is_static else [f"L{owner.name};"]) + signature(method.descriptor)[0]
         self.ints += [number for number, type in enumerate(types) if type in INTS]
         self.typed |= {number: type for number, type in enumerate(types) if type not in INTS}
-        statements = []
-        if self.with_objects and self.chance(0.04) and method.key not in (MAIN, CLINIT):
-            statements.append(self.recursion())
-        elif self.chance(0.2 if self.with_objects and method.name == "<init>" else 0.95):
-            statements.append(self.start())
-        if method.name == "<init>" and self.chance(0.9):
-            statements.insert(0, [("aload", 0), ("invokespecial", owner.superclass, *INIT)])
-        is_start = method.name in ("main", "<clinit>")
-        if self.with_objects and self.chance(0.03 if is_start else 0.01):
-            statements += self.filling()
+        self.set_limits(method)
+        statements = self.first_statements(owner, method)
         statements += [self.statement() for _ in range(random.randint(*self.length(method)))]
-        if method.is_synchronized and not method.is_static and self.chance(0.3):
+        if method.is_synchronized and not method.is_static and self.chance(0.5):
             statements.append([("aload", 0), ("monitorexit",)])
-        result = signature(method.descriptor)[1]
-        if self.chance(0.97) or not statements:
+        if self.with_objects and method.key == CLINIT and self.chance(0.04):
+            statements += self.end_on_full_heap()
+        elif self.chance(0.97) or not statements:
+            result = signature(method.descriptor)[1]
             end = {"V": "return"}.get(result, "ireturn" if result in INTS else "areturn")
             statements.append(([] if result == "V" else self.value(result)) + [(end,)])
         self.lay(method, statements)
-        rare = self.rare / 2 if is_start else self.rare
+
+    def set_limits(self, method):
+        rare = self.rare / 5 if method.key in STARTS else self.rare
+        if self.chance(self.rare if self.with_objects else rare):
+            method.stack = self.random.randint(0, 4)
         if self.chance(rare):
-            method.stack = random.randint(0, 4)
-        if self.chance(rare):
-            method.locals = random.choice([0, 1, 2, LOCALS, LOCALS])
+            method.locals = self.random.choice([0, 1, 2, LOCALS, LOCALS])
+
+    def first_statements(self, owner, method):
+        statements = []
+        if method is self.deep[1]:
+            statements.append(self.plain_call(owner, method, [("aload", 0)]))
+        elif self.chance(0.2 if self.with_objects and method.name == "<init>" else 0.95):
+            statements.append(self.start())
+            statements += self.start_of_objects()
+        if method.name == "<init>" and self.chance(0.9):
+            statements.insert(0, [("aload", 0), ("invokespecial", owner.superclass, *INIT)])
+        share = 0.01 if method.key not in STARTS else 0.3 if self.deep[1] else 0.05
+        if self.with_objects and self.chance(share):
+            statements += self.filling()
+        if self.deep[1] and method.key == MAIN:
+            statements.append(self.plain_call(*self.deep, self.made_object(self.deep[0].name, 1)))
+        if self.twins and method.key == MAIN:
+            statements += [self.call_of_twins() for _ in range(3)]
+        return statements
+
+    def end_on_full_heap(self):
+        """An object is thrown that was made before the heap was full."""
+        local = min(self.kept)
+        keep = self.made_object(self.random.choice([LANG + "Exception", LANG + "Error"]), 2) + [("astore", local)]
+        return [keep, *self.filling(to_none=True), [("aload", local), ("athrow",)]]
 
     def length(self, method):
         """The least and the most number of statements."""
         if self.with_objects and method.name == "<init>":
             return (0, 1)
-        return (1, 12) if method.name == "main" else (1, 4) if self.with_objects and method.name != "<clinit>" else (1, 6)
+        if self.with_objects:
+            return (8, 40) if method.name == "main" else (1, 6) if method.name == "<clinit>" else (1, 5)
+        return (1, 12) if method.name == "main" else (1, 6)
 
     def start(self):
         """Gives the locals their first values."""
@@ -147,26 +193,33 @@ class Maker(Statements):
         made = [each for at in INT_LOCALS for each in (("ldc", random.randint(-2, 6)), ("istore", at))]
         made += [each for at in TEXT_LOCALS for each in (("ldc", random.choice(STRINGS)), ("astore", at))]
         self.typed |= self.kept
-        if self.with_objects:
-            for at in random.sample(OTHER_LOCALS, random.randint(0, 3)):
-                self.kept[at] = random.choice(self.reference_types)
-                made += self.value(self.kept[at], 1) + [("astore", at)]
-                self.typed[at] = self.kept[at]
+        return made[:4] + made[8:12] if self.with_objects else made
+
+    def start_of_objects(self):
+        """A statement for each of some further locals."""
+        numbers = self.random.sample(OTHER_LOCALS, self.random.randint(0, 3)) if self.with_objects else []
+        made = []
+        for at in numbers:
+            type = self.random.choice(self.reference_types)
+            made.append(self.value(type, 1) + [("astore", at)])
+            self.kept[at] = self.typed[at] = type
         return made
 
     def lay(self, method, statements):
         """Puts the statements behind one another, junk among them, and gives jumps and handlers their places."""
         random, places = self.random, []
         for each in statements:
-            while self.chance(self.junk):
+            is_spared = self.with_objects and method.key in STARTS and each is statements[-1]
+            while not is_spared and self.chance(self.junk):
                 each.insert(random.randint(0, len(each)), self.junk_word())
             places.append(len(method.code))
             method.code += each
         places.append(len(method.code))
         method.code = [self.placed(each, at, places) for at, each in enumerate(method.code)]
         for _ in range(random.randint(0, 2)):
-            self.handle(method, *sorted(random.choices(places, k=2)), random.choice(places))
-        if self.chance(0.85):
+            first, last = sorted(random.choices(places, k=2))
+            self.handle(method, first, last, self.target(places, last))
+        if self.chance(0.85 if not self.with_objects else 0.99 if method.key in STARTS else 0.95):
             for first, last in zip(places[:-2], places[1:-1]):
                 self.handle(method, first, last, last)
 
@@ -175,19 +228,44 @@ class Maker(Statements):
         word, *operands = instruction
         if operands and operands[0] == HERE:
             return word, max(each for each in places if each <= at)
-        ahead = [each for each in places if each > at]
-        target = lambda: self.random.choice(ahead if self.chance(0.85) else places)
         if word in JUMPS:
-            return word, target()
+            return word, self.target(places, at)
         if word in SWITCHES:
-            return word, {key: target() for key in operands[0]}, target()
+            return word, {key: self.target(places, at) for key in operands[0]}, self.target(places, at)
         return instruction
+
+    def target(self, places, at):
+        """One of these places, rarely one that is no more ahead, or lies behind the last statement."""
+        ahead = [each for each in places if each > at]
+        if not self.with_objects:
+            return self.random.choice(ahead if ahead and not self.chance(0.15) else places)
+        ahead = [each for each in ahead if each < places[-1]]
+        return self.random.choice(places if self.chance(0.02) else ahead[:3] or places[-2:-1])
 
     def handle(self, method, first, last, next):
         """A handler behind the last instruction, which drops or keeps the object and goes on there."""
         random = self.random
         own = [each.name for each in self.classes if self.program.is_subclass(each.name, THROWABLE)]
-        caught = random.choice(["all"] * 40 + [*(LANG + each for each in CAUGHT), "Gone", "A", *own])
+        is_start = self.with_objects and method.key in STARTS
+        caught = random.choice(["all"] * (1000 if is_start else 40) + [*(LANG + each for each in CAUGHT), "Gone", "A", *own])
         method.handlers.append((caught, first, last, len(method.code)))
-        keep = random.choice([("pop",), ("pop",), ("astore", random.choice(TEXT_LOCALS))])
-        method.code += [keep, ("goto", next)]
+        keep = [random.choice([("pop",), ("pop",), ("astore", random.choice(TEXT_LOCALS))])]
+        if self.with_objects and self.chance(0.7):
+            keep = [TELL]
+        elif self.chance(0.3):
+            keep = [("pop",), *said(caught)]
+        method.code += [*keep, ("goto", next)]
+
+    def teller(self):
+        """A class whose method prints the class of a throwable: it throws the object, and has a handler for each class."""
+        names = [each for each in self.program.known if self.program.is_subclass(each, THROWABLE)]
+        names.sort(key=lambda name: -len(list(self.program.superclasses(name))))
+        method = Method(TELL[2], TELL[3], True, code=[("aload", 0), ("athrow",)])
+        for name in names:
+            method.handlers.append((name, 0, 2, len(method.code)))
+            method.code += [("pop",), *said(name), ("return",)]
+        return Class(TELL[1], False, OBJECT, [], methods=[method])
+
+
+def said(text):
+    return [OUT, ("ldc", text), ("invokevirtual", STREAM, "println", f"({TEXT_TYPE})V")]

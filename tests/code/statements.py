@@ -4,7 +4,7 @@ its own statement, in place of where it goes until all statements are there."""
 from arithmetic import COMPUTED, CONVERTED, JUMPS, MOVED, SWITCHES
 from expressions import NUMBERS, OUT, STRINGS, Expressions
 from instructions import ARRAY_LOADS, ARRAY_STORES
-from program import INTS, LANG, LIBRARY_THROWABLES, MAIN, OBJECT_TYPE, STREAM, TEXT, TEXT_TYPE, THROWABLE, signature
+from program import INIT, INTS, LANG, LIBRARY_THROWABLES, MAIN, OBJECT, OBJECT_TYPE, STREAM, TEXT, TEXT_TYPE, THROWABLE, signature
 
 COMPARING = [word for word in JUMPS if word != "goto"]
 HERE = "here"
@@ -20,10 +20,10 @@ OBJECT_JUNK = [*ARRAY_LOADS, *ARRAY_STORES, *MEMBERS, *TYPED, "newarray", "array
 class Statements(Expressions):
     def statement(self):
         kinds = [self.print, self.print, self.write, self.write, self.store, self.store, self.drop, self.jump, self.throw]
-        kinds += [self.wrong] if self.chance(0.5) else []
+        kinds += [self.wrong] * self.wrongs
         if self.with_objects:
             kinds += [self.drop, self.drop, self.write, self.store, self.store_element, self.store_element, self.throw_object]
-            kinds += [self.lock, self.create, self.check]
+            kinds += [self.print, self.print, self.lock, self.create, self.check, self.construct]
         return self.random.choice(kinds)() or [("nop",)]
 
     def print(self):
@@ -53,7 +53,14 @@ class Statements(Expressions):
             return [("iinc", self.random.choice(self.ints), self.random.randint(-3, 3))]
         return self.int() + [("istore", self.random.choice(self.ints))]
 
+    def call_any(self):
+        """A call of any method, whose result is dropped."""
+        made = self.call(None, 0)
+        return made and made + ([] if signature(made[-1][-1])[1] == "V" else [("pop",)])
+
     def drop(self):
+        if self.with_objects and self.chance(0.6):
+            return self.call_any()
         return self.call("V", 0) if self.chance(0.8) else self.int() + [("pop",)]
 
     def throw(self):
@@ -114,27 +121,41 @@ class Statements(Expressions):
     def check(self):
         return self.some_reference() + [("checkcast", self.cast()), self.random.choice([("pop",), ("astore", min(self.kept))])]
 
-    def filling(self):
+    def construct(self):
+        """A call of a constructor of the library on any object."""
+        name = self.random.choice([OBJECT, OBJECT, THROWABLE, TEXT, LANG + "Error"])
+        type = OBJECT_TYPE if name == OBJECT or self.chance(0.2) else f"L{name};"
+        return self.value(type) + [(self.random.choice(["invokespecial", "invokespecial", "invokevirtual"]), name, *INIT)]
+
+    def call_of_twins(self):
+        """A call of the method that several interfaces give, on an object of a class below one of them."""
+        found = [each for each in self.classes if self.program.find_method(each.name, self.twins)]
+        owner = self.random.choice(found)
+        one = self.program.find_method(owner.name, self.twins)[1]
+        below = [each.name for each in self.classes if not each.is_interface and self.program.is_subclass(each.name, owner.name)]
+        return self.plain_call(owner, one, self.made_object(self.random.choice(below), 2) if below else [("aconst_null",)])
+
+    def filling(self, to_none=False):
         """Statements that take the heap's cells, down to a few or to none; each goes on until the heap refuses it."""
-        sizes = self.random.choice([[990_000], [990_000, 1000], [990_000, 1000, 30], [990_000, 1000, 30, 0], [990_000, 1000, 30, 0]])
+        sizes = [990_000, 1000, 30, 0][: 4 if to_none else self.random.choice([1, 2, 3, 4, 4])]
         return [[("ldc", size), ("newarray", "int"), ("pop",), ("goto", HERE)] for size in sizes]
 
-    def recursion(self):
-        """A call of the method that it stands in."""
-        method, types = self.method, signature(self.method.descriptor)
-        receiver = [] if method.is_static else [("aload", 0)]
-        arguments = [each for type in types[0] for each in ([("ldc", 1)] if type in INTS else [("aconst_null",)])]
-        word = "invokestatic" if method.is_static else "invokespecial" if method.is_private else "invokevirtual"
-        if self.owner.is_interface and not method.is_static:
-            word = "invokespecial" if method.is_private else "invokeinterface"
-        dropped = [] if types[1] == "V" else [("pop",)]
-        return [*receiver, *arguments, (word, self.owner.name, method.name, method.descriptor), *dropped]
+    def plain_call(self, owner, method, receiver):
+        """A call of just this method, with plain arguments, and its result dropped."""
+        types, result = signature(method.descriptor)
+        arguments = [("ldc", 1) if type in INTS else ("aconst_null",) for type in types]
+        word = "invokestatic" if method.is_static else "invokespecial"
+        if word == "invokespecial" and self.chance(0.7):
+            word = "invokeinterface" if owner.is_interface else "invokevirtual"
+        dropped = [] if result == "V" else [("pop",)]
+        return [*([] if method.is_static else receiver), *arguments, (word, owner.name, *method.key), *dropped]
 
     # Junk
 
     def wrong(self):
         """A word behind operands that it may not take, or behind too few."""
-        count = self.random.choice([0, 0, 1, 1, 2, 2, 3, 4])
+        limit = self.method.stack
+        count = self.random.choice([0, 0, 1, 1, 2, 2, 3, 4] + [limit] * 8 * (limit <= 4))
         return [self.operand() for _ in range(count)] + [self.junk_word()]
 
     def operand(self):
@@ -164,4 +185,5 @@ class Statements(Expressions):
         is_field = word in ("getfield", "putfield", "getstatic", "putstatic")
         found = [(each.name, *one.key) for each in self.classes for one in (each.fields if is_field else each.methods)]
         found = [each for each in found if each[1:] != MAIN]
-        return self.random.choice(found + [("Gone", "x", "I") if is_field else ("Gone", "f", "()V")])
+        gone = ("Gone", "x", "I") if is_field else ("Gone", "f", "()V")
+        return gone if self.chance(0.1) else self.random.choice(found or [gone])
