@@ -2,11 +2,13 @@
 
 from arithmetic import COMPUTED, CONVERTED
 from instructions import ELEMENTS, NEW_TYPES
-from program import INIT, INTS, LANG, OBJECT, OBJECT_TYPE, STREAM, SYSTEM, TEXT, TEXT_TYPE, THROWABLE, innermost, signature, type_named
+from program import INIT, INTS, LANG, OBJECT, OBJECT_TYPE, STREAM, SYSTEM, TEXT, TEXT_TYPE, THROWABLE
+from program import innermost, signature, type_named
 
 NUMBERS = [0, 1, -1, 2, 3, 7, 31, 32, 33, 255, 256, -129, 32768, 65535, 65536, 2147483647, -2147483648, 0xD800, 0x20AC]
 STRINGS = ["a", "b", "", "text", "é", 'tab\t"quoted"\\', "\n"]
-MADE = [OBJECT, OBJECT, TEXT, STREAM, THROWABLE] + [LANG + name for name in "Error Exception ArithmeticException LinkageError".split()]
+MADE = [OBJECT, OBJECT, TEXT, STREAM, THROWABLE]
+MADE += [LANG + name for name in ("Error", "Exception", "ArithmeticException", "LinkageError")]
 LETTERS = {type: letter for letter, types in ELEMENTS.items() for type in types}
 NEW_WORDS = {type: word for word, type in NEW_TYPES.items()}
 OUT = ("getstatic", SYSTEM, "out", f"L{STREAM};")
@@ -159,7 +161,8 @@ class Expressions:
     def cast(self):
         """What a cast names."""
         names = [each.name for each in self.classes] + [each for each in self.types if each[0] == "["]
-        return self.random.choice(names * 2 + [OBJECT, TEXT, THROWABLE, LANG + "Error", "[" + OBJECT_TYPE, "Gone", "[LGone;", "[[Z"])
+        names = [*names, *names, OBJECT, TEXT, THROWABLE, LANG + "Error", "[" + OBJECT_TYPE, "[[Z", "Gone", "[LGone;"]
+        return self.random.choice(names)
 
     def casted(self, type, depth):
         if not self.chance(0.3):
@@ -197,8 +200,8 @@ class Expressions:
         if element in INTS:
             made = [*length, ("newarray", NEW_WORDS[element])]
         else:
-            below = [type_named(each.name) for each in self.classes] if element[0] == "L" else []
-            below = [each for each in below if innermost(element) in self.program.known and self.program.is_subtype(each, element)]
+            below = [type_named(each.name) for each in self.classes]
+            below = [each for each in below if self.program.is_subtype(each, element)]
             one = random.choice(below) if below and self.chance(0.4) else element
             made = [*length, ("anewarray", one if one[0] == "[" else one[1:-1])]
         if depth < DEEP and self.chance(0.5):

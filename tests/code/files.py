@@ -9,19 +9,25 @@ OTHER_WORDS = {"goto": "goto_w", "invokespecial": "invokenonvirtual", "i2b": "in
 
 def file_of(each, random):
     kind = ".interface" if each.is_interface else ".class"
-    words = "abstract " * each.is_abstract
+    words = some_word(random, "public", "final") + "abstract " * each.is_abstract
     lines = [f"{kind} {words}{each.name}", f".super {each.superclass}", *(f".implements {name}" for name in each.interfaces)]
     for field in each.fields:
         constant = "" if field.constant is None else f" = {spelled(field.constant)}"
-        lines.append(f".field {'static ' * field.is_static}{field.name} {field.type}{constant}")
+        words = some_word(random, "public", "private", "protected", "final", "volatile") + "static " * field.is_static
+        lines.append(f".field {words}{field.name} {field.type}{constant}")
     for method in each.methods:
         lines += method_lines(method, random)
     return "\n".join(lines) + "\n"
 
 
+def some_word(random, *words):
+    """One of these access words, which have no effect where they stand, or none."""
+    return random.choice(["", "", *(f"{each} " for each in words)])
+
+
 def method_lines(method, random):
-    words = "static " * method.is_static + "abstract " * method.is_abstract + "private " * method.is_private
-    words += "synchronized " * method.is_synchronized
+    words = "private " if method.is_private else some_word(random, "public", "protected", "final")
+    words += "static " * method.is_static + "abstract " * method.is_abstract + "synchronized " * method.is_synchronized
     lines = [f".method {words}{method.name}{method.descriptor}"]
     if not method.is_abstract:
         lines += [f".limit stack {method.stack}", f".limit locals {method.locals}"]

@@ -3,9 +3,8 @@
 from arithmetic import JUMPS, SWITCHES
 from expressions import NUMBERS, OUT, STRINGS
 from hierarchy import Program
-from program import (
-    CLINIT, INIT, INTS, LANG, LIBRARY_THROWABLES, MAIN, OBJECT, OBJECT_TYPE, STREAM, TEXT_TYPE, TEXTS, THROWABLE, Class, Field, Method, signature
-)
+from program import CLINIT, INIT, INTS, LANG, LIBRARY_THROWABLES, MAIN, OBJECT, OBJECT_TYPE, STREAM, TEXT_TYPE, TEXTS, THROWABLE
+from program import Class, Field, Method, signature
 from statements import HERE, Statements
 
 CAUGHT = (
@@ -13,7 +12,8 @@ CAUGHT = (
     "ExceptionInInitializerError NullPointerException StackOverflowError IncompatibleClassChangeError Object String"
 ).split()
 TYPES = ["I", "I", "I", "Z", "B", "C", "S", TEXT_TYPE, TEXT_TYPE, f"L{THROWABLE};", "LI;", "LA;", "LGone;", "[I", TEXTS]
-DESCRIPTORS = ["()V", "()V", "(I)V", "()I", "(I)I", "(II)I", f"({TEXT_TYPE}){TEXT_TYPE}", f"({TEXT_TYPE})V", f"(I{TEXT_TYPE})I", "()Z"]
+DESCRIPTORS = ["()V", "()V", "(I)V", "()I", "(I)I", "(II)I"]
+DESCRIPTORS += [f"({TEXT_TYPE}){TEXT_TYPE}", f"({TEXT_TYPE})V", f"(I{TEXT_TYPE})I", "()Z"]
 INIT_DESCRIPTORS = ["()V", "()V", "()V", "(I)V", f"({TEXT_TYPE})V"]
 INT_LOCALS, TEXT_LOCALS, OTHER_LOCALS = range(4, 8), range(8, 11), range(11, 15)
 OFTEN, SELDOM = 0.1, 0.02
@@ -23,7 +23,8 @@ LOCALS = 15
 
 
 class Maker(Statements):
-    """Makes one program: with objects, or with static members, arithmetic and prints alone. With `junk` among its instructions."""
+    """Makes one program: with objects, or with static members, arithmetic and prints alone. `junk` is the share of statements
+    among whose instructions a further one is put."""
 
     def __init__(self, random, junk, with_objects):
         self.random, self.junk, self.with_objects = random, junk, with_objects
@@ -57,9 +58,11 @@ class Maker(Statements):
     def declared(self, name, is_interface):
         random = self.random
         interfaces = [each.name for each in self.classes if each.is_interface]
-        above = [OBJECT] + [each.name for each in self.classes if not each.is_interface and not is_interface]
+        earlier = [each.name for each in self.classes if not each.is_interface and not is_interface]
+        above = [OBJECT, *earlier]
         if self.with_objects and not is_interface:
-            above = [*above, *above, random.choice(LIBRARY_THROWABLES + [LANG + "Error", LANG + "Exception"] * 5)]
+            throwable = random.choice(LIBRARY_THROWABLES + [LANG + "Error", LANG + "Exception"] * 5)
+            above = [*above, *above, *earlier[-1:] * 4, throwable]
         some = random.sample(interfaces, random.randint(0, len(interfaces)))
         is_abstract = self.with_objects and not is_interface and self.chance(0.12)
         return Class(name, is_interface, random.choice(above), some, is_abstract=is_abstract)
@@ -112,7 +115,8 @@ class Maker(Statements):
 
     def choose_deep(self):
         """The method that calls itself as often as it can, if there is one, and its class."""
-        found = [(each, one) for each in self.classes for one in each.methods if not one.is_abstract and one.key in self.method_keys]
+        found = [(each, one) for each in self.classes for one in each.methods if not one.is_abstract]
+        found = [each for each in found if each[1].key in self.method_keys]
         self.deep = self.random.choice(found) if self.with_objects and found and self.chance(0.15) else (None, None)
 
     def choose_twins(self):
@@ -248,6 +252,8 @@ class Maker(Statements):
         own = [each.name for each in self.classes if self.program.is_subclass(each.name, THROWABLE)]
         is_start = self.with_objects and method.key in STARTS
         caught = random.choice(["all"] * (1000 if is_start else 40) + [*(LANG + each for each in CAUGHT), "Gone", "A", *own])
+        if method is self.deep[1]:
+            caught = random.choice(["all", *(LANG + each for each in ("StackOverflowError", "VirtualMachineError", "Exception"))])
         method.handlers.append((caught, first, last, len(method.code)))
         keep = [random.choice([("pop",), ("pop",), ("astore", random.choice(TEXT_LOCALS))])]
         if self.with_objects and self.chance(0.7):

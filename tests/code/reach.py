@@ -5,10 +5,12 @@ from collections import Counter
 from arithmetic import COMPUTED, CONVERTED, JUMPS, MOVED, SWITCHES
 from instructions import ARRAY_LOADS, ARRAY_STORES, WORDS
 
-STATIC = ["nop", "aconst_null", "ldc", "iload", "aload", "istore", "astore", "iinc", *MOVED, *COMPUTED, *CONVERTED, *JUMPS, *SWITCHES]
-STATIC += ["return", "ireturn", "areturn", "getstatic", "putstatic", "invokestatic", "invokevirtual"]
+STATIC = ["nop", "aconst_null", "ldc", "iload", "aload", "istore", "astore", "iinc"]
+STATIC += [*MOVED, *COMPUTED, *CONVERTED, *JUMPS, *SWITCHES, "return", "ireturn", "areturn"]
+STATIC += ["getstatic", "putstatic", "invokestatic", "invokevirtual"]
 MISSING, OTHER, FULL = "VerifyError: missing operand", "VerifyError: operand of the other kind", "VerifyError: full stack"
-UNFIT, NULL, NO_CLASS = "VerifyError: value that does not fit", "NullPointerException: null", "NoClassDefFoundError: no such class"
+UNFIT, NO_CLASS = "VerifyError: value that does not fit", "NoClassDefFoundError: no such class"
+NULL = "NullPointerException: null"
 NO_LOCAL, UNSET, UNKIND = (f"VerifyError: {each}" for each in ("no such local", "local never set", "local of the other kind"))
 NO_METHOD, NO_FIELD = "NoSuchMethodError: no such method", "NoSuchFieldError: no such field"
 CHANGED, ABSTRACT = "IncompatibleClassChangeError: ", "AbstractMethodError: "
@@ -48,7 +50,8 @@ def errors():
     found |= {"anewarray": [*found["newarray"], NO_CLASS], "arraylength": [MISSING, OTHER, NULL, NO_ARRAY]}
     found |= {word: [MISSING, OTHER, NULL, NO_ARRAY, OTHER_ARRAY, *INDEX] for word in [*ARRAY_LOADS, *ARRAY_STORES]}
     found["aastore"] = [*found["aastore"], "ArrayStoreException: no instance"]
-    found |= {"checkcast": [MISSING, OTHER, NO_CLASS, "ClassCastException: no instance"], "instanceof": [MISSING, OTHER, NO_CLASS]}
+    found |= {"checkcast": [MISSING, OTHER, NO_CLASS, "ClassCastException: no instance"]}
+    found |= {"instanceof": [MISSING, OTHER, NO_CLASS]}
     found |= {"athrow": [MISSING, OTHER, NULL, "VerifyError: no Throwable"], "monitorenter": [MISSING, OTHER, NULL]}
     found |= {"monitorexit": [MISSING, OTHER, NULL, NOT_HELD]}
     return found

@@ -2,9 +2,10 @@
 its own statement, in place of where it goes until all statements are there."""
 
 from arithmetic import COMPUTED, CONVERTED, JUMPS, MOVED, SWITCHES
-from expressions import NUMBERS, OUT, STRINGS, Expressions
+from expressions import NEW_WORDS, NUMBERS, OUT, STRINGS, Expressions
 from instructions import ARRAY_LOADS, ARRAY_STORES
-from program import INIT, INTS, LANG, LIBRARY_THROWABLES, MAIN, OBJECT, OBJECT_TYPE, STREAM, TEXT, TEXT_TYPE, THROWABLE, signature
+from program import INIT, INTS, LANG, LIBRARY_THROWABLES, MAIN, OBJECT, OBJECT_TYPE, STREAM, TEXT, TEXT_TYPE, THROWABLE
+from program import innermost, signature
 
 COMPARING = [word for word in JUMPS if word != "goto"]
 HERE = "here"
@@ -13,8 +14,13 @@ RETURNS = ["return", "ireturn", "areturn"]
 STATIC_MEMBERS = ["getstatic", "putstatic", "invokestatic"]
 MEMBERS = ["getfield", "putfield", "invokevirtual", "invokespecial", "invokeinterface"]
 TYPED = ["new", "anewarray", "checkcast", "instanceof"]
-JUNK = [*MOVED, *MOVED, *COMPUTED, *CONVERTED, *COMPARING, *SWITCHES, *LOCALS, *RETURNS, *STATIC_MEMBERS, "aconst_null", "ldc", "iinc"]
+JUNK = [*MOVED, *MOVED, *COMPUTED, *CONVERTED, *COMPARING, *SWITCHES, *LOCALS, *RETURNS, *STATIC_MEMBERS]
+JUNK += ["aconst_null", "ldc", "iinc"]
 OBJECT_JUNK = [*ARRAY_LOADS, *ARRAY_STORES, *MEMBERS, *TYPED, "newarray", "arraylength", "athrow", "monitorenter", "monitorexit"]
+
+
+def new_array(element_type):
+    return ("newarray", NEW_WORDS[element_type]) if element_type in INTS else ("anewarray", innermost(element_type))
 
 
 class Statements(Expressions):
@@ -23,7 +29,8 @@ class Statements(Expressions):
         kinds += [self.wrong] * self.wrongs
         if self.with_objects:
             kinds += [self.drop, self.drop, self.write, self.store, self.store_element, self.store_element, self.throw_object]
-            kinds += [self.print, self.print, self.lock, self.create, self.check, self.construct]
+            kinds += [self.print, self.show_element, self.show_element, self.show_field, self.show_field]
+            kinds += [self.super_call, self.construct, self.create, self.check, self.lock]
         return self.random.choice(kinds)() or [("nop",)]
 
     def print(self):
@@ -57,6 +64,18 @@ class Statements(Expressions):
         """A call of any method, whose result is dropped."""
         made = self.call(None, 0)
         return made and made + ([] if signature(made[-1][-1])[1] == "V" else [("pop",)])
+
+    def super_call(self):
+        """A call of a method of a class or interface above on the object of the method at hand."""
+        above = [*list(self.program.superclasses(self.owner.name))[1:], *self.program.all_superinterfaces(self.owner.name)]
+        found = [(each, one) for each in above for one in self.program.known[each].methods if not one.is_static]
+        found = [each for each in found if each[1].key in self.method_keys]
+        if self.method.is_static or not found:
+            return None
+        name, method = self.random.choice(found)
+        types, result = signature(method.descriptor)
+        arguments = [each for type in types for each in self.value(type, 1)]
+        return [("aload", 0), *arguments, ("invokespecial", name, *method.key), *([] if result == "V" else [("pop",)])]
 
     def drop(self):
         if self.with_objects and self.chance(0.6):
@@ -92,6 +111,27 @@ class Statements(Expressions):
             value = self.some_reference()
         return self.value(type) + self.index(0) + value + [(self.letter(element) + "astore",)]
 
+    def show_element(self):
+        """An element is written, read again and printed."""
+        type = self.random.choice([*"IZBCS", TEXT_TYPE])
+        array = self.made_array("[" + type, 2) if self.chance(0.2) else [("ldc", 2), new_array(type)]
+        index, letter = [("ldc", self.random.choice([0, 1]))], self.letter(type)
+        return self.shown([*array, ("dup",), *index, *self.value(type), (letter + "astore",), *index, (letter + "aload",)], type)
+
+    def show_field(self):
+        """A field of an object is written, read again and printed."""
+        found = [(each.name, one) for each in self.classes for one in each.fields if one.type in [*INTS, TEXT_TYPE]]
+        found = [each for each in found if not each[1].is_static]
+        if not found:
+            return None
+        owner, field = self.random.choice(found)
+        member = (self.named(owner), field.name, field.type)
+        write = [] if self.chance(0.1) else [("dup",), *self.value(field.type), ("putfield", *member)]
+        return self.shown([*self.value(f"L{owner};", 1), *write, ("getfield", *member)], field.type)
+
+    def shown(self, value, type):
+        return [OUT, *value, ("invokevirtual", STREAM, "println", f"({TEXT_TYPE if type == TEXT_TYPE else 'I'})V")]
+
     def throw_object(self):
         if self.chance(0.1):
             return self.value(OBJECT_TYPE) + [("athrow",)]
@@ -114,7 +154,8 @@ class Statements(Expressions):
         word = random.choice(["new", "new", "anewarray", "newarray"])
         if word == "new":
             return [("new", random.choice([each for each in names if each[0] != "["])), ("pop",)]
-        length = [("ldc", random.choice([-1, -2147483648, 0, 1, 999_000, 1_000_000, 2147483647]))] if self.chance(0.15) else self.int()
+        lengths = [-1, -2147483648, 0, 1, 999_000, 1_000_000, 2147483647]
+        length = [("ldc", random.choice(lengths))] if self.chance(0.15) else self.int()
         name = random.choice(names) if word == "anewarray" else random.choice(["boolean", "char", "byte", "short", "int"])
         return [*length, (word, name), ("pop",)]
 
@@ -159,8 +200,8 @@ class Statements(Expressions):
         return [self.operand() for _ in range(count)] + [self.junk_word()]
 
     def operand(self):
-        operands = [("ldc", self.random.choice(NUMBERS)), ("ldc", self.random.choice([0, 1])), ("aconst_null",)]
-        return self.random.choice([*operands, ("ldc", self.random.choice(STRINGS)), ("aload", self.random.choice([0, *self.typed])), OUT])
+        constants = [self.random.choice(NUMBERS), self.random.choice([0, 1]), self.random.choice(STRINGS)]
+        return self.random.choice([*(("ldc", each) for each in constants), ("aconst_null",), *self.some_local(), OUT])
 
     def junk_word(self):
         random = self.random
