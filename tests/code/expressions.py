@@ -61,7 +61,8 @@ class Expressions:
         """Calls go mostly to methods of a higher rank, so that most programs end by themselves."""
         if method.name in ("main", "<clinit>"):
             return 0
-        return len(self.method_keys) if method.name == "<init>" else 1 + self.method_keys.index(method.key)
+        is_first = method.key not in self.method_keys
+        return len(self.method_keys) if method.name == "<init>" else 1 if is_first else 1 + self.method_keys.index(method.key)
 
     def may_call(self, method, wanted):
         result = signature(method.descriptor)[1]

@@ -42,8 +42,7 @@ class Maker(Statements):
             is_static = not self.with_objects or not self.chance(0.02)
             self.main.methods.append(Method(*MAIN, is_static, is_synchronized=self.with_objects and self.chance(0.05)))
         self.rare, self.wrongs = random.choice([OFTEN, SELDOM]), random.choice([0, 1, 4])
-        self.choose_twins()
-        self.choose_deep()
+        self.plan()
         for each in self.classes:
             for method in each.methods:
                 if not method.is_abstract:
@@ -113,22 +112,77 @@ class Maker(Statements):
             constant = self.random.choice(NUMBERS if type in INTS else STRINGS)
         return Field(name, type, self.chance(0.5 if self.with_objects else 0.92), constant)
 
-    def choose_deep(self):
-        """The method that calls itself as often as it can, if there is one, and its class."""
+    # Rare cases that are arranged
+
+    def plan(self):
+        """Arranges methods for rare cases. `planned` are the calls of them in `main`: the class that is named, the method, and
+        the class of the object; `deep` is a method that calls itself as often as it can, `up` one that calls another above,
+        `held` a synchronized one that ends by a throw."""
+        self.planned, self.deep, self.up, self.held = [], None, (None, None, None), None
+        for each in (self.plan_twins, self.plan_shadow, self.plan_up, self.plan_deep, self.plan_held):
+            if self.with_objects and self.chance(0.15):
+                each()
+
+    def without(self, key, classes):
+        for each in classes:
+            each.methods = [one for one in each.methods if one.key != key]
+
+    def plan_twins(self):
+        """Several interfaces give a method, and no class."""
+        interfaces, key = [each for each in self.classes if each.is_interface], self.random.choice(self.method_keys)
+        if len(interfaces) < 2:
+            return
+        self.without(key, self.classes)
+        for each in self.random.sample(interfaces, self.random.randint(2, len(interfaces))):
+            each.methods.append(Method(*key, False, self.chance(0.15)))
+        for _ in range(3):
+            owner = self.random.choice([each for each in self.classes if self.program.find_method(each.name, key)])
+            below = [each.name for each in self.classes if self.program.is_subclass(each.name, owner.name)]
+            below = [name for name in below if not self.program.classes[name].is_interface]
+            if below:
+                self.planned.append((owner, self.program.find_method(owner.name, key)[1], self.random.choice(below)))
+
+    def plan_shadow(self):
+        """A class has a private method of the name and descriptor of one above."""
+        found = [each for each in self.classes if each.superclass in self.program.classes]
+        if found:
+            below, key = self.random.choice(found), self.random.choice(self.method_keys)
+            above = self.program.classes[below.superclass]
+            self.without(key, [below, above])
+            above.methods.append(Method(*key, False))
+            below.methods.append(Method(*key, False, is_private=True))
+            self.planned += [(each, each.methods[-1], below.name) for each in (above, below)]
+
+    def plan_up(self):
+        """A class calls the method of its superclass's superclass, which the superclass overrides."""
+        known = self.program.classes
+        found = [each for each in self.classes if each.superclass in known and known[each.superclass].superclass in known]
+        if found:
+            own, key = self.random.choice(found), self.random.choice(self.method_keys)
+            middle = known[own.superclass]
+            above = known[middle.superclass]
+            self.without(key, [own, middle, above])
+            for each in (middle, above):
+                each.methods.append(Method(*key, False))
+            own.methods.append(Method("up", "()V", False))
+            self.up = (own.methods[-1], above, above.methods[-1])
+            self.planned.append((own, own.methods[-1], own.name))
+
+    def plan_deep(self):
         found = [(each, one) for each in self.classes for one in each.methods if not one.is_abstract]
         found = [each for each in found if each[1].key in self.method_keys]
-        self.deep = self.random.choice(found) if self.with_objects and found and self.chance(0.15) else (None, None)
+        if found:
+            owner, self.deep = self.random.choice(found)
+            self.deep.is_synchronized |= self.chance(0.4)
+            self.planned.append((owner, self.deep, owner.name))
 
-    def choose_twins(self):
-        """A method that two interfaces give, and no class, if there is one."""
-        found = [each for each in self.classes if each.is_interface]
-        self.twins = None
-        if self.with_objects and len(found) > 1 and self.chance(0.2):
-            self.twins = self.random.choice(self.method_keys)
-            for each in self.classes:
-                each.methods = [one for one in each.methods if one.key != self.twins]
-            for each in self.random.sample(found, self.random.randint(2, len(found))):
-                each.methods.append(Method(*self.twins, False, self.chance(0.15)))
+    def plan_held(self):
+        found = [(each, one) for each in self.classes for one in each.methods if one.is_inherited and not one.is_abstract]
+        found = [each for each in found if each[1].key in self.method_keys and not each[0].is_interface]
+        if found:
+            owner, self.held = self.random.choice(found)
+            self.held.is_synchronized = True
+            self.planned.append((owner, self.held, owner.name))
 
     # Bodies
 
@@ -146,6 +200,8 @@ class Maker(Statements):
             statements.append([("aload", 0), ("monitorexit",)])
         if self.with_objects and method.key == CLINIT and self.chance(0.04):
             statements += self.end_on_full_heap()
+        elif method is self.held:
+            statements.append([("aconst_null",), ("athrow",)])
         elif self.chance(0.97) or not statements:
             result = signature(method.descriptor)[1]
             end = {"V": "return"}.get(result, "ireturn" if result in INTS else "areturn")
@@ -161,21 +217,28 @@ class Maker(Statements):
 
     def first_statements(self, owner, method):
         statements = []
-        if method is self.deep[1]:
+        if method is self.deep:
             statements.append(self.plain_call(owner, method, [("aload", 0)]))
         elif self.chance(0.2 if self.with_objects and method.name == "<init>" else 0.95):
             statements.append(self.start())
             statements += self.start_of_objects()
         if method.name == "<init>" and self.chance(0.9):
             statements.insert(0, [("aload", 0), ("invokespecial", owner.superclass, *INIT)])
-        share = 0.01 if method.key not in STARTS else 0.3 if self.deep[1] else 0.05
+        share = 0.01 if method.key not in STARTS else 0.3 if self.deep else 0.05
         if self.with_objects and self.chance(share):
             statements += self.filling()
-        if self.deep[1] and method.key == MAIN:
-            statements.append(self.plain_call(*self.deep, self.made_object(self.deep[0].name, 1)))
-        if self.twins and method.key == MAIN:
-            statements += [self.call_of_twins() for _ in range(3)]
+        if method is self.up[0]:
+            statements.append(self.plain_call(*self.up[1:], [("aload", 0)], is_special=True))
+        for each in self.planned if method.key == MAIN else []:
+            statements += self.planned_call(*each)
         return statements
+
+    def planned_call(self, named, method, name):
+        """A call on a new object, whose monitor is then left though it isn't held."""
+        local = min(self.kept)
+        made = self.made_object(name, 1) + [("astore", local)]
+        call = self.plain_call(named, method, [("aload", local)])
+        return [made, call, [("aload", local), ("monitorexit",)]]
 
     def end_on_full_heap(self):
         """An object is thrown that was made before the heap was full."""
@@ -252,7 +315,7 @@ class Maker(Statements):
         own = [each.name for each in self.classes if self.program.is_subclass(each.name, THROWABLE)]
         is_start = self.with_objects and method.key in STARTS
         caught = random.choice(["all"] * (1000 if is_start else 40) + [*(LANG + each for each in CAUGHT), "Gone", "A", *own])
-        if method is self.deep[1]:
+        if method is self.deep:
             caught = random.choice(["all", *(LANG + each for each in ("StackOverflowError", "VirtualMachineError", "Exception"))])
         method.handlers.append((caught, first, last, len(method.code)))
         keep = [random.choice([("pop",), ("pop",), ("astore", random.choice(TEXT_LOCALS))])]

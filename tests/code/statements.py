@@ -168,25 +168,17 @@ class Statements(Expressions):
         type = OBJECT_TYPE if name == OBJECT or self.chance(0.2) else f"L{name};"
         return self.value(type) + [(self.random.choice(["invokespecial", "invokespecial", "invokevirtual"]), name, *INIT)]
 
-    def call_of_twins(self):
-        """A call of the method that several interfaces give, on an object of a class below one of them."""
-        found = [each for each in self.classes if self.program.find_method(each.name, self.twins)]
-        owner = self.random.choice(found)
-        one = self.program.find_method(owner.name, self.twins)[1]
-        below = [each.name for each in self.classes if not each.is_interface and self.program.is_subclass(each.name, owner.name)]
-        return self.plain_call(owner, one, self.made_object(self.random.choice(below), 2) if below else [("aconst_null",)])
-
     def filling(self, to_none=False):
         """Statements that take the heap's cells, down to a few or to none; each goes on until the heap refuses it."""
         sizes = [990_000, 1000, 30, 0][: 4 if to_none else self.random.choice([1, 2, 3, 4, 4])]
         return [[("ldc", size), ("newarray", "int"), ("pop",), ("goto", HERE)] for size in sizes]
 
-    def plain_call(self, owner, method, receiver):
+    def plain_call(self, owner, method, receiver, is_special=False):
         """A call of just this method, with plain arguments, and its result dropped."""
         types, result = signature(method.descriptor)
         arguments = [("ldc", 1) if type in INTS else ("aconst_null",) for type in types]
         word = "invokestatic" if method.is_static else "invokespecial"
-        if word == "invokespecial" and self.chance(0.7):
+        if word == "invokespecial" and not is_special and self.chance(0.7):
             word = "invokeinterface" if owner.is_interface else "invokevirtual"
         dropped = [] if result == "V" else [("pop",)]
         return [*([] if method.is_static else receiver), *arguments, (word, owner.name, *method.key), *dropped]
