@@ -189,7 +189,8 @@ class Expressions:
     def made_object(self, name, depth):
         made = [("new", name)]
         found = [each for each in self.program.known[name].methods if each.name == "<init>"] if name in self.program.known else []
-        if self.chance(0.1) or (not found and self.chance(0.8)):
+        is_nested = self.method.name == "<init>" and self.chance(0.9)
+        if is_nested or self.chance(0.1) or (not found and self.chance(0.8)):
             return made
         descriptor = self.random.choice(found).descriptor if found else INIT[1]
         arguments = [each for each_type in signature(descriptor)[0] for each in self.value(each_type, depth + 2)]

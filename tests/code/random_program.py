@@ -223,7 +223,7 @@ class Maker(Statements):
             statements.append(self.start())
             statements += self.start_of_objects()
         if method.name == "<init>" and self.chance(0.9):
-            statements.insert(0, [("aload", 0), ("invokespecial", owner.superclass, *INIT)])
+            statements.insert(0, self.constructor_above(owner.superclass))
         share = 0.01 if method.key not in STARTS else 0.3 if self.deep else 0.05
         if self.with_objects and self.chance(share):
             statements += self.filling()
@@ -233,10 +233,19 @@ class Maker(Statements):
             statements += self.planned_call(*each)
         return statements
 
+    def constructor_above(self, name):
+        """A call of a constructor of the superclass on the object at hand, if it has one."""
+        found = [each for each in self.program.known[name].methods if each.name == "<init>" and not each.is_static]
+        if not found and self.chance(0.9):
+            return [("nop",)]
+        descriptor = self.random.choice(found).descriptor if found else INIT[1]
+        arguments = [("ldc", 1) if each in INTS else ("aconst_null",) for each in signature(descriptor)[0]]
+        return [("aload", 0), *arguments, ("invokespecial", name, "<init>", descriptor)]
+
     def planned_call(self, named, method, name):
         """A call on a new object, whose monitor is then left though it isn't held."""
         local = min(self.kept)
-        made = self.made_object(name, 1) + [("astore", local)]
+        made = ([("new", name)] if self.chance(0.7) else self.made_object(name, 1)) + [("astore", local)]
         call = self.plain_call(named, method, [("aload", local)])
         return [made, call, [("aload", local), ("monitorexit",)]]
 
