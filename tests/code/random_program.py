@@ -219,6 +219,8 @@ class Maker(Statements):
         statements = []
         if method is self.deep:
             statements.append(self.plain_call(owner, method, [("aload", 0)]))
+            found = [each.name for each in self.classes if each.method(CLINIT) and not each.is_interface]
+            statements += [[("new", name), ("pop",)] for name in found]
         elif self.chance(0.2 if self.with_objects and method.name == "<init>" else 0.95):
             statements.append(self.start())
             statements += self.start_of_objects()
@@ -328,7 +330,7 @@ class Maker(Statements):
             caught = random.choice(["all", *(LANG + each for each in ("StackOverflowError", "VirtualMachineError", "Exception"))])
         method.handlers.append((caught, first, last, len(method.code)))
         keep = [random.choice([("pop",), ("pop",), ("astore", random.choice(TEXT_LOCALS))])]
-        if self.with_objects and self.chance(0.7):
+        if self.with_objects and self.chance(0.3 if method is self.deep else 0.7):
             keep = [TELL]
         elif self.chance(0.3):
             keep = [("pop",), *said(caught)]

@@ -15,6 +15,7 @@ STATIC_MEMBERS = ["getstatic", "putstatic", "invokestatic"]
 MEMBERS = ["getfield", "putfield", "invokevirtual", "invokespecial", "invokeinterface"]
 TYPED = ["new", "anewarray", "checkcast", "instanceof"]
 JUNK = [*MOVED, *MOVED, *COMPUTED, *CONVERTED, *COMPARING, *SWITCHES, *LOCALS, *RETURNS, *STATIC_MEMBERS]
+MOVED_WORDS = [*MOVED] * 5
 JUNK += ["aconst_null", "ldc", "iinc"]
 OBJECT_JUNK = [*ARRAY_LOADS, *ARRAY_STORES, *MEMBERS, *TYPED, "newarray", "arraylength", "athrow", "monitorenter", "monitorexit"]
 
@@ -26,7 +27,7 @@ def new_array(element_type):
 class Statements(Expressions):
     def statement(self):
         kinds = [self.print, self.print, self.write, self.write, self.store, self.store, self.drop, self.jump, self.throw]
-        kinds += [self.wrong] * self.wrongs
+        kinds += [self.wrong] * (self.wrongs if self.method.stack > 4 else 10)
         if self.with_objects:
             kinds += [self.drop, self.drop, self.write, self.store, self.store_element, self.store_element, self.throw_object]
             kinds += [self.print, self.show_element, self.show_element, self.show_field, self.show_field]
@@ -197,7 +198,7 @@ class Statements(Expressions):
 
     def junk_word(self):
         random = self.random
-        word = random.choice(JUNK + (OBJECT_JUNK * 2 if self.with_objects else []))
+        word = random.choice(JUNK + (OBJECT_JUNK * 2 if self.with_objects else []) + MOVED_WORDS * (self.method.stack <= 4))
         if word in JUMPS:
             return word, None
         if word in SWITCHES:
