@@ -205,6 +205,8 @@ class Maker(Statements):
         elif self.chance(0.97) or not statements:
             result = signature(method.descriptor)[1]
             end = {"V": "return"}.get(result, "ireturn" if result in INTS else "areturn")
+            if end == "areturn" and self.chance(0.1):
+                result = random.choice(self.reference_types)
             statements.append(([] if result == "V" else self.value(result)) + [(end,)])
         self.lay(method, statements)
 

@@ -164,7 +164,10 @@ class Statements(Expressions):
         return self.some_reference() + [("checkcast", self.cast()), self.random.choice([("pop",), ("astore", min(self.kept))])]
 
     def construct(self):
-        """A call of a constructor of the library on any object."""
+        """A call of a constructor of the library on any object, or a print of a String that is no text."""
+        if self.chance(0.1):
+            stream = self.random.choice([OUT, ("aconst_null",)])
+            return [stream, ("new", TEXT), ("invokevirtual", STREAM, "println", f"({TEXT_TYPE})V")]
         name = self.random.choice([OBJECT, OBJECT, THROWABLE, TEXT, LANG + "Error"])
         type = OBJECT_TYPE if name == OBJECT or self.chance(0.2) else f"L{name};"
         return self.value(type) + [(self.random.choice(["invokespecial", "invokespecial", "invokevirtual"]), name, *INIT)]
