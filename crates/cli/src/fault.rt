@@ -30,7 +30,7 @@ pub enum Fault<'a> {
     Patience,
     /// A main class is unknown, there is none, or more than 16 are named.
     Mains,
-    /// An instruction or a synchronized method isn't run yet, or a method has a body where several main classes are named.
+    /// A method has a body where several main classes are named: code runs on one thread so far.
     Body,
     /// A thread of the machine can't be started.
     Threads,

@@ -180,9 +180,8 @@ pub struct ProgramRun {
 /// # Errors
 ///
 /// The first of: the first fault of linking (`Fault::Link`); no main class, one that no file has, or more than 16
-/// (`Fault::Mains`); an instruction or a synchronized method that isn't run yet, or a method with a body where several main
-/// classes are named (`Fault::Body`); a thread that can't be started (`Fault::Threads`). Want of memory (`Fault::Memory`) may
-/// come before any of them.
+/// (`Fault::Mains`); a method with a body where several main classes are named (`Fault::Body`); a thread that can't be started
+/// (`Fault::Threads`). Want of memory (`Fault::Memory`) may come before any of them.
 pub fn run_texts<'a, R: Threads + Wait + Sync>(
     rt: &R,
     alloc: Global,

@@ -1,7 +1,7 @@
 //! One thread's frames.
 
-ghost use Rattle.std.specs.Prelude.{◌≡◌, ◌≢◌, ◌∷◌, ◌<◌, ◌≤◌, ◌+◌, [], List, true, IfNone, IfOk, IfSome, OnErr, OnOk, length, reverse, slice_get, vec_capacity, vec_len};
-ghost use Rattle.frames.specs.Activations.{Activation, activation, at_handler, at_place, called, dropped, has_room, in_innermost, left, next_place, operands_of, place_of, pushed};
+ghost use Rattle.std.specs.Prelude.{◌≡◌, ◌≢◌, ◌∷◌, ◌<◌, ◌≤◌, ◌+◌, [], List, true, false, IsTrue, IfNone, IfOk, IfSome, OnErr, OnOk, length, reverse, slice_get, vec_capacity, vec_len};
+ghost use Rattle.frames.specs.Activations.{Activation, activation, at_handler, at_place, called, can_replace, dropped, has_room, in_innermost, left, next_place, operands_of, place_of, pushed, replaced};
 ghost use Rattle.frames.specs.Running.{GoesOn, IsAtNext};
 ghost use Rattle.frames.specs.declared.cell.Cell.TheVariants as cell;
 ghost use Rattle.frames.specs.declared.run.Stop.TheVariants as stop;
@@ -221,6 +221,29 @@ impl Frames {
     {
         if let Some(slot) = &mut self.innermost {
             slot.push(value);
+        }
+    }
+
+    /// Whether the innermost frame has so many operands, and room for one in their place.
+    pub fn can_replace(&self, count: usize) -> bool
+        ensures { result ≡ can_replace count self.now }
+    {
+        if count == 0 {
+            return self.has_room();
+        }
+        self.operand(count - 1).is_some()
+    }
+
+    /// Puts an operand in the place of so many on top of the innermost frame.
+    pub fn replace(&mut self, count: usize, value: Cell)
+        requires { can_replace count self.old ≡ true }
+        ensures { self.new ≡ in_innermost (replaced count value) self.old }
+    {
+        if let Some(slot) = &mut self.innermost {
+            match count {
+                0 => slot.push(value),
+                _ => slot.replace(count, value),
+            }
         }
     }
 

@@ -1,6 +1,6 @@
 //! Locals, and operands in the cells of a stack.
 
-ghost use Rattle.std.specs.Prelude.{◌≡◌, ◌<◌, ◌≤◌, ◌+◌, ◌-◌, ◌∷◌, IfSome, length, slice_get};
+ghost use Rattle.std.specs.Prelude.{◌≡◌, ◌<◌, ◌≤◌, ◌+◌, ◌-◌, ◌∷◌, IfSome, drop, length, slice_get};
 ghost use Rattle.frames.specs.Frame.{operands, top_of, below_top, int_in, int_of, ints_of, reference_in, reference_of, references_of};
 
 use crate::cell::Cell;
@@ -171,4 +171,20 @@ pub(crate) fn replace_two(stack: &mut [Cell], top: usize, cell: Cell)
     ensures { operands stack.new (top - 1) ≡ cell ∷ below_top (below_top (operands stack.old top)) }
 {
     stack[top - 2] = cell;
+}
+
+/// One operand in the place of so many; how many there are then.
+#[inline(always)]
+#[tactic(auto, using(crate::proofs::Stacks::replaced_many))]
+pub(crate) fn replace_many(stack: &mut [Cell], top: usize, count: usize, value: Cell) -> usize
+    requires some { 1 ≤ count }
+    requires few { count ≤ top }
+    requires within { top ≤ length stack.old }
+    ensures operands { operands stack.new result ≡ value ∷ drop count (operands stack.old top) }
+    ensures within { result ≤ length stack.new }
+    ensures same { length stack.new ≡ length stack.old }
+{
+    let place = top - count;
+    stack[place] = value;
+    place + 1
 }

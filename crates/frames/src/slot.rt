@@ -2,13 +2,13 @@
 
 ghost use Rattle.std.specs.Prelude.{◌≡◌, ◌<◌, ◌≤◌, ◌+◌, ◌^◌, List, IsOk, OnOk, length, slice_get, true, false};
 ghost use Rattle.frames.specs.Running.{Goes, IsAtNext, Stops};
-ghost use Rattle.frames.specs.Activations.{activation, arguments, at_handler, at_place, dropped, has_room_in, in_frame, next_place, place_in, pushed};
+ghost use Rattle.frames.specs.Activations.{activation, arguments, at_handler, at_place, dropped, has_room_in, in_frame, next_place, place_in, pushed, replaced};
 ghost use Rattle.frames.specs.declared.cell.Cell.TheVariants as cell;
 ghost use Rattle.frames.specs.declared.run.Stop.TheVariants as stop;
 ghost use Rattle.frames.specs.declared.slot.TheConstants.{MOST_LOCALS, MOST_OPERANDS};
 
 use crate::cell::Cell;
-use crate::operands::push;
+use crate::operands::{push, replace_many};
 use crate::place::FramePlace;
 use crate::run::{Stop, run};
 use hierarchy::{MethodCode, Op};
@@ -180,6 +180,17 @@ impl Slot {
         let parts = &mut *self.parts;
         push(parts.stack.as_mut_slice(), parts.top, value);
         parts.top += 1;
+    }
+
+    /// One operand in the place of those on top, of which there is one at least.
+    #[tactic(auto, using(crate::proofs::Stacks::few_operands))]
+    pub(crate) fn replace(&mut self, count: usize, value: Cell)
+        requires some { 1 ≤ count }
+        requires few { count ≤ length self.old.frame.stack }
+        ensures { self.new ≡ in_frame (replaced count value) self.old }
+    {
+        let parts = &mut *self.parts;
+        parts.top = replace_many(parts.stack.as_mut_slice(), parts.top, count, value);
     }
 
     #[inline(always)]

@@ -1,6 +1,10 @@
 pub mod CodeBodies
+pub mod Entering
+pub mod InterfaceCalls
 pub mod Leading
+pub mod NotDone
 pub mod OnTop
+pub mod Releasing
 pub mod Running
 pub mod Saying
 pub mod Statics

@@ -34,7 +34,7 @@ use Rattle.init_core.specs.ProgramEvents.{IsHeldBy, IsValueOf}
 use Rattle.bodies.specs.Doing.{HoldsConstant}
 use Rattle.frames.specs.declared.cell.Cell.{Cell}
 use Rattle.frames.specs.declared.cell.Cell.TheVariants.{Unset, Int, Null, Reference}
-use Rattle.interpreter.specs.Leads.{is_base}
+use Rattle.interpreter.specs.Fitting.{is_base}
 use Rattle.interpreter.specs.Methods.{static_in, static_type}
 use Rattle.interpreter.specs.Rows.{IsKindOf}
 use Rattle.interpreter.specs.Says.{IsSayable, value_on_top}

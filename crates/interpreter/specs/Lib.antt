@@ -1,4 +1,10 @@
 pub mod Methods
+pub mod Taken
+pub mod Fitting
+pub mod ArrayLeads
+pub mod TypeLeads
+pub mod ObjectLeads
+pub mod CallLeads
 pub mod Leads
 pub mod Printing
 pub mod Rows

@@ -5,17 +5,20 @@ ghost use Rattle.hierarchy.specs.Subclasses.{IsError, IsThrowable};
 ghost use Rattle.hierarchy.specs.declared.class.ClassId.{ClassId as ClassFacts};
 ghost use Rattle.heap.specs.Objects.{no_texts, reference_of_new, with_new};
 ghost use Rattle.init_core.specs.ProcedureWord.{GoesOn};
-ghost use Rattle.interpreter.specs.CodeRun.{Begins, Enters, IsAnswer, IsTold, Replaces, Starts, below_body, cell_of as cell_of_value, fails_by, interpreter_at_start};
+ghost use Rattle.interpreter.specs.CodeRun.{Begins, Enters, IsAnswer, IsTold, Replaces, Starts, below_body, fails_by, first_phase as first_phase_of, interpreter_at_start};
 
-use crate::fitting::built_in_type;
+use crate::fitting::{built_in_type, cell_of};
 use crate::interpreter::Interpreter;
 use crate::methods::method_code;
+use crate::moves::give;
+use crate::performing::phase_of;
 use crate::phase::Phase;
 use crate::says::is_throwable;
+use crate::taken::TakenMonitors;
 use bodies::{Bodies, Does};
 use frames::{Cell, Frames, Thrown};
-use heap::{Heap, no_class, out_of_memory};
-use hierarchy::{BuiltIn, ClassId, Program, Value, throwables_are_subclasses};
+use heap::{Heap, Monitor, Monitors, no_class, out_of_memory};
+use hierarchy::{BuiltIn, ClassId, MethodCode, Program, Value, throwables_are_subclasses};
 use init_core::{Completed, Outcome};
 use std::alloc::{AllocError, Global};
 use trace::Limit;
@@ -43,16 +46,6 @@ fn is_error(program: &Program, class: ClassId) -> bool
     program.is_subtype(class, program.built_in(BuiltIn::Error))
 }
 
-fn cell_of(value: Value) -> Cell
-    ensures { result ≡ cell_of_value value }
-{
-    match value {
-        Value::Int(number) => Cell::Int(number),
-        Value::Null => Cell::Null,
-        Value::Reference(number) => Cell::Reference(number),
-    }
-}
-
 /// A new array of no texts, if the heap has room. An `Err` is want of memory, and changes nothing.
 fn new_texts(heap: &mut Heap, program: &Program) -> Result<Option<u32>, AllocError>
     ensures reference { IfOk result (λ r. r ≡ reference_of_new program.now heap.old (no_texts program.now)) }
@@ -62,14 +55,28 @@ fn new_texts(heap: &mut Heap, program: &Program) -> Result<Option<u32>, AllocErr
     heap.new_array(program, built_in_type(program, BuiltIn::String), 0)
 }
 
+/// Where a body stands whose first frame was just entered.
+fn first_phase(takes_monitor: bool, code: &MethodCode, class: ClassId) -> Phase
+    ensures { result ≡ first_phase_of takes_monitor code.now class }
+{
+    if takes_monitor {
+        phase_of(code, Monitor::Class(class))
+    } else {
+        Phase::Runs
+    }
+}
+
 impl Interpreter {
-    /// What runs the code of a thread that may begin so many instructions; nothing has run yet. Takes no memory.
+    /// What runs the code of the first thread, which may begin so many instructions; nothing has run yet. Takes no memory.
     pub fn new(alloc: Global, steps: u32) -> Self
         ensures { result ≡ interpreter_at_start steps }
     {
         Interpreter {
             frames: Frames::new(alloc),
             heap: Heap::new(alloc),
+            monitors: Monitors::new(alloc),
+            taken: TakenMonitors::new(alloc),
+            thread: 0,
             phase: Phase::Runs,
             thrown: None,
             left: steps as u64,
@@ -87,15 +94,17 @@ impl Interpreter {
         Ok(())
     }
 
-    /// Enters the first frame of a body. An `Err` is want of memory, and changes nothing.
+    /// Enters the first frame of a body, whose method takes its class's monitor if it is synchronized and may. An `Err` is want of memory,
+    /// and changes nothing.
     fn begin(
         &mut self,
         program: &Program,
+        takes_monitor: bool,
         class: ClassId,
         method: usize,
         given: &[Cell],
     ) -> Result<(), AllocError>
-        ensures ok { OnOk result (Begins program.now class method given.now self.old self.new) }
+        ensures ok { OnOk result (Begins program.now takes_monitor class method given.now self.old self.new) }
         ensures err { OnErr result (self.new ≡ self.old) }
     {
         let Some(code) = method_code(program, class.number, method) else {
@@ -108,7 +117,7 @@ impl Interpreter {
             return self.fail(program, BuiltIn::StackOverflowError);
         }
         self.frames.begin(class.number, method, code, given)?;
-        self.phase = Phase::Runs;
+        self.phase = first_phase(takes_monitor, code, class);
         Ok(())
     }
 }
@@ -143,7 +152,7 @@ impl Interpreter {
             return Err(AllocError);
         };
         match code.initializer {
-            Some(method) => self.begin(program, class, method, &[]),
+            Some(method) => self.begin(program, false, class, method, &[]),
             None => {
                 self.phase = Phase::Over(None);
                 Ok(())
@@ -164,7 +173,9 @@ impl Interpreter {
             return Ok(());
         };
         match new_texts(&mut self.heap, program)? {
-            Some(reference) => self.begin(program, class, method, &[Cell::Reference(reference)]),
+            Some(reference) => {
+                self.begin(program, true, class, method, &[Cell::Reference(reference)])
+            },
             None => {
                 self.phase = Phase::Over(Some(out_of_memory(program)));
                 Ok(())
@@ -186,7 +197,7 @@ impl Interpreter {
     }
 
     /// Leaves the frames of the innermost body.
-    fn leave_body(&mut self)
+    fn leave_frames(&mut self)
         ensures { self.new ≡ record self.old { frames = below_body self.old.frames } }
     {
         while let Some(at) = self.frames.at() {
@@ -222,18 +233,17 @@ impl Bodies for Interpreter {
     }
 
     fn get(&mut self, _program: &Program, value: Value) {
-        if self.frames.has_room() {
-            self.frames.push(cell_of(value));
-            self.frames.step_over();
+        if self.frames.can_replace(0) {
+            give(&mut self.frames, 0, cell_of(value));
         }
     }
 
     fn leave(&mut self, _program: &Program) {
         match self.phase {
-            Phase::Runs | Phase::Ready(_) => self.leave_body(),
+            Phase::Runs | Phase::Ready(_) | Phase::Locks(_, _) => self.leave_frames(),
             Phase::Over(_) | Phase::Refused => {}
         }
-        self.phase = Phase::Runs;
+        self.release(Phase::Runs);
     }
 
     fn replace(&mut self, _alloc: Global, program: &Program, thrown: ClassId) -> ClassId {

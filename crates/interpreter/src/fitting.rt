@@ -2,12 +2,16 @@
 
 ghost use Rattle.std.specs.Prelude.{◌≡◌, ◌↔◌, IsTrue, Some, reverse};
 ghost use Rattle.frames.specs.Activations.{operands_of};
-ghost use Rattle.interpreter.specs.Leads.{built_in_type as type_of_built_in, is_int_type as has_ints, FitsType, IsFit, AreOnTop, IsCallable};
+ghost use Rattle.hierarchy.specs.LinkedProgram.{id};
+ghost use Rattle.hierarchy.specs.MethodResolution.{kind_of};
+ghost use Rattle.interpreter.specs.Fitting.{AreOnTop, FitsType, IsCallable, IsCallableOn, IsFit, IsInstanceIn, IsReceiver, built_in_type as type_of_built_in, cell_of as cell_of_value, exact_type as exact_type_of, is_int_type as has_ints, is_kind as is_kind_by, print_stream as stream_type, value_of as value_of_cell};
+ghost use Rattle.jasmin_text.specs.declared.class_text.ClassKind.TheVariants as kind;
 ghost use Rattle.interpreter.specs.Rows.{IsKindOf};
 
 use frames::{Cell, Frames};
 use heap::Heap;
-use hierarchy::{BuiltIn, Element, MethodCode, Program, ResolvedType};
+use hierarchy::{BuiltIn, ClassId, Element, MethodCode, Program, ResolvedType, Value};
+use jasmin_text::ClassKind;
 
 /// A built-in class as a type.
 pub(crate) fn built_in_type(program: &Program, class: BuiltIn) -> ResolvedType
@@ -84,7 +88,7 @@ fn are_on_top(frames: &Frames, heap: &Heap, program: &Program, types: &[Resolved
     true
 }
 
-/// Whether a method can be called with the operands on top.
+/// Whether a static method can be called with the operands on top.
 pub(crate) fn is_callable(
     frames: &Frames,
     heap: &Heap,
@@ -93,7 +97,111 @@ pub(crate) fn is_callable(
 ) -> bool
     ensures { IsTrue result ↔ IsCallable program.now heap.now (Some code.now) (operands_of frames.now) }
 {
-    !code.synchronized
-        && code.parameters.len() <= code.locals as usize
+    code.parameters.len() <= code.locals as usize
         && are_on_top(frames, heap, program, code.parameters.as_slice())
+}
+
+/// Whether a class or interface is an interface.
+fn is_interface(program: &Program, class: u16) -> bool
+    ensures { IsTrue result ↔ (kind_of program.now (id class) ≡ kind.Interface) }
+{
+    let class = ClassId {
+        number: class as usize,
+    };
+    match program.class(class) {
+        Some(class) => class.kind == ClassKind::Interface,
+        None => false,
+    }
+}
+
+/// Whether a value is null, or fits the class or interface named.
+fn is_receiver(heap: &Heap, program: &Program, named: u16, value: Option<Cell>) -> bool
+    ensures { IsTrue result ↔ IsReceiver program.now heap.now named value }
+{
+    match value {
+        Some(Cell::Null) => true,
+        Some(Cell::Reference(number)) => {
+            is_interface(program, named) || heap.is_instance(program, exact_type(named), number)
+        }
+        _ => false,
+    }
+}
+
+/// Whether an instance method that takes these types can be called with the operands on top.
+pub(crate) fn is_callable_on(
+    frames: &Frames,
+    heap: &Heap,
+    program: &Program,
+    named: u16,
+    types: &[ResolvedType],
+) -> bool
+    ensures { IsTrue result ↔ IsCallableOn program.now heap.now named types.now (operands_of frames.now) }
+{
+    are_on_top(frames, heap, program, types)
+        && is_receiver(heap, program, named, frames.operand(types.len()))
+}
+
+/// A class or interface as a type.
+pub(crate) fn exact_type(class: u16) -> ResolvedType
+    ensures { result ≡ exact_type_of class }
+{
+    ResolvedType {
+        dimensions: 0,
+        element: Element::Class(class),
+    }
+}
+
+/// java/io/PrintStream.
+pub(crate) fn print_stream(program: &Program) -> ResolvedType
+    ensures { result ≡ stream_type program.now }
+{
+    built_in_type(program, BuiltIn::PrintStream)
+}
+
+/// Whether a value refers to an instance of a type.
+pub(crate) fn is_instance_in(
+    heap: &Heap,
+    program: &Program,
+    wanted: ResolvedType,
+    value: Option<Cell>,
+) -> bool
+    ensures { IsTrue result ↔ IsInstanceIn program.now heap.now wanted value }
+{
+    match value {
+        Some(Cell::Reference(number)) => heap.is_instance(program, wanted, number),
+        _ => false,
+    }
+}
+
+/// Whether a value is of the kind of a type: an int, or a reference.
+pub(crate) fn is_kind(wanted: ResolvedType, value: Cell) -> bool
+    ensures { result ≡ is_kind_by wanted value }
+{
+    match value {
+        Cell::Int(_) => is_int_type(wanted),
+        Cell::Null | Cell::Reference(_) => !is_int_type(wanted),
+        Cell::Unset => false,
+    }
+}
+
+/// A value as an operand.
+pub(crate) fn cell_of(value: Value) -> Cell
+    ensures { result ≡ cell_of_value value }
+{
+    match value {
+        Value::Int(number) => Cell::Int(number),
+        Value::Null => Cell::Null,
+        Value::Reference(number) => Cell::Reference(number),
+    }
+}
+
+/// An operand as a field or an element takes it.
+pub(crate) fn value_of(value: Cell) -> Value
+    ensures { result ≡ value_of_cell value }
+{
+    match value {
+        Cell::Int(number) => Value::Int(number),
+        Cell::Reference(number) => Value::Reference(number),
+        _ => Value::Null,
+    }
 }

@@ -1,16 +1,23 @@
 //! What runs the code of one thread.
 
 use crate::phase::Phase;
+use crate::taken::TakenMonitors;
 use frames::{Frames, Thrown};
-use heap::Heap;
+use heap::{Heap, Monitors};
 
-/// What runs the code of one thread: its frames, its heap, and how many instructions it may still begin.
+/// What runs the code of one thread: its frames, its heap and monitors, and how many instructions it may still begin.
 #[derive(Debug, Drop)]
 pub struct Interpreter {
     /// The frames of the bodies that run, one within the other.
     pub(crate) frames: Frames,
     /// What was made.
     pub(crate) heap: Heap,
+    /// Who holds which monitor.
+    pub(crate) monitors: Monitors,
+    /// The monitors that the methods of frames took.
+    pub(crate) taken: TakenMonitors,
+    /// The thread's number.
+    pub(crate) thread: u8,
     /// Where the innermost body stands.
     pub(crate) phase: Phase,
     /// The object that left the body that was over last.

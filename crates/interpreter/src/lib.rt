@@ -1,17 +1,27 @@
 //! The code of initializers and of `main`, as one thread runs it.
 #![tactic(auto)]
 
+mod array_leads;
+mod call_leads;
 mod code_bodies;
 mod fitting;
+mod index;
 pub mod interpreter;
 mod lead;
+mod locking;
 mod methods;
 mod moves;
+mod object_leads;
+mod performing;
 mod phase;
+mod print_leads;
+mod return_leads;
 mod says;
 mod switching;
+mod taken;
 mod text;
 mod throwing;
 mod turn;
+mod type_leads;
 
 pub use interpreter::Interpreter;

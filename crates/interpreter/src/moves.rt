@@ -1,8 +1,8 @@
 //! What instructions do to the innermost frame that lead out of it.
 
-ghost use Rattle.std.specs.Prelude.{◌≡◌, ◌≤◌, true, length};
-ghost use Rattle.frames.specs.Activations.{at_place, dropped, has_room, in_innermost, next_place, operands_of, past_call, pushed};
-ghost use Rattle.interpreter.specs.Leads.{HasRoomFor};
+ghost use Rattle.std.specs.Prelude.{◌≡◌, ◌≤◌, ◌↔◌, IsTrue, true, length};
+ghost use Rattle.frames.specs.Activations.{at_place, can_replace, dropped, in_innermost, next_place, operands_of, past_call, replaced};
+ghost use Rattle.interpreter.specs.Rows.{HasRoomFor};
 
 use frames::{Cell, Frames};
 
@@ -16,14 +16,21 @@ pub(crate) fn jump(frames: &mut Frames, to: u16)
     frames.go_to(to);
 }
 
-/// An operand is given, and the frame goes on.
+/// In the place of so many operands comes this one, and the frame goes on.
 #[tactic(auto, using(crate::proofs::Turning::composed))]
-pub(crate) fn give(frames: &mut Frames, value: Cell)
-    requires { has_room frames.old ≡ true }
-    ensures { frames.new ≡ in_innermost (λ f. next_place (pushed value f)) frames.old }
+pub(crate) fn give(frames: &mut Frames, count: usize, value: Cell)
+    requires { can_replace count frames.old ≡ true }
+    ensures { frames.new ≡ in_innermost (λ f. next_place (replaced count value f)) frames.old }
 {
-    frames.push(value);
+    frames.replace(count, value);
     frames.step_over();
+}
+
+/// Whether the innermost frame has so many operands.
+pub(crate) fn has_operands(frames: &Frames, count: usize) -> bool
+    ensures { IsTrue result ↔ (count ≤ length (operands_of frames.now)) }
+{
+    count == 0 || frames.operand(count - 1).is_some()
 }
 
 /// So many operands are taken, and the frame goes on.

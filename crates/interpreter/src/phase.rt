@@ -1,6 +1,7 @@
 //! Where the innermost body stands.
 
 use frames::Thrown;
+use heap::Monitor;
 use hierarchy::ClassId;
 
 /// Where the innermost body stands.
@@ -10,6 +11,8 @@ pub(crate) enum Phase {
     Runs,
     /// The class is ready for which its innermost frame asked.
     Ready(ClassId),
+    /// This monitor is entered before its innermost frame goes on; where it says so, for the frame's method.
+    Locks(Monitor, bool),
     /// It is over: its first method returned, or this object left it.
     Over(Option<Thrown>),
     /// It was refused the memory for its first frame.

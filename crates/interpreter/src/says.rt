@@ -1,11 +1,11 @@
 //! What the innermost body does next.
 
-ghost use Rattle.std.specs.Prelude.{◌≡◌, ◌↔◌, ◌≤◌, IsTrue, IfOk, IfSome, None, OnErr, OnOk, Some, length};
-ghost use Rattle.frames.specs.Activations.{dropped, next_place, operands_of};
+ghost use Rattle.std.specs.Prelude.{◌≡◌, ◌↔◌, ◌≤◌, IsTrue, true, IfOk, IfSome, None, OnErr, OnOk, Some, length};
+ghost use Rattle.frames.specs.Activations.{dropped, has_room, next_place, operands_of};
 ghost use Rattle.bodies.specs.declared.does.Does.TheVariants as does;
 ghost use Rattle.hierarchy.specs.LinkedProgram.{id};
 ghost use Rattle.hierarchy.specs.declared.op.Op.TheVariants as op;
-ghost use Rattle.interpreter.specs.Leads.{on_top};
+ghost use Rattle.interpreter.specs.Fitting.{on_top};
 ghost use Rattle.hierarchy.specs.Subclasses.{IsThrowable};
 ghost use Rattle.interpreter.specs.Rows.{HasArguments, IsAtOp, Row, WaitsFor, with_frame};
 ghost use Rattle.interpreter.specs.Says.{IsSayable, Says, SaysNext, value_on_top as top_value};
@@ -18,6 +18,7 @@ use crate::moves::take;
 use crate::phase::Phase;
 use bodies::Does;
 use frames::{Cell, Thrown};
+use heap::Monitor;
 use hierarchy::{
     BuiltIn, ClassId, MethodCode, Op, Program, Value, instructions_name_what_is_there,
     throwables_are_subclasses,
@@ -95,6 +96,7 @@ impl Interpreter {
                 };
                 Ok(class.number == wanted as usize && is_kind_of(held, self.frames.operand(0)))
             }
+            Op::New(wanted) => Ok(class.number == wanted as usize && self.frames.has_room()),
             Op::InvokeStatic(wanted, method) => {
                 let Some(callee) = method_code(program, wanted as usize, method as usize) else {
                     return Err(AllocError);
@@ -134,26 +136,54 @@ impl Interpreter {
     }
 
     /// Calls the method for which its class was made ready. An `Err` is want of memory, and changes nothing.
-    #[tactic(auto, using(crate::proofs::Saying::calls_at, crate::proofs::Saying::overflows_at, crate::proofs::Saying::throws_anyway))]
-    fn call_static(&mut self, program: &Program, class: u16, method: u16) -> Result<(), AllocError>
-        requires phase { self.old.phase ≡ phases.Ready (id class) }
+    #[tactic(auto, using(crate::proofs::Saying::calls_at))]
+    fn call_static(
+        &mut self,
+        program: &Program,
+        ready: ClassId,
+        class: u16,
+        method: u16,
+    ) -> Result<(), AllocError>
+        requires phase { self.old.phase ≡ phases.Ready ready }
+        requires ready { ready ≡ id class }
         requires at { IsAtOp program.now self.old.frames (op.InvokeStatic class method) }
         ensures row { OnOk result (Row program.now self.old self.new) }
         ensures err { OnErr result (self.new ≡ self.old) }
     {
+        let Some(at) = self.frames.at() else {
+            return Err(AllocError);
+        };
         let (class, method) = (class as usize, method as usize);
         let Some(callee) = method_code(program, class, method) else {
             return Err(AllocError);
         };
-        if !self.has_arguments(callee) {
+        let count = callee.parameters.len();
+        self.phase = Phase::Runs;
+        if self
+            .call(program, at, class, method, count, Monitor::Class(ready))
+            .is_err()
+        {
+            self.phase = Phase::Ready(ready);
             return Err(AllocError);
         }
-        if self.frames.len() >= 512 {
-            return self.throw_new(program, BuiltIn::StackOverflowError);
-        }
-        self.frames
-            .call(class, method, callee, callee.parameters.len())?;
+        Ok(())
+    }
+
+    /// Makes an object of the class that was made ready for it. An `Err` is want of memory, and changes nothing.
+    #[tactic(auto, using(crate::proofs::Saying::makes_at))]
+    fn make(&mut self, program: &Program, ready: ClassId, class: u16) -> Result<(), AllocError>
+        requires phase { self.old.phase ≡ phases.Ready ready }
+        requires ready { ready ≡ id class }
+        requires at { IsAtOp program.now self.old.frames (op.New class) }
+        requires room { has_room self.old.frames ≡ true }
+        ensures row { OnOk result (Row program.now self.old self.new) }
+        ensures err { OnErr result (self.new ≡ self.old) }
+    {
         self.phase = Phase::Runs;
+        if self.make_object(program, ready).is_err() {
+            self.phase = Phase::Ready(ready);
+            return Err(AllocError);
+        }
         Ok(())
     }
 
@@ -179,8 +209,12 @@ impl Interpreter {
         match op {
             Op::GetStatic(_, field) => Ok(Some(self.get_static(class, field))),
             Op::PutStatic(_, field) => Ok(Some(self.put_static(class, field))),
-            Op::InvokeStatic(class, method) => {
-                self.call_static(program, class, method)?;
+            Op::New(wanted) => {
+                self.make(program, class, wanted)?;
+                Ok(None)
+            }
+            Op::InvokeStatic(wanted, method) => {
+                self.call_static(program, class, wanted, method)?;
                 Ok(None)
             }
             _ => Err(AllocError),
@@ -213,6 +247,11 @@ impl Interpreter {
             match self.phase {
                 Phase::Over(thrown) => return self.over(program, thrown),
                 Phase::Refused | Phase::Ready(_) => return Does::Ended(Limit::Memory),
+                Phase::Locks(monitor, of_method) => {
+                    if self.lock(program, monitor, of_method).is_err() {
+                        return Does::Ended(Limit::Memory);
+                    }
+                }
                 Phase::Runs => match self.turn(alloc, program) {
                     Ok(None) => {}
                     Ok(Some(does)) => return does,

@@ -1,8 +1,13 @@
 //! The targets of switches.
 
 ghost use Rattle.std.specs.Prelude.{◌≡◌, ◌-ℤ◌, Some, None};
-ghost use Rattle.interpreter.specs.Leads.{target_at as target_behind, case_target, target_of};
+ghost use Rattle.interpreter.specs.Leads.{case_target, jump_lead, switch_lead, target_at as target_behind, target_of};
+ghost use Rattle.interpreter.specs.Methods.{instruction_at as text_at};
 
+use crate::lead::{Lead, VERIFY};
+use crate::methods::instruction_at;
+use frames::{Cell, FramePlace};
+use hierarchy::Program;
 use jasmin_text::Instruction;
 
 /// The target at a place behind the lowest key, if there is one.
@@ -31,7 +36,7 @@ fn target_among(cases: &[(i32, u16)], key: i32) -> Option<u16>
 
 /// Where a switch goes on for a key (JVMS SE 8 6.5 tableswitch, lookupswitch); none where the instruction is no switch. Takes time
 /// linear in the keys of a `lookupswitch`.
-pub(crate) fn target_for(instruction: &Instruction<u16>, key: i32) -> Option<u16>
+fn target_for(instruction: &Instruction<u16>, key: i32) -> Option<u16>
     ensures { result ≡ target_of (Some instruction.now) key }
 {
     match instruction {
@@ -43,5 +48,34 @@ pub(crate) fn target_for(instruction: &Instruction<u16>, key: i32) -> Option<u16
             Some(target_among(cases.as_slice(), key).unwrap_or(*default))
         }
         _ => None,
+    }
+}
+
+/// Where the switch at a place goes on for a key.
+fn target(program: &Program, at: FramePlace, key: i32) -> Option<u16>
+    ensures { result ≡ target_of (text_at program.now at.class at.method at.place) key }
+{
+    match instruction_at(program, at.class, at.method, at.place) {
+        Some(instruction) => target_for(instruction, key),
+        None => None,
+    }
+}
+
+fn jump_to(target: Option<u16>) -> Lead
+    ensures { result ≡ jump_lead target }
+{
+    match target {
+        Some(to) => Lead::Jumps(to),
+        None => VERIFY,
+    }
+}
+
+/// What the switch at a place comes to, by the operand on top.
+pub(crate) fn switch(program: &Program, at: FramePlace, value: Option<Cell>) -> Lead
+    ensures { result ≡ switch_lead program.now at value }
+{
+    match value {
+        Some(Cell::Int(key)) => jump_to(target(program, at, key)),
+        _ => VERIFY,
     }
 }

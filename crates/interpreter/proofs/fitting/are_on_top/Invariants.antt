@@ -1,6 +1,6 @@
 use Rattle.std.proofs.Common.{◌≡◌, ◌↔◌, ◌+◌, drop, length, reverse}
 use Rattle.frames.specs.Activations.{operands_of}
-use Rattle.interpreter.specs.Leads.{AreOnTop}
+use Rattle.interpreter.specs.Fitting.{AreOnTop}
 use Rattle.interpreter.proofs.fitting.are_on_top.Given as goal
 
 abbrev pub invariant-loop-rest : goal.invariant-loop-rest

@@ -1,7 +1,7 @@
-use Rattle.std.proofs.Common.{◌<◌, ◌≤◌, List, ap, subst}
-use Rattle.frames.specs.Activations.{Activation}
+use Rattle.std.proofs.Common.{◌<◌, ◌≤◌, ◌∷◌, List, true, ap, subst, ◌∙◌}
+use Rattle.frames.specs.Activations.{Activation, activation}
 use Rattle.interpreter.specs.CodeRun.{enters, lacks_locals, overflows}
-use Rattle.interpreter.specs.declared.phase.Phase.TheVariants.{Runs}
+use Rattle.interpreter.specs.declared.phase.Phase.{Phase}
 use Rattle.interpreter.proofs.CodeBodies.{on_ok}
 use Rattle.interpreter.proofs.interpreter.Interpreter.begin.Goals as goal
 
@@ -12,4 +12,6 @@ pub returns-then-len-ge512-clause-ok : goal.returns-then-len-ge512-clause-ok
 returns-then-len-ge512-clause-ok c = on_ok c.fail-then-len-ge512.result (λ e. overflows c.in-Some.ensures c.if-given-code.false (subst (λ n. 512 ≤ n) c.len.ensures c.if-len-ge512.true) e) c.fail-then-len-ge512.ensures.ok
 
 pub returns-clause-ok : goal.returns-clause-ok
-returns-clause-ok c = enters c.in-Some.ensures c.if-given-code.false (subst (λ n. n < 512) c.len.ensures c.if-len-ge512.false) (ap (λ (frames : List Activation). record c.args.self.now { frames = frames; phase = Runs }) c.in_ok-begin.ensures.ok)
+returns-clause-ok c = enters c.in-Some.ensures c.if-given-code.false (subst (λ n. n < 512) c.len.ensures c.if-len-ge512.false)
+    (ap (λ (frames : List Activation). record c.args.self.now { frames = frames; phase = c.first_phase-self.result }) c.in_ok-begin.ensures.ok ∙
+    ap (λ (phase : Phase). record c.args.self.now { frames = activation c.args.class.number c.args.method true c.in-Some.code.now c.args.given.now ∷ c.args.self.now.frames; phase = phase }) c.first_phase-self.ensures)

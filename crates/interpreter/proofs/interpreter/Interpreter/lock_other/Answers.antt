@@ -1,0 +1,8 @@
+use Rattle.std.proofs.Common.{refl, subst}
+use Rattle.heap.specs.declared.monitors.Entry.{Entry}
+use Rattle.heap.specs.Monitors.{Enters}
+use Rattle.interpreter.specs.Rows.{locks}
+use Rattle.interpreter.proofs.interpreter.Interpreter.lock_other.Goals as goal
+
+pub returns-in-Entered-clause-row : goal.returns-in-Entered-clause-row
+returns-in-Entered-clause-row c = locks c.requires (subst (λ (e : Entry). Enters c.args.self.now.monitors c.args.self.now.thread c.args.monitor e c.enter.new.self) c.in-Entered.is c.in_ok-enter.ensures.entered) refl
