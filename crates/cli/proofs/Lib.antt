@@ -4,3 +4,4 @@ pub mod KnownOutput
 pub mod Names
 pub mod OneMain
 pub mod Quiet
+pub mod Starts

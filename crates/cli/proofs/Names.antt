@@ -1,5 +1,5 @@
 -- Names parted by commas, read from the left.
-use Rattle.std.proofs.Common.{◌≡◌, ◌++◌, List, Option, option_map}
+use Rattle.std.proofs.Common.{◌++◌, List, Option, option_map}
 use Rattle.hierarchy.specs.declared.class.ClassId.{ClassId}
 
 -- these classes, and behind them further ones, where those are there

@@ -1,13 +1,13 @@
 -- At exit status 0 nothing is written to standard error.
-use Rattle.std.proofs.Common.{◌≡◌, ◌∙◌, ℕ, suc, Bool, true, false, List, [], ◌∷◌, Option, Some, None, refl, sym, ap, append-nil, subst, if◌then◌else◌}
+use Rattle.std.proofs.Common.{◌≡◌, ◌∙◌, ℕ, suc, Bool, true, false, List, [], ◌∷◌, Option, Some, None, refl, append-nil, subst, if◌then◌else◌}
 use Rattle.std.specs.List.{list_any}
 use Rattle.std.specs.Io.KnownBytes.{Appends, Keeps}
 use Rattle.hierarchy.specs.LinkedProgram.{LinkedProgram}
 use Rattle.trace.specs.declared.report.ThreadOutcome.{ThreadOutcome}
 use Rattle.trace.specs.declared.report.ThreadOutcome.TheVariants.{Normal, Abrupt, Ended}
-use Rattle.cli.specs.CommandLine.{Request, RunWords, run, needs, unfit}
-use Rattle.cli.specs.Outcomes.{is_abrupt, outcomes_from, status_after}
-use Rattle.cli.specs.Serving.{HasRun, IsServed, Surroundings}
+use Rattle.cli.specs.CommandLine.{Request, run, needs, unfit}
+use Rattle.cli.specs.Outcomes.{is_abrupt, outcomes_from}
+use Rattle.cli.specs.Serving.{IsServed, Surroundings}
 
 -- threads that ended normally have no line
 silent : (p : LinkedProgram) (thread : ℕ) (outcomes : List ThreadOutcome) → list_any is_abrupt outcomes ≡ false → outcomes_from p thread outcomes ≡ []

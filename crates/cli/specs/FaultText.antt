@@ -6,7 +6,7 @@ use Rattle.hierarchy.specs.declared.fault.LinkFaultKind.TheVariants.{RepeatedNam
 use Rattle.jasmin_reader.specs.declared.fault.ReadFault.{ReadFault}
 use Rattle.jasmin_words.specs.Fault.{number_of}
 use Rattle.cli.specs.declared.fault.Fault.{Fault}
-use Rattle.cli.specs.declared.fault.Fault.TheVariants.{Body, Files, Io, Jasmin, Link, Mains, Memory, Output, Patience, Steps, Threads, Words}
+use Rattle.cli.specs.declared.fault.Fault.TheVariants.{Files, Io, Jasmin, Link, Mains, Memory, Output, Patience, Steps, Threads, Words}
 
 -- the number in the code of a fault of linking
 abbrev pub link_number_of : LinkFaultKind → ℕ
@@ -38,7 +38,6 @@ fault_line (Link f) = link_line f
 fault_line Steps = codes "cli: steps\n"
 fault_line Patience = codes "cli: patience\n"
 fault_line Mains = codes "cli: mains\n"
-fault_line Body = codes "cli: body\n"
 fault_line Threads = codes "threads\n"
 fault_line Memory = codes "memory\n"
 fault_line Output = codes "io: output\n"

@@ -4,7 +4,6 @@ pub mod Status
 pub mod Running
 pub mod Files
 pub mod NeedsText
-pub mod Built
 pub mod Limits
 pub mod FaultText
 pub mod ReadRefusals

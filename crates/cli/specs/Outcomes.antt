@@ -6,7 +6,7 @@ use Rattle.hierarchy.specs.LinkedProgram.{LinkedProgram, built_in}
 use Rattle.hierarchy.specs.declared.class.ClassId.{ClassId}
 use Rattle.trace.specs.TraceText.{class_text}
 use Rattle.trace.specs.declared.report.Limit.{Limit}
-use Rattle.trace.specs.declared.report.Limit.TheVariants.{Steps, Patience, Memory}
+use Rattle.trace.specs.declared.report.Limit.TheVariants.{Memory}
 use Rattle.trace.specs.declared.report.ThreadOutcome.{ThreadOutcome}
 use Rattle.trace.specs.declared.report.ThreadOutcome.TheVariants.{Normal, Abrupt, Ended}
 

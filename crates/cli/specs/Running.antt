@@ -1,5 +1,5 @@
 -- Class texts, linked and run.
-use Rattle.std.specs.Prelude.{◌≡◌, ℕ, ◌++◌, List, [], ◌∷◌, Option, Some, None, if◌then◌else◌, length, nat_eq, nat_lt, replicate, true, false, option_and_then}
+use Rattle.std.specs.Prelude.{◌≡◌, ℕ, zero, suc, Bool, true, false, ◌++◌, List, [], ◌∷◌, Option, Some, None, if◌then◌else◌, length, nat_eq, nat_lt, option_and_then}
 use Rattle.jasmin_text.specs.declared.class_text.ClassParts.{ClassParts}
 use Rattle.hierarchy.specs.declared.class.ClassId.{ClassId}
 use Rattle.hierarchy.specs.declared.fault.LinkFault.{LinkFault}
@@ -9,10 +9,11 @@ use Rattle.trace.specs.declared.report.Limits.{Limits}
 use Rattle.trace.specs.declared.report.Report.{Report}
 use Rattle.interpreter.specs.declared.interpreter.Interpreter.{Interpreter}
 use Rattle.interpreter.specs.CodeRun.{code_bodies, interpreter_at_start}
+use Rattle.interpreter.specs.SharedRun.{shared_bodies}
+use Rattle.bodies.specs.Making.{Making}
 use Rattle.bodies.specs.Runs.{IsRunOf}
 use Rattle.cli.specs.declared.fault.Fault.{Fault}
-use Rattle.cli.specs.declared.fault.Fault.TheVariants.{Body, Link, Mains, Memory, Threads}
-use Rattle.cli.specs.Built.{can_run}
+use Rattle.cli.specs.declared.fault.Fault.TheVariants.{Link, Mains, Memory, Threads}
 
 -- why class texts aren't linked: their first fault, or want of memory
 pub data IsLinkRefusal (texts : List ClassParts) : Fault → Type 0 where
@@ -49,22 +50,33 @@ mains_named p text = option_and_then up_to_16 (mains_from p [] text)
 abbrev pub mains_in : LinkedProgram → Option (List ℕ) → Option (List ClassId)
 mains_in p mains = option_and_then (mains_named p) mains
 
--- for each main class what runs its thread's code, of which nothing has run
+-- what runs the code of the threads below this one, of which nothing has run
+abbrev pub starts_below : ℕ → ℕ → List Interpreter
+starts_below zero steps = []
+starts_below (suc n) steps = starts_below n steps ++ interpreter_at_start n steps ∷ []
+
+-- and of as many threads as there are main classes
 abbrev pub starts_of : List ClassId → Limits → List Interpreter
-starts_of mains limits = replicate (length mains) (interpreter_at_start limits.steps)
+starts_of mains limits = starts_below (length mains) limits.steps
+
+-- the code of a main class alone, which meets no other thread, and that of several, which share one heap
+abbrev pub bodies_by : Bool → LinkedProgram → Making Interpreter
+bodies_by true p = code_bodies p
+bodies_by false p = shared_bodies p
+
+abbrev pub bodies_of : LinkedProgram → List ClassId → Making Interpreter
+bodies_of p mains = bodies_by (nat_lt (length mains) 2) p
 
 -- the report is of a run of the code of the classes that the text of `--mains` names, each on a thread of its own
 pub record IsRunOfNamed (mains : Option (List ℕ)) (limits : Limits) (p : LinkedProgram) (r : Report) : Type 0 where
   pub classes : List ClassId
   pub named : mains_in p mains ≡ Some classes
-  pub run : IsRunOf p (code_bodies p) (starts_of classes limits) classes limits r
-  pub built : can_run p classes ≡ true
+  pub run : IsRunOf p (bodies_of p classes) (starts_of classes limits) classes limits r
 
 -- why a program isn't run: the first fault, in this order, or want of memory or of a thread
 pub data IsRunRefusal (p : LinkedProgram) (mains : Option (List ℕ)) : Fault → Type 0 where
   unnamed : mains_in p mains ≡ None → IsRunRefusal p mains Mains
-  unbuilt : {classes : List ClassId} → mains_in p mains ≡ Some classes → can_run p classes ≡ false → IsRunRefusal p mains Body
-  no_thread : {classes : List ClassId} → mains_in p mains ≡ Some classes → can_run p classes ≡ true → IsRunRefusal p mains Threads
+  no_thread : {classes : List ClassId} → mains_in p mains ≡ Some classes → IsRunRefusal p mains Threads
   no_memory : IsRunRefusal p mains Memory
 
 -- why class texts and a text of `--mains` aren't run: the first fault, in this order, or want of memory or of a thread

@@ -30,8 +30,6 @@ pub enum Fault<'a> {
     Patience,
     /// A main class is unknown, there is none, or more than 16 are named.
     Mains,
-    /// A method has a body where several main classes are named: code runs on one thread so far.
-    Body,
     /// A thread of the machine can't be started.
     Threads,
     /// Want of memory.
@@ -64,7 +62,7 @@ impl Fault<'_> {
         match self {
             Fault::Words | Fault::Files | Fault::Jasmin { .. } => 2,
             Fault::Steps | Fault::Patience => 2,
-            Fault::Link(_) | Fault::Mains | Fault::Body => 2,
+            Fault::Link(_) | Fault::Mains => 2,
             Fault::Io(_) | Fault::Threads | Fault::Memory | Fault::Output => 3,
         }
     }
@@ -82,7 +80,6 @@ impl Fault<'_> {
             Fault::Steps => err.write_all(b"cli: steps\n"),
             Fault::Patience => err.write_all(b"cli: patience\n"),
             Fault::Mains => err.write_all(b"cli: mains\n"),
-            Fault::Body => err.write_all(b"cli: body\n"),
             Fault::Threads => err.write_all(b"threads\n"),
             Fault::Memory => err.write_all(b"memory\n"),
             Fault::Output => err.write_all(b"io: output\n"),

@@ -5,7 +5,6 @@
 //! machine's files and streams, so that each of its runs is also a test over files in memory.
 #![tactic(auto)]
 
-pub mod built;
 pub mod fault;
 pub mod files;
 pub mod limits;

@@ -1,24 +1,24 @@
 //! From class texts to the run of their main classes.
 
-ghost use Rattle.std.specs.Prelude.{◌≡◌, ◌⊎◌, ◌<◌, ◌≤◌, ◌∷◌, [], IfErr, IfOk, IfSome, length, replicate, vec_len};
+ghost use Rattle.std.specs.Prelude.{◌≡◌, ◌⊎◌, ◌<◌, ◌≤◌, ◌∷◌, [], IfErr, IfOk, IfSome, length, vec_len};
 ghost use Rattle.std.specs.Option.{option_map};
 ghost use Rattle.hierarchy.specs.FirstFault.{LinksTo};
 ghost use Rattle.init_core.specs.ProcedureWord.{IsOfFiles};
 ghost use Rattle.interpreter.specs.CodeRun.{code_bodies, interpreter_at_start};
+ghost use Rattle.interpreter.specs.SharedRun.{shared_bodies};
 ghost use Rattle.bodies.specs.Runs.{AreMains, IsRunOf};
 ghost use Rattle.cli.specs.declared.fault.Fault.TheVariants.{Memory, Threads};
 ghost use Rattle.cli.specs.CommandLine.{text_of};
-ghost use Rattle.cli.specs.Running.{IsLinkRefusal, IsRefusal, IsRunOfNamed, IsRunRefusal, main_named as class_of_name, mains_in, mains_named as classes_of_names, starts_of};
+ghost use Rattle.cli.specs.Running.{IsLinkRefusal, IsRefusal, IsRunOfNamed, IsRunRefusal, bodies_of, main_named as class_of_name, mains_in, mains_named as classes_of_names, starts_below, starts_of};
 
-use crate::built::can_run;
 use crate::fault::Fault;
 use guest_threads::{NoGate, RunFault, run_threads};
 use hierarchy::{ClassId, LinkFaultKind, Program, link};
-use interpreter::Interpreter;
+use interpreter::{Interpreter, SharedInterpreter, SharedObjects};
 use jasmin_text::ClassText;
 use replayer::run_ordered;
 use std::alloc::{AllocError, Global};
-use std::sync::Wait;
+use std::sync::{Mutex, Wait};
 use std::thread::Threads;
 use trace::{Limits, Report};
 
@@ -94,23 +94,55 @@ fn run_alone<'a>(
     limits: Limits,
 ) -> Result<Report, Fault<'a>>
     requires { IsOfFiles program.now main }
-    ensures ran { IfOk result (IsRunOf program.now (code_bodies program.now) (interpreter_at_start limits.steps ∷ []) (main ∷ []) limits) }
+    ensures ran { IfOk result (IsRunOf program.now (code_bodies program.now) (interpreter_at_start 0 limits.steps ∷ []) (main ∷ []) limits) }
     ensures refused { IfErr result (λ fault. fault ≡ Memory) }
 {
-    let bodies = Interpreter::new(alloc, limits.steps);
+    let bodies = Interpreter::new(alloc, 0, limits.steps);
     let report = run_ordered(alloc, program, main, bodies)?;
     Ok(report)
 }
 
-/// What runs the code of so many threads, of which each may begin so many instructions.
-fn interpreters(alloc: Global, count: usize, steps: u32) -> Result<Vec<Interpreter>, AllocError>
-    ensures { IfOk result (λ made. made.items ≡ replicate count (interpreter_at_start steps)) }
+/// What runs the code of so many threads, which share one heap, and of which each may begin so many instructions.
+fn interpreters<'s, R: Wait>(
+    rt: &'s R,
+    alloc: Global,
+    shared: &'s Mutex<SharedObjects>,
+    count: usize,
+    steps: u32,
+) -> Result<Vec<SharedInterpreter<'s, R>>, AllocError>
+    requires { count ≤ 16 }
+    ensures starts { IfOk result (λ made. made.items ≡ starts_below count steps) }
+    ensures count { IfOk result (λ made. vec_len made ≡ count) }
 {
     let mut made = Vec::new(alloc);
     'threads: while made.len() < count {
-        made.push(Interpreter::new(alloc, steps))?;
+        let thread = made.len() as u8;
+        made.push(SharedInterpreter::new(rt, alloc, shared, thread, steps))?;
     }
     Ok(made)
+}
+
+/// Runs several main classes, each on a thread of its own.
+fn run_several<'a, R: Threads + Wait + Sync>(
+    rt: &R,
+    alloc: Global,
+    program: &Program,
+    mains: &[ClassId],
+    limits: Limits,
+) -> Result<Report, Fault<'a>>
+    requires mains { AreMains program.now mains.now }
+    requires some { 1 ≤ length mains.now }
+    requires few { length mains.now ≤ 16 }
+    ensures ran { IfOk result (IsRunOf program.now (shared_bodies program.now) (starts_of mains.now limits) mains.now limits) }
+    ensures refused { IfErr result (λ fault. (fault ≡ Memory) ⊎ (fault ≡ Threads)) }
+{
+    let shared = Mutex::new(SharedObjects::new(alloc));
+    let bodies = interpreters(rt, alloc, &shared, mains.len(), limits.steps)?;
+    match run_threads(rt, alloc, program, mains, bodies, limits, &NoGate) {
+        Ok(report) => Ok(report),
+        Err(RunFault::NoMemory) => Err(Fault::Memory),
+        Err(RunFault::NoThread) => Err(Fault::Threads),
+    }
 }
 
 /// Runs these main classes: one on the calling thread, several each on a thread of its own.
@@ -124,21 +156,16 @@ fn run_mains<'a, R: Threads + Wait + Sync>(
     requires mains { AreMains program.now mains.now }
     requires some { 1 ≤ length mains.now }
     requires few { length mains.now ≤ 16 }
-    ensures ran { IfOk result (IsRunOf program.now (code_bodies program.now) (starts_of mains.now limits) mains.now limits) }
+    ensures ran { IfOk result (IsRunOf program.now (bodies_of program.now mains.now) (starts_of mains.now limits) mains.now limits) }
     ensures refused { IfErr result (λ fault. (fault ≡ Memory) ⊎ (fault ≡ Threads)) }
 {
     if let [main] = mains {
         return run_alone(alloc, program, *main, limits);
     }
-    let bodies = interpreters(alloc, mains.len(), limits.steps)?;
-    match run_threads(rt, alloc, program, mains, bodies, limits, &NoGate) {
-        Ok(report) => Ok(report),
-        Err(RunFault::NoMemory) => Err(Fault::Memory),
-        Err(RunFault::NoThread) => Err(Fault::Threads),
-    }
+    run_several(rt, alloc, program, mains, limits)
 }
 
-/// Runs the main classes that the text of `--mains` names, where they can be run.
+/// Runs the main classes that the text of `--mains` names.
 fn run_program<'a, R: Threads + Wait + Sync>(
     rt: &R,
     alloc: Global,
@@ -155,9 +182,6 @@ fn run_program<'a, R: Threads + Wait + Sync>(
     let Some(mains) = mains_named(alloc, program, names.as_bytes())? else {
         return Err(Fault::Mains);
     };
-    if !can_run(program, &mains) {
-        return Err(Fault::Body);
-    }
     run_mains(rt, alloc, program, &mains, limits)
 }
 
@@ -180,8 +204,7 @@ pub struct ProgramRun {
 /// # Errors
 ///
 /// The first of: the first fault of linking (`Fault::Link`); no main class, one that no file has, or more than 16
-/// (`Fault::Mains`); a method with a body where several main classes are named (`Fault::Body`); a thread that can't be started
-/// (`Fault::Threads`). Want of memory (`Fault::Memory`) may come before any of them.
+/// (`Fault::Mains`); a thread that can't be started (`Fault::Threads`). Want of memory (`Fault::Memory`) may come before any of them.
 pub fn run_texts<'a, R: Threads + Wait + Sync>(
     rt: &R,
     alloc: Global,

@@ -7,5 +7,6 @@ pub mod OnTop
 pub mod Releasing
 pub mod Running
 pub mod Saying
+pub mod Sharing
 pub mod Statics
 pub mod Turning

@@ -10,3 +10,5 @@ pub mod Printing
 pub mod Rows
 pub mod Says
 pub mod CodeRun
+pub mod Waiting
+pub mod SharedRun

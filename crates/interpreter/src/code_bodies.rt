@@ -67,16 +67,16 @@ fn first_phase(takes_monitor: bool, code: &MethodCode, class: ClassId) -> Phase
 }
 
 impl Interpreter {
-    /// What runs the code of the first thread, which may begin so many instructions; nothing has run yet. Takes no memory.
-    pub fn new(alloc: Global, steps: u32) -> Self
-        ensures { result ≡ interpreter_at_start steps }
+    /// What runs the code of the thread of this number, which may begin so many instructions; nothing has run yet. Takes no memory.
+    pub fn new(alloc: Global, thread: u8, steps: u32) -> Self
+        ensures { result ≡ interpreter_at_start thread steps }
     {
         Interpreter {
             frames: Frames::new(alloc),
             heap: Heap::new(alloc),
             monitors: Monitors::new(alloc),
             taken: TakenMonitors::new(alloc),
-            thread: 0,
+            thread,
             phase: Phase::Runs,
             thrown: None,
             left: steps as u64,
@@ -124,7 +124,7 @@ impl Interpreter {
 
 impl Interpreter {
     /// Told how the procedure for a class was completed, the body goes on where its frame asked for it.
-    fn tell(&mut self, program: &Program, last: Option<Completed>)
+    pub(crate) fn tell(&mut self, program: &Program, last: Option<Completed>)
         requires { GoesOn last }
         ensures { IsTold program.now last self.old.phase self.old self.new }
     {
@@ -144,7 +144,7 @@ impl Interpreter {
     }
 
     /// Begins the initializer of a class, if it has one. An `Err` is want of memory, and changes nothing.
-    fn try_start(&mut self, program: &Program, class: ClassId) -> Result<(), AllocError>
+    pub(crate) fn try_start(&mut self, program: &Program, class: ClassId) -> Result<(), AllocError>
         ensures ok { OnOk result (Starts program.now self.old class self.new) }
         ensures err { OnErr result (self.new ≡ self.old) }
     {
@@ -161,7 +161,7 @@ impl Interpreter {
     }
 
     /// Begins the method `main` of a class, if it has one, with a new array of no texts. An `Err` is want of memory.
-    fn try_enter(&mut self, program: &Program, class: ClassId) -> Result<(), AllocError>
+    pub(crate) fn try_enter(&mut self, program: &Program, class: ClassId) -> Result<(), AllocError>
         ensures ok { OnOk result (Enters program.now self.old class self.new) }
         ensures err { OnErr result ((self.new ≡ self.old) ⊎ (self.new ≡ record self.old { heap = with_new program.now self.old.heap (no_texts program.now) })) }
     {

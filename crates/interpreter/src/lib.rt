@@ -17,6 +17,7 @@ mod phase;
 mod print_leads;
 mod return_leads;
 mod says;
+pub mod shared;
 mod switching;
 mod taken;
 mod text;
@@ -25,3 +26,4 @@ mod turn;
 mod type_leads;
 
 pub use interpreter::Interpreter;
+pub use shared::{SharedInterpreter, SharedObjects};

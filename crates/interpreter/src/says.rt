@@ -65,7 +65,7 @@ impl Interpreter {
 
     /// The body is over.
     #[tactic(auto, using(crate::proofs::Saying::lacks_memory, crate::proofs::Saying::returns_out, crate::proofs::Saying::throws_out))]
-    fn over(&mut self, program: &Program, thrown: Option<Thrown>) -> Does
+    pub(crate) fn over(&mut self, program: &Program, thrown: Option<Thrown>) -> Does
         requires { self.old.phase ≡ phases.Over thrown }
         ensures says { Says program.now self.old result self.new }
         ensures sayable { IsSayable program.now self.old.phase result }
@@ -190,7 +190,11 @@ impl Interpreter {
     /// Goes on with the instruction for which a class was made ready: what the body does by it, or nothing where it makes no event.
     /// An `Err` is want of memory, and changes nothing.
     #[tactic(auto, using(crate::proofs::Saying::idles_at, crate::proofs::Saying::gets_at, crate::proofs::Saying::puts_at, crate::proofs::Saying::gets_said, crate::proofs::Saying::puts_said))]
-    fn resume(&mut self, program: &Program, class: ClassId) -> Result<Option<Does>, AllocError>
+    pub(crate) fn resume(
+        &mut self,
+        program: &Program,
+        class: ClassId,
+    ) -> Result<Option<Does>, AllocError>
         requires { self.old.phase ≡ phases.Ready class }
         ensures row { IfOk result (λ d. d ≡ None → Row program.now self.old self.new) }
         ensures says { IfOk result (λ d. IfSome d (λ x. Says program.now self.old x self.new)) }
@@ -247,11 +251,12 @@ impl Interpreter {
             match self.phase {
                 Phase::Over(thrown) => return self.over(program, thrown),
                 Phase::Refused | Phase::Ready(_) => return Does::Ended(Limit::Memory),
-                Phase::Locks(monitor, of_method) => {
-                    if self.lock(program, monitor, of_method).is_err() {
-                        return Does::Ended(Limit::Memory);
-                    }
-                }
+                Phase::Locks(monitor, of_method) => match self.lock(program, monitor, of_method) {
+                    Ok(true) => {}
+                    // (another thread's: there is none)
+                    Ok(false) => return Does::Ended(Limit::Memory),
+                    Err(_) => return Does::Ended(Limit::Memory),
+                },
                 Phase::Runs => match self.turn(alloc, program) {
                     Ok(None) => {}
                     Ok(Some(does)) => return does,

@@ -4,11 +4,11 @@ use crate::programs::texts::Texts;
 use cli::{Asked, Named, parse, write_outcomes};
 use guest_threads::{NoGate, RunFault, run_threads};
 use hierarchy::{ClassId, Program, link};
-use interpreter::Interpreter;
+use interpreter::{SharedInterpreter, SharedObjects};
 use jasmin_reader::read_class;
 use jasmin_text::ClassText;
 use std::alloc::{AllocError, Global};
-use std::sync::Wait;
+use std::sync::{Mutex, Wait};
 use std::thread::Threads;
 use trace::{Limits, Report, write_trace};
 
@@ -56,8 +56,9 @@ fn report_of<R: Threads + Wait + Sync>(
     if main.number >= program.len() {
         return Ok(None);
     }
+    let shared = Mutex::new(SharedObjects::new(alloc));
     let mut bodies = Vec::new(alloc);
-    bodies.push(Interpreter::new(alloc, steps))?;
+    bodies.push(SharedInterpreter::new(rt, alloc, &shared, 0, steps))?;
     let limits = Limits { steps, patience: 0 };
     match run_threads(rt, alloc, program, &[main], bodies, limits, &NoGate) {
         Ok(report) => Ok(Some(report)),

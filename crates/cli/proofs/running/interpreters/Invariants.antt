@@ -1,9 +1,9 @@
-use Rattle.std.proofs.Common.{◌≡◌, ◌-◌, ◌≤◌, length, replicate}
-use Rattle.interpreter.specs.CodeRun.{interpreter_at_start}
+use Rattle.std.proofs.Common.{◌≡◌, ◌-◌, ◌≤◌, length}
+use Rattle.cli.specs.Running.{starts_below}
 use Rattle.cli.proofs.running.interpreters.Given as goal
 
 abbrev pub invariant-threads : goal.invariant-threads
-invariant-threads l = (l.made.items ≡ replicate (length l.made.items) (interpreter_at_start l.steps)) × (length l.made.items ≤ l.count)
+invariant-threads g l = (l.made.items ≡ starts_below (length l.made.items) l.steps) × (length l.made.items ≤ l.count)
 
 abbrev pub decreases-threads : goal.decreases-threads
-decreases-threads l = l.count - length l.made.items
+decreases-threads g l = l.count - length l.made.items

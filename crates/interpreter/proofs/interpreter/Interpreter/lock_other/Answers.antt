@@ -2,7 +2,11 @@ use Rattle.std.proofs.Common.{refl, subst}
 use Rattle.heap.specs.declared.monitors.Entry.{Entry}
 use Rattle.heap.specs.Monitors.{Enters}
 use Rattle.interpreter.specs.Rows.{locks}
+use Rattle.interpreter.proofs.Entering.{busy_at}
 use Rattle.interpreter.proofs.interpreter.Interpreter.lock_other.Goals as goal
 
 pub returns-in-Entered-clause-row : goal.returns-in-Entered-clause-row
-returns-in-Entered-clause-row c = locks c.requires (subst (λ (e : Entry). Enters c.args.self.now.monitors c.args.self.now.thread c.args.monitor e c.enter.new.self) c.in-Entered.is c.in_ok-enter.ensures.entered) refl
+returns-in-Entered-clause-row c = λ same. locks c.requires (subst (λ (e : Entry). Enters c.args.self.now.monitors c.args.self.now.thread c.args.monitor e c.enter.new.self) c.in-Entered.is c.in_ok-enter.ensures.entered) refl
+
+pub returns-in-Busy-clause-busy : goal.returns-in-Busy-clause-busy
+returns-in-Busy-clause-busy c = λ same. busy_at c.args.self.now c.args.monitor c.enter.new.self c.args.self.now.taken (subst (λ (e : Entry). Enters c.args.self.now.monitors c.args.self.now.thread c.args.monitor e c.enter.new.self) c.in-Busy.is c.in_ok-enter.ensures.entered) refl
