@@ -1,0 +1,11 @@
+pub mod Words
+pub mod Meanings
+pub mod Tested
+pub mod ReadEvents
+pub mod Parts
+pub mod Lists
+pub mod Threads
+pub mod States
+pub mod Rules
+pub mod Judged
+pub mod Verdicts

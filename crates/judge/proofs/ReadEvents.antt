@@ -1,0 +1,21 @@
+-- What the tests of an event tell of `Reads`.
+use Rattle.std.proofs.Common.{◌≡◌, ℕ, List, [], ◌∷◌, ◌++◌, Option, Some, None, Bool, true, false, IfOk, Result, Ok, Err, refl, sym, subst, ◌∙◌}
+use Rattle.std.specs.declared.alloc.AllocError.{AllocError}
+use Rattle.hierarchy.specs.declared.class.ClassId.{ClassId}
+use Rattle.hierarchy.specs.LinkedProgram.{LinkedProgram}
+use Rattle.init_core.specs.declared.event.Event.{Event}
+use Rattle.init_core.specs.declared.event.Kind.{Kind}
+use Rattle.init_core.specs.Standing.{Standing}
+use Rattle.judge.specs.NextEvent.{MayRead, read_to, begun_after}
+use Rattle.judge.specs.Reading.{made_by, Reads}
+use Rattle.judge.proofs.Tested.{reads, tested}
+
+module _ (p : LinkedProgram) (a : Bool) (s : Standing) (o : Option ClassId) (k : Kind) where
+  pub is_read : (b : Bool) (u : Standing) (r : Result Bool AllocError) → b ≡ begun_after a s.frames → IfOk r (λ it. it ≡ true → MayRead p a s.frames s.last o k) → IfOk r (λ it. it ≡ true → u ≡ read_to p s.frames s.last o k) →
+      IfOk r (λ it. it ≡ true → (t : ℕ) → Reads p t a s (made_by t o k) b u)
+  is_read b u (Ok it) q may leads = λ e t. subst (λ (c : Bool). Reads p t a s (made_by t o k) c u) (sym q) (subst (λ (v : Standing). Reads p t a s (made_by t o k) (begun_after a s.frames) v) (sym (leads e)) (reads p t a s.frames s.last o k (may e)))
+  is_read b u (Err e) q may leads = tt
+
+  pub is_not_read : (r : Result Bool AllocError) → IfOk r (λ it. it ≡ false → MayRead p a s.frames s.last o k → ⊥) → IfOk r (λ it. it ≡ false → (t : ℕ) (begun : Bool) (after : Standing) → Reads p t a s (made_by t o k) begun after → ⊥)
+  is_not_read (Ok it) never = λ e t begun after x. never e (tested p t x).0
+  is_not_read (Err e) never = tt

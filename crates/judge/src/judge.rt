@@ -1,0 +1,84 @@
+//! Events of all threads, judged one after the other.
+
+ghost use Rattle.std.specs.Prelude.{◌≡◌, ◌<◌, ◌++◌, ◌∷◌, [], List, None, IfOk, IfSome, true, false};
+ghost use Rattle.hierarchy.specs.declared.class.ClassId.{ClassId as ClassFacts};
+ghost use Rattle.hierarchy.specs.LinkedProgram.{LinkedProgram};
+ghost use Rattle.init_core.specs.declared.event.Event.{Event as EventFacts};
+ghost use Rattle.judge.specs.Judging.{HasJudged, MayAllStop};
+ghost use Rattle.judge.specs.Reading.{made_by};
+ghost use Rattle.judge.specs.Verdicts.{Breaks};
+
+use crate::classes::Classes;
+use crate::readers::Readers;
+use crate::verdict::Rule;
+use hierarchy::{ClassId, Program};
+use init_core::{CLASS_NUMBERS, Event, Kind, THREADS};
+use std::alloc::{AllocError, Global};
+
+/// The state of each thread and of each class after the events so far.
+#[derive(Drop)]
+pub(crate) struct Judge {
+    pub(crate) readers: Readers,
+    pub(crate) classes: Classes,
+}
+
+impl Judge {
+    /// Before the first event.
+    ///
+    /// An `Err` is being out of memory.
+    pub(crate) fn new(alloc: Global, mains: &[ClassId]) -> Result<Self, AllocError>
+        ensures { IfOk result (λ made. (p : LinkedProgram) → HasJudged p mains.now made []) }
+    {
+        Ok(Judge {
+            readers: Readers::new(alloc, mains)?,
+            classes: Classes::new(alloc),
+        })
+    }
+
+    /// Takes the next event: the rule that it breaks, if it does; then nothing is said of the state.
+    ///
+    /// An `Err` is being out of memory.
+    pub(crate) fn take(
+        &mut self,
+        alloc: Global,
+        program: &Program,
+        event: &Event,
+    ) -> Result<Option<Rule>, AllocError>
+        ensures fits { IfOk result (λ r. r ≡ None → (mains : List ClassFacts) (h : List EventFacts) → HasJudged program.now mains self.old h → HasJudged program.now mains self.new (h ++ event.now ∷ [])) }
+        ensures breaks { IfOk result (λ r. IfSome r (λ rule. (mains : List ClassFacts) (h : List EventFacts) → HasJudged program.now mains self.old h → Breaks program.now mains rule (h ++ event.now ∷ []))) }
+    {
+        let kind = event.kind()?;
+        self.take_parts(alloc, program, event.thread(), event.class(), &kind)
+    }
+
+    /// The same by the event's parts.
+    fn take_parts(
+        &mut self,
+        alloc: Global,
+        program: &Program,
+        thread: usize,
+        class: Option<ClassId>,
+        kind: &Kind,
+    ) -> Result<Option<Rule>, AllocError>
+        requires thread { thread < THREADS }
+        requires class { IfSome class (λ c. c.number < CLASS_NUMBERS) }
+        ensures fits { IfOk result (λ r. r ≡ None → (mains : List ClassFacts) (h : List EventFacts) → HasJudged program.now mains self.old h → HasJudged program.now mains self.new (h ++ made_by thread class kind.now ∷ [])) }
+        ensures breaks { IfOk result (λ r. IfSome r (λ rule. (mains : List ClassFacts) (h : List EventFacts) → HasJudged program.now mains self.old h → Breaks program.now mains rule (h ++ made_by thread class kind.now ∷ []))) }
+    {
+        if !self.readers.read(alloc, program, thread, class, kind)? {
+            return Ok(Some(Rule::Word));
+        }
+        match class {
+            None => Ok(None),
+            Some(class) => self.classes.take(alloc, program, thread, class, kind),
+        }
+    }
+
+    /// Whether each thread may stop here. Takes no memory.
+    pub(crate) fn may_stop(&self) -> bool
+        ensures yes { result ≡ true → MayAllStop self.now.readers.of_threads.items }
+        ensures no { result ≡ false → MayAllStop self.now.readers.of_threads.items → ⊥ }
+    {
+        self.readers.may_stop()
+    }
+}

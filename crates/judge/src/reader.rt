@@ -1,0 +1,61 @@
+//! The reading of one thread's events.
+
+ghost use Rattle.std.specs.Prelude.{◌≡◌, ℕ, Bool, IfOk, true, false};
+ghost use Rattle.init_core.specs.Standing.{Standing};
+ghost use Rattle.judge.specs.NextEvent.{begun_after};
+ghost use Rattle.judge.specs.Reading.{MayStop, Reads, made_by, opening};
+
+use crate::open_class::Procedures;
+use hierarchy::{ClassId, Program};
+use init_core::Kind;
+use std::alloc::{AllocError, Global};
+
+/// Where the events of one thread have led.
+#[derive(Drop)]
+pub(crate) struct Reader {
+    /// An item of main's body was made.
+    pub(crate) begun: bool,
+    pub(crate) procedures: Procedures,
+}
+
+impl Reader {
+    /// A thread of this main class, before its first event.
+    ///
+    /// An `Err` is being out of memory.
+    pub(crate) fn new(alloc: Global, main: ClassId) -> Result<Self, AllocError>
+        ensures begun { IfOk result (λ made. made.begun ≡ false) }
+        ensures procedures { IfOk result (λ made. made.procedures ≡ opening main) }
+    {
+        Ok(Reader {
+            begun: false,
+            procedures: Procedures::opening(alloc, main)?,
+        })
+    }
+
+    /// Reads the thread's next event, of this class and kind: whether it may come. Where it may not, nothing is
+    /// said of the reader.
+    ///
+    /// An `Err` is being out of memory.
+    pub(crate) fn read(
+        &mut self,
+        alloc: Global,
+        program: &Program,
+        class: Option<ClassId>,
+        kind: &Kind,
+    ) -> Result<bool, AllocError>
+        ensures yes { IfOk result (λ b. b ≡ true → (t : ℕ) → Reads program.now t self.old.begun self.old.procedures (made_by t class kind.now) self.new.begun self.new.procedures) }
+        ensures no { IfOk result (λ b. b ≡ false → (t : ℕ) (begun : Bool) (after : Standing) → Reads program.now t self.old.begun self.old.procedures (made_by t class kind.now) begun after → ⊥) }
+    {
+        let begun = self.begun;
+        self.begun = self.procedures.begun_after(begun);
+        self.procedures.take(alloc, program, begun, class, kind)
+    }
+
+    /// Whether the thread may stop here: no class is open, or only a request that is given up. Takes no memory.
+    pub(crate) fn may_stop(&self) -> bool
+        ensures yes { result ≡ true → MayStop self.now.procedures }
+        ensures no { result ≡ false → MayStop self.now.procedures → ⊥ }
+    {
+        self.procedures.may_stop()
+    }
+}
