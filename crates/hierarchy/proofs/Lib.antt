@@ -24,6 +24,7 @@ pub mod Positions
 pub mod ProvedByLinking
 pub mod Resolved
 pub mod Searches
+pub mod SelectionTables
 pub mod SmallNumbers
 pub mod SpellableMembers
 pub mod Subtypes

@@ -1,28 +1,30 @@
 -- The cells of an object, superclass by superclass.
-use Rattle.std.proofs.Common.{◌≡◌, ℕ, zero, suc, ◌+◌, ◌-◌, ◌<◌, ◌≤◌, ◌&&◌, true, not, inl, inr, Option, Some, None, List, [], ◌∷◌, ◌++◌, length, take, slice_get, refl, sym, ap, ◌∙◌, subst, arith, append-nil, length-append}
+use Rattle.std.proofs.Common.{◌≡◌, ℕ, zero, suc, ◌+◌, ◌-◌, ◌*◌, ◌<◌, ◌≤◌, ◌&&◌, Bool, true, not, inl, inr, Option, Some, None, List, [], ◌∷◌, ◌++◌, length, take, slice_get, refl, sym, ap, ◌∙◌, subst, arith, append-nil, length-append}
 use Rattle.std.proofs.lemmas.Bool.{cases_Bool, and_parts, leb-true}
 use Rattle.std.proofs.lemmas.List.Elements.{All-get_or}
 use Rattle.std.proofs.lemmas.Option.{slice_get_within, get_or_from_slice_get}
-use Rattle.std.proofs.lemmas.List.{reverse-append}
+use Rattle.std.proofs.lemmas.List.{reverse-append, length-map}
 use Rattle.std.proofs.lemmas.Grind.{flat_map-append}
 use Rattle.std.specs.List.{flat_map, list_all}
-use Rattle.std.specs.Option.{option_to_list}
+use Rattle.std.specs.Option.{option_map, option_to_list}
 use Rattle.std.specs.Prelude.{filter, reverse, nat_le, IfSome}
 use Rattle.jasmin_text.specs.declared.class_text.ClassParts.{ClassParts}
 use Rattle.jasmin_text.specs.declared.class_text.Field.{Field}
 use Rattle.jasmin_text.specs.Spellable.{is_class_word, is_taken, is_field, is_method, is_spellable, IsSpellable}
 use Rattle.hierarchy.specs.declared.class.Class.{Class}
 use Rattle.hierarchy.specs.declared.class.ClassId.{ClassId}
+use Rattle.hierarchy.specs.declared.code.ClassCode.{ClassCode}
 use Rattle.hierarchy.specs.declared.fields.FieldId.TheVariants.{Declared}
 use Rattle.hierarchy.specs.Ancestry.{superclass_of, superclass_alone, superclasses}
+use Rattle.hierarchy.specs.Code.{class_code, code_at, type_of_field}
 use Rattle.hierarchy.specs.Hierarchy.{IsAcyclic}
 use Rattle.hierarchy.specs.LinkedProgram.{LinkedProgram, class_at}
 use Rattle.hierarchy.specs.Objects.{is_instance_field, instance_fields_from, own_instance_fields, object_fields, cells_in, field_cell_in, field_cell}
 use Rattle.hierarchy.specs.LinkedTexts.{IsLinked}
 use Rattle.hierarchy.specs.SpellableClass.{IsSpellableClass}
 use Rattle.hierarchy.specs.OwnNames.{fields_of, fields_in}
-use Rattle.hierarchy.proofs.ProvedByLinking.{linked_spellable}
-use Rattle.hierarchy.proofs.Superclasses.{superclasses-at}
+use Rattle.hierarchy.proofs.ProvedByLinking.{linked_few, linked_spellable}
+use Rattle.hierarchy.proofs.Superclasses.{superclasses-at, superclasses-few}
 use Rattle.hierarchy.proofs.Positions.{Some_same}
 
 -- after the cells of the superclass there are the class's own
@@ -117,3 +119,46 @@ cell_found p a c place r e = subst (λ o. IfSome o (λ cell. slice_get (object_f
     at : (o : Option Field) → slice_get (fields_of p c) place ≡ o → IfSome (field_cell_in p c place o) (λ cell. slice_get (object_fields p c) cell ≡ Some (Declared c place))
     at None g = tt
     at (Some f) g = elim (cases_Bool (is_instance_field f)) [ inl t ↦ rw t (cell_holds p a c place f (cells_in p (superclass_of p.classes c) + length (filter is_instance_field (take place (fields_of p c)))) g t refl) | inr t ↦ rw t tt ]
+
+filter_few : {X : Type 0} (q : X → Bool) (xs : List X) → length (filter q xs) ≤ length xs
+filter_few q [] = omega arith
+filter_few q (x ∷ xs) =
+    let r = filter_few q xs in
+    elim (cases_Bool (q x)) [ inl e ↦ rw e (omega (arith, r)) | inr e ↦ rw e (omega (arith, r)) ]
+
+few_own_fields : (p : LinkedProgram) → IsLinked p → (c : ClassId) → length (own_instance_fields p c) ≤ 1024
+few_own_fields p h c = at (class_at p c) refl
+  where
+    at : (o : Option Class) → class_at p c ≡ o → length (own_instance_fields p c) ≤ 1024
+    at None e = let none = ap (λ o. length (instance_fields_from c 0 (fields_in o))) e in omega (arith, none)
+    at (Some class) e =
+        let own = own_count p c class (length (filter is_instance_field class.fields)) e refl in
+        omega (arith, own, filter_few is_instance_field class.fields, few_own p h c class e)
+
+few_in_all : (p : LinkedProgram) → IsLinked p → (cs : List ClassId) → length (flat_map (own_instance_fields p) (reverse cs)) ≤ 1024 * length cs
+few_in_all p h [] = omega arith
+few_in_all p h (c ∷ cs) = omega (arith, cells_more p c cs, few_own_fields p h c, few_in_all p h cs)
+
+-- an object has few cells
+pub few_cells : (p : LinkedProgram) → IsLinked p → (c : ClassId) → length (object_fields p c) ≤ 2000000
+few_cells p h c = omega (arith, few_in_all p h (superclasses p.classes c), superclasses-few p.classes c, linked_few p h)
+
+-- the cells of the superclass, and those of the class's own fields
+all_cells : (p : LinkedProgram) → IsAcyclic p.classes → (c : ClassId) → length (object_fields p c) ≡ cells_in p (superclass_of p.classes c) + length (own_instance_fields p c)
+all_cells p a c = at (superclass_of p.classes c) refl
+  where
+    at : (o : Option ClassId) → superclass_of p.classes c ≡ o → length (object_fields p c) ≡ cells_in p (superclass_of p.classes c) + length (own_instance_fields p c)
+    at None e = let l = ap length (cells_none p a c e) in rw e (omega (arith, l))
+    at (Some s) e = rw e (ap length (cells_some p a c s e) ∙ length-append (object_fields p s) (own_instance_fields p c))
+
+-- as a class's code tells them
+pub cells_of_code : (p : LinkedProgram) → IsAcyclic p.classes → (c : ClassId) (found : ClassCode) → code_at p c.number ≡ Some found → found.cells_above + length found.fields ≡ length (object_fields p c)
+cells_of_code p a c found e = at (slice_get p.classes c.number) refl
+  where
+    at : (o : Option Class) → slice_get p.classes c.number ≡ o → found.cells_above + length found.fields ≡ length (object_fields p c)
+    at None g = let n = ap (option_map (class_code p c)) (sym g) ∙ e in absurd cc
+    at (Some class) g =
+        let same : class_code p c class ≡ found = Some_same (ap (option_map (class_code p c)) (sym g) ∙ e) in
+        let own = own_count p c class (length (filter is_instance_field class.fields)) g refl in
+        let mapped = length-map (filter is_instance_field class.fields) (type_of_field p) in
+        ap (λ (z : ClassCode). z.cells_above + length z.fields) (sym same) ∙ ap (λ n. cells_in p (superclass_of p.classes c) + n) (mapped ∙ own) ∙ sym (all_cells p a c)

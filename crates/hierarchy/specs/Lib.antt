@@ -23,6 +23,7 @@ pub mod OwnNames
 pub mod Quoted
 pub mod Searched
 pub mod Selection
+pub mod SelectionTable
 pub mod SpellableClass
 pub mod StaticMembers
 pub mod Subclasses

@@ -11,7 +11,7 @@
 //! hierarchy by more than one way, that of the superclasses, and what is resolved later can be kept there too.
 //!
 //! Members are found by [`Program::resolve_field`] and [`Program::resolve_method`], and the method that a call
-//! runs by [`Program::select`]; a [`FieldId`] or a [`MethodId`] names the class that declares it, and its place there.
+//! runs by [`Program::select_for`], or by name with [`Program::select`]; a [`FieldId`] or a [`MethodId`] names the class that declares it, and its place there.
 //!
 //! In `specs/`, `FirstFault` orders the passes, `Linking` and `Supertypes` say what each looks at, `Hierarchy`
 //! what a supertype is, and `Superinterfaces` how superinterfaces are enumerated. `Fields`, `Methods`,
@@ -46,6 +46,7 @@ pub mod program;
 mod quoted;
 pub mod ready;
 pub mod selection;
+mod selection_table;
 mod subtype;
 mod supertype_names;
 mod supertypes;

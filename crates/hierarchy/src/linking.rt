@@ -11,6 +11,8 @@ ghost use Rattle.hierarchy.specs.LinkedTexts.{IsResolved};
 ghost use Rattle.hierarchy.specs.Members.{repeats_member};
 ghost use Rattle.hierarchy.specs.MemberPlaces.{HavePlaces};
 ghost use Rattle.hierarchy.specs.Tables.{AreTables};
+ghost use Rattle.hierarchy.specs.Code.{code_of as code_of_program};
+ghost use Rattle.hierarchy.specs.SelectionTable.{AreSelectionsOf};
 ghost use Rattle.hierarchy.specs.Linking.{names_of, kinds_of, classes_of, classes_from, IsFirst, IsRepeated};
 ghost use Rattle.hierarchy.specs.FirstFault.{HasNames, IsNameFault, HasNoCycle, HasDistinctMembers, FitsHeap, IsClassFault, IsFirstFault, LinksTo, IsMemory, name_in_text, name_in_class};
 ghost use Rattle.hierarchy.specs.declared.fault.LinkFaultKind.TheVariants as because;
@@ -19,17 +21,19 @@ use crate::assembly::linked_classes;
 use crate::class::Class;
 use crate::class_code::code_of;
 use crate::class_set::ClassSet;
+use crate::code::ClassCode;
 use crate::fault::{LinkFault, LinkFaultKind};
 use crate::member_places::{MemberPlaces, MemberSearch, search_members};
 use crate::naming::{first_repeated, first_reserved, kinds};
 use crate::program::Program;
 use crate::quoted::first_beyond_heap;
+use crate::selection_table::{Selections, selections_of};
 use crate::supertypes::{SearchResult, search};
 use crate::tables::{Tables, tables_with};
 use crate::texts::Texts;
 use descriptors::ClassName;
 use jasmin_text::{ClassKind, ClassParts, ClassText};
-use std::alloc::Global;
+use std::alloc::{AllocError, Global};
 
 /// A fault of the class at a place.
 #[derive(Clone, Copy)]
@@ -196,14 +200,30 @@ fn name_of_class(classes: Vec<Class>, place: usize) -> ClassName
     classes.swap_remove(place).name
 }
 
+/// What running classes needs, and the methods that their calls run.
+#[derive(Drop)]
+struct Resolution {
+    code: Vec<ClassCode>,
+    selections: Selections,
+}
+
+fn resolve(alloc: Global, program: &Program) -> Result<Resolution, AllocError>
+    ensures code { IfOk result (λ made. made.code.items ≡ code_of_program program.now) }
+    ensures selections { IfOk result (λ made. AreSelectionsOf program.now.classes made.selections.items) }
+{
+    let code = code_of(alloc, program)?;
+    let selections = selections_of(alloc, program, &code)?;
+    Ok(Resolution { code, selections })
+}
+
 /// The program with what running its classes needs, their instructions resolved.
 fn resolved(alloc: Global, program: Program) -> Result<Program, LinkFault>
     requires some { 0 < length program.classes }
     ensures same { IfOk result (λ made. made ≡ program) }
     ensures fault { IfErr result IsMemory }
 {
-    match code_of(alloc, &program) {
-        Ok(code) => Ok(program.with_code(code)),
+    match resolve(alloc, &program) {
+        Ok(Resolution { code, selections }) => Ok(program.with_code(code, selections)),
         Err(_) => Err(LinkFault {
             kind: LinkFaultKind::NoMemory,
             class: name_of_class(program.into_classes(), 0),

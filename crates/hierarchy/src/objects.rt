@@ -39,9 +39,8 @@ impl Program {
         }
     }
 
-    /// How many cells an object of a class has: one for each instance field that the class or a superclass declares
-    /// (JLS SE 8 12.5), hidden ones included. Takes no memory.
-    pub fn object_cells(&self, id: ClassId) -> usize
+    /// The instance fields that a class and its superclasses declare, summed up.
+    fn summed_cells(&self, id: ClassId) -> usize
         ensures cells { result ≡ length (object_fields self.now id) }
         ensures within { result ≤ 2000000 }
     {
@@ -50,6 +49,19 @@ impl Program {
             cells += self.own_cells(next);
         }
         cells
+    }
+
+    /// How many cells an object of a class has: one for each instance field that the class or a superclass declares
+    /// (JLS SE 8 12.5), hidden ones included. Takes no memory.
+    pub fn object_cells(&self, id: ClassId) -> usize
+        ensures cells { result ≡ length (object_fields self.now id) }
+        ensures within { result ≤ 2000000 }
+    {
+        self.is_linked();
+        match self.code(id.number) {
+            Some(code) => code.cells_above + code.fields.len(),
+            None => self.summed_cells(id),
+        }
     }
 
     /// How many cells an object of the superclass has.

@@ -1,24 +1,17 @@
-use Rattle.std.proofs.Common.{ap, length, arith}
-use Rattle.std.specs.List.{flat_map}
-use Rattle.std.specs.Prelude.{reverse}
-use Rattle.hierarchy.specs.Objects.{own_instance_fields}
-use Rattle.hierarchy.specs.Walking.{left}
-use Rattle.hierarchy.proofs.ObjectCells.{cells_more}
+use Rattle.std.proofs.Common.{◌+◌, ◌∙◌, ap, arith}
+use Rattle.hierarchy.proofs.ObjectCells.{cells_of_code, few_cells}
 use Rattle.hierarchy.proofs.program.Program.object_cells.Goals as goal
 
-pub overflow_add-cells : goal.overflow_add-cells
-overflow_add-cells c =
-    omega (arith, c.loop-next.invariant.few, c.superclasses-next-items.ensures.few, c.own_cells-cells.ensures.within, ap length c.in-Some.ensures.steps)
+pub returns-in-Some-clause-cells : goal.returns-in-Some-clause-cells
+returns-in-Some-clause-cells c =
+    let code = c.in-Some.code.now in
+    ap (λ n. code.cells_above + n) c.len.ensures ∙ cells_of_code c.args.self.now c.is_linked.ensures.acyclic c.args.id code c.in-Some.ensures
 
-pub loop-next-preserved : goal.loop-next-preserved
-loop-next-preserved c =
-    let p = c.args.self.now in
-    let rest = left c.next.new.self in
-    let steps = ap length c.in-Some.ensures.steps in
-    record {
-      same = omega (arith, c.own_cells-cells.ensures.count, cells_more p c.in-Some.next rest, c.loop-next.invariant.same, ap (λ z. length (flat_map (own_instance_fields p) (reverse z))) c.in-Some.ensures.steps);
-      few = omega (arith, c.loop-next.invariant.few, c.own_cells-cells.ensures.within, steps);
-    }
+pub returns-in-Some-clause-within : goal.returns-in-Some-clause-within
+returns-in-Some-clause-within c = omega (arith, returns-in-Some-clause-cells c, few_cells c.args.self.now c.is_linked.ensures.linked c.args.id)
 
-pub returns-clause-within : goal.returns-clause-within
-returns-clause-within c = omega (arith, c.loop-next.invariant.few, c.superclasses-next-items.ensures.few)
+pub overflow_add-result : goal.overflow_add-result
+overflow_add-result c =
+    let cells = returns-in-Some-clause-cells c in
+    let few = few_cells c.args.self.now c.is_linked.ensures.linked c.args.id in
+    omega (arith, cells, few)
