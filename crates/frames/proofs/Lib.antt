@@ -1,3 +1,4 @@
 pub mod Stacks
 pub mod Popped
+pub mod Sequences
 pub mod Unwound

@@ -1,4 +1,5 @@
 pub mod Frame
+pub mod Fused
 pub mod Rows
 pub mod Kinds
 pub mod Activations

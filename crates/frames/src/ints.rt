@@ -15,7 +15,7 @@ use hierarchy::{BuiltIn, Op};
 use statics::narrowed_int;
 
 #[inline(always)]
-fn result_of(word: Arithmetic, a: i32, b: i32) -> i32
+pub(crate) fn result_of(word: Arithmetic, a: i32, b: i32) -> i32
     ensures { result ≡ result_of word a b }
 {
     match word {

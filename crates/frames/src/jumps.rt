@@ -13,7 +13,7 @@ use crate::words::Comparison::{self, Equal, Greater, Less, NotEqual, NotGreater,
 use hierarchy::Op;
 
 #[inline(always)]
-fn holds(comparison: Comparison, a: i32, b: i32) -> bool
+pub(crate) fn holds(comparison: Comparison, a: i32, b: i32) -> bool
     ensures { result ≡ holds comparison a b }
 {
     match comparison {

@@ -4,7 +4,8 @@
 //! [`Frames::call`] calls a method, [`Frames::leave`] leaves a frame, and [`Frames::catch`] leaves as many as a thrown object
 //! does. [`Frames::go_on`] does what the innermost frame's instructions do by themselves, and stops at one that asks something
 //! of what lies outside of the frame: a class, a field, an object, a method that is called. What such an instruction does to
-//! its frame is made of [`Frames::operand`], [`Frames::drop_operands`], [`Frames::push`] and [`Frames::step_over`].
+//! its frame is made of [`Frames::operand`], [`Frames::drop_operands`], [`Frames::push`] and [`Frames::step_over`]. Some
+//! sequences of three or four instructions on ints are done at once (`fused`), with no difference but in time.
 //!
 //! Contracts see the frames as a list of activations. `specs/Rows` says what each instruction does, a line an instruction,
 //! `Running` what many do, `Activations` what calls do, and `Unwinding` where an object is caught.
@@ -13,6 +14,7 @@
 pub mod cell;
 mod decide;
 pub mod frames;
+mod fused;
 mod ints;
 mod jumps;
 mod moves;
