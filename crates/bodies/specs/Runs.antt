@@ -18,8 +18,7 @@ use Rattle.trace.specs.declared.report.Report.{Report}
 use Rattle.trace.specs.declared.report.ThreadOutcome.{ThreadOutcome}
 use Rattle.trace.specs.declared.report.ThreadOutcome.TheVariants as outcome
 use Rattle.trace.specs.Output.{output_of}
-use Rattle.bodies.specs.declared.no_code.NoCode.{NoCode}
-use Rattle.bodies.specs.Making.{Making, maker_of, empty_bodies}
+use Rattle.bodies.specs.Making.{Making, maker_of}
 
 -- each main class is one of the files
 abbrev pub AreMains : LinkedProgram → List ClassId → Type 0
@@ -63,7 +62,3 @@ pub record IsRunOf {S : Type 0} (p : LinkedProgram) (M : Making S) (starts : Lis
   pub finished : (c : ClassId) (t : ℕ) → label_at r.events c ≢ InProgress t
   -- what was printed, in order
   pub output : r.output ≡ output_of r.events
-
--- the report is of a run of these main classes where all bodies are empty
-abbrev pub IsEmptyRunOf : LinkedProgram → List ClassId → Limits → Report → Type 0
-IsEmptyRunOf p mains limits r = (starts : List NoCode) × (length starts ≡ length mains) × IsRunOf p empty_bodies starts mains limits r

@@ -23,7 +23,7 @@ use Rattle.init_core.specs.declared.procedure.Next.TheVariants as next
 use Rattle.init_core.specs.Advance.{Advances, Fits, LeavesAt, MayRequest, after_word, is_running, is_waiting, next_of, started}
 use Rattle.init_core.specs.Decisions.{event, entered, kind_of, Decides}
 use Rattle.init_core.specs.Interleaving.{of_class, label_at}
-use Rattle.init_core.specs.Lawful.{Allows, Holds, IsInProgressByOther}
+use Rattle.init_core.specs.Lawful.{Allows, IsInProgressByOther}
 use Rattle.init_core.specs.Leads.{frame, standing, kind_of_ending, outcome_of, LeadsOf}
 use Rattle.init_core.specs.ProcedureWord.{IsOfFiles, completed, ended_by, given_up}
 use Rattle.init_core.specs.ProgramEvents.{IsDoneAt}
@@ -36,7 +36,6 @@ use Rattle.init_core.proofs.Knowing.{AreOuterBelow, leads_outer, runs_body, take
 use Rattle.init_core.proofs.Leading.{Makes}
 use Rattle.init_core.proofs.Mains.{main_looks, main_threw}
 use Rattle.init_core.proofs.Seeing.{mine_still, calm}
-use Rattle.statics.specs.declared.static_field.StaticField.{StaticField}
 use Rattle.trace.specs.declared.report.Limit.{Limit}
 use Rattle.bodies.specs.Making.{Making, maker_of}
 use Rattle.bodies.specs.ThreadStands.{OutsideOf, NoneOpenOf, ThreadStands}
@@ -61,26 +60,6 @@ none_else (InProgress u) alone other = other (sym (alone u refl))
 none_else Prepared alone other = other
 none_else Initialized alone other = other
 none_else Erroneous alone other = other
-
--- a look is no read and no write, and of no throwable
-pub look_done : (p : LinkedProgram) (c : ClassId) (d : Decision) → IsDoneAt p c (kind_of d)
-look_done p c (decision.Waits b) = tt
-look_done p c decision.Recurs = tt
-look_done p c decision.FindsInitialized = tt
-look_done p c decision.FindsErroneous = tt
-look_done p c decision.Begins = tt
-
-pub look_holds : (fields : List StaticField) (events : List Event) (d : Decision) → Holds fields events (kind_of d)
-look_holds fields events (decision.Waits b) = tt
-look_holds fields events decision.Recurs = tt
-look_holds fields events decision.FindsInitialized = tt
-look_holds fields events decision.FindsErroneous = tt
-look_holds fields events decision.Begins = tt
-
-pub end_holds : (fields : List StaticField) (events : List Event) (j : Ending) → Holds fields events (kind_of_ending j)
-end_holds fields events ending.Completes = tt
-end_holds fields events (ending.SuperFails e) = tt
-end_holds fields events (ending.Fails e) = tt
 
 end_allowed : (k : Ending) {l : Label} → l ≡ InProgress 0 → Allows l 0 (kind_of_ending k)
 end_allowed ending.Completes e = e
