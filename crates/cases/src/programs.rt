@@ -13,14 +13,14 @@
 //! | `left NAME` | what the file holds after the run |
 //!
 //! A file that no `left` names holds after the run what it held before, and the run makes no file but those. Where a command runs
-//! one main class and asks for its trace, its run on a thread of its own must come to the same output, lines and trace.
+//! one main class, its run on a thread of its own must come to the same output, lines and trace, with any patience and with the least.
 
 mod texts;
 mod threaded;
 
 use crate::archive::{Archive, Part};
 use crate::programs::texts::Texts;
-use crate::programs::threaded::threaded_run;
+use crate::programs::threaded::{ThreadedRun, threaded_run};
 use crate::report::Report;
 use cli::serve;
 use std::alloc::{AllocError, Global};
@@ -117,19 +117,18 @@ fn words_of<'a>(alloc: Global, command: &'a str) -> Result<Vec<&'a str>, AllocEr
 }
 
 /// Adds what the run on a thread of its own made otherwise, under the heads that say it.
-fn compare(
-    trace: &str,
-    threaded: &Texts,
-    files: &Texts,
-    came: &mut Texts,
-) -> Result<(), AllocError> {
+fn compare(threaded: &ThreadedRun, files: &Texts, came: &mut Texts) -> Result<(), AllocError> {
+    let texts = &threaded.texts;
     for name in ["stdout", "stderr"] {
-        if threaded.text(name) != came.text(name) {
-            came.put_below("threaded", name, threaded.text(name))?;
+        if texts.text(name) != came.text(name) {
+            came.put_below("threaded", name, texts.text(name))?;
         }
     }
-    if threaded.text("trace") != files.text(trace) {
-        came.put("threaded trace", threaded.text("trace"))?;
+    let Some(trace) = threaded.trace else {
+        return Ok(());
+    };
+    if texts.text("trace") != files.text(trace) {
+        came.put("threaded trace", texts.text("trace"))?;
     }
     Ok(())
 }
@@ -142,15 +141,22 @@ fn run<R: Threads + Wait + Sync>(
     files: &mut Texts,
 ) -> Result<Texts, AllocError> {
     let words = words_of(alloc, command)?;
-    let threaded = threaded_run(rt, alloc, words.as_slice(), files)?;
+    let patient = threaded_run(rt, alloc, words.as_slice(), files, 0)?;
+    let hasty = threaded_run(rt, alloc, words.as_slice(), files, 1)?;
     let mut out = Vec::new(alloc);
     let mut err = Vec::new(alloc);
     let status = serve(rt, alloc, words.as_slice(), files, &mut out, &mut err);
     let line = format!(in alloc; "{status}\n")?;
     let (out, err) = (out.as_slice(), err.as_slice());
     let mut came = outcome_of(alloc, out, err, line.as_bytes(), files)?;
-    if let (Some((trace, threaded)), 0 | 1) = (threaded, status) {
-        compare(trace, &threaded, files, &mut came)?;
+    if status > 1 {
+        return Ok(came);
+    }
+    if let Some(threaded) = patient {
+        compare(&threaded, files, &mut came)?;
+    }
+    if let Some(threaded) = hasty {
+        compare(&threaded, files, &mut came)?;
     }
     Ok(came)
 }

@@ -18,7 +18,7 @@ use interpreter::{Interpreter, SharedInterpreter, SharedObjects};
 use jasmin_text::ClassText;
 use replayer::run_ordered;
 use std::alloc::{AllocError, Global};
-use std::sync::{Mutex, Wait};
+use std::sync::Wait;
 use std::thread::Threads;
 use trace::{Limits, Report};
 
@@ -102,22 +102,23 @@ fn run_alone<'a>(
     Ok(report)
 }
 
-/// What runs the code of so many threads, which share one heap, and of which each may begin so many instructions.
+/// What runs the code of so many threads, which share one heap. Without a limit of patience a thread that waits for a monitor sleeps.
 fn interpreters<'s, R: Wait>(
     rt: &'s R,
     alloc: Global,
-    shared: &'s Mutex<SharedObjects>,
+    shared: &'s SharedObjects,
     count: usize,
-    steps: u32,
+    limits: Limits,
 ) -> Result<Vec<SharedInterpreter<'s, R>>, AllocError>
     requires { count ≤ 16 }
-    ensures starts { IfOk result (λ made. made.items ≡ starts_below count steps) }
+    ensures starts { IfOk result (λ made. made.items ≡ starts_below count limits.steps) }
     ensures count { IfOk result (λ made. vec_len made ≡ count) }
 {
     let mut made = Vec::new(alloc);
+    let sleeps = limits.patience == 0;
     'threads: while made.len() < count {
         let thread = made.len() as u8;
-        made.push(SharedInterpreter::new(rt, alloc, shared, thread, steps))?;
+        made.push(SharedInterpreter::new(rt, alloc, shared, thread, limits.steps, sleeps))?;
     }
     Ok(made)
 }
@@ -136,8 +137,8 @@ fn run_several<'a, R: Threads + Wait + Sync>(
     ensures ran { IfOk result (IsRunOf program.now (shared_bodies program.now) (starts_of mains.now limits) mains.now limits) }
     ensures refused { IfErr result (λ fault. (fault ≡ Memory) ⊎ (fault ≡ Threads)) }
 {
-    let shared = Mutex::new(SharedObjects::new(alloc));
-    let bodies = interpreters(rt, alloc, &shared, mains.len(), limits.steps)?;
+    let shared = SharedObjects::new(alloc);
+    let bodies = interpreters(rt, alloc, &shared, mains.len(), limits)?;
     match run_threads(rt, alloc, program, mains, bodies, limits, &NoGate) {
         Ok(report) => Ok(report),
         Err(RunFault::NoMemory) => Err(Fault::Memory),

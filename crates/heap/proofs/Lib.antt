@@ -1,3 +1,4 @@
+pub mod Made
 pub mod Taken
 pub mod Puts
 pub mod Held

@@ -43,9 +43,26 @@ impl Heap {
         self.made_at(program, reference)?.element(index)
     }
 
+    /// The type of an array's elements and what one of them holds, as [`Heap::element_type`] and [`Heap::element`] give them.
+    /// Takes no memory.
+    pub fn typed_element(
+        &self,
+        program: &Program,
+        reference: u32,
+        index: usize,
+    ) -> (Option<ResolvedType>, Option<Value>)
+        ensures held { result.0 ≡ element_type_of program.now self.now reference }
+        ensures element { result.1 ≡ element_at program.now self.now reference index }
+    {
+        match self.made_at(program, reference) {
+            Some(object) => (object.element_type(), object.element(index)),
+            None => (None, None),
+        }
+    }
+
     /// Writes an element of an array, which keeps an int as its type does (JVMS SE 8 6.5 iastore, bastore, castore, sastore, aastore).
     /// Answers whether the reference refers to an array with such an element; where it doesn't, nothing changes. Takes no memory.
-    #[tactic(auto, using(crate::proofs::Puts::element_put))]
+    #[tactic(auto, using(crate::proofs::Puts::element_put, crate::proofs::Puts::element_missing))]
     pub fn put_element(
         &mut self,
         program: &Program,
@@ -55,10 +72,10 @@ impl Heap {
     ) -> bool
         ensures { PutsElement program.now self.old reference index value result self.new }
     {
-        if program.ready_object(reference).is_some() {
+        let (place, ready) = (reference as usize, program.ready_count());
+        if place < ready {
             return false;
         }
-        let place = (reference as usize).saturating_sub(program.ready_count());
-        put_item(&mut self.made, place, index, value)
+        put_item(&mut self.made, place - ready, index, value)
     }
 }

@@ -42,7 +42,7 @@ impl Heap {
 
     /// Writes a field of this type that is in this cell of an object, which keeps an int as its type does (JVMS SE 8 6.5 putfield).
     /// Answers whether the reference refers to an object with such a cell; where it doesn't, nothing changes. Takes no memory.
-    #[tactic(auto, using(crate::proofs::Puts::field_put))]
+    #[tactic(auto, using(crate::proofs::Puts::field_put, crate::proofs::Puts::field_missing))]
     pub fn put_field(
         &mut self,
         program: &Program,
@@ -53,11 +53,10 @@ impl Heap {
     ) -> bool
         ensures { PutsField program.now self.old held reference cell value result self.new }
     {
-        if program.ready_object(reference).is_some() {
+        let (place, ready) = (reference as usize, program.ready_count());
+        if place < ready {
             return false;
         }
-        let place = (reference as usize).saturating_sub(program.ready_count());
-        let kept = kept_by(held, value);
-        put_cell(&mut self.made, place, cell, kept)
+        put_cell(&mut self.made, place - ready, cell, kept_by(held, value))
     }
 }

@@ -107,12 +107,12 @@ impl Heap {
     pub fn is_instance(&self, program: &Program, wanted: ResolvedType, reference: u32) -> bool
         ensures { IsTrue result ↔ IsInstance program.now self.now wanted reference }
     {
-        if let Some(object) = program.ready_object(reference) {
-            return is_of_class(program, ready_class(program, object), wanted);
-        }
         match self.made_at(program, reference) {
             Some(object) => is_of_type(program, object, wanted),
-            None => false,
+            None => match program.ready_object(reference) {
+                Some(object) => is_of_class(program, ready_class(program, object), wanted),
+                None => false,
+            },
         }
     }
 
@@ -137,10 +137,12 @@ impl Heap {
     pub fn class_of(&self, program: &Program, reference: u32) -> Option<ClassId>
         ensures { result ≡ class_at_reference program.now self.now reference }
     {
-        if let Some(object) = program.ready_object(reference) {
-            return Some(ready_class(program, object));
+        match self.made_at(program, reference) {
+            Some(object) => Some(selected_class(program, object)),
+            None => match program.ready_object(reference) {
+                Some(object) => Some(ready_class(program, object)),
+                None => None,
+            },
         }
-        let object = self.made_at(program, reference)?;
-        Some(selected_class(program, object))
     }
 }

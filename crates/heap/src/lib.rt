@@ -10,7 +10,7 @@
 //! what fields and elements hold, `Instances` which types references fit, and `Monitors` who holds what.
 #![tactic(auto)]
 
-ghost use Rattle.std.specs.Prelude.{◌≡◌, [], option_copied};
+ghost use Rattle.std.specs.Prelude.{◌≡◌, [], option_copied, slice_get};
 ghost use Rattle.heap.specs.Objects.{made_at as made_at_of, ready_class as ready_class_of};
 
 mod arrays;
@@ -62,6 +62,12 @@ fn ready_class(program: &Program, object: ReadyObject) -> ClassId
     })
 }
 
+fn object_in(made: &[HeapObject], place: usize) -> Option<&HeapObject>
+    ensures { option_copied result ≡ slice_get made.now place }
+{
+    made.get(place)
+}
+
 impl Heap {
     /// The heap before the program runs. Takes no memory.
     pub fn new(alloc: Global) -> Self
@@ -77,10 +83,10 @@ impl Heap {
     fn made_at(&self, program: &Program, reference: u32) -> Option<&HeapObject>
         ensures { option_copied result ≡ made_at_of program.now self.now reference }
     {
-        if program.ready_object(reference).is_some() {
+        let (reference, ready) = (reference as usize, program.ready_count());
+        if reference < ready {
             return None;
         }
-        let place = (reference as usize).saturating_sub(program.ready_count());
-        self.made.get(place)
+        object_in(self.made.as_slice(), reference - ready)
     }
 }

@@ -34,11 +34,12 @@ pub enum Entry {
     Busy,
 }
 
-/// Who holds which monitor, and how often.
+/// Who holds which monitor, and how often. Contracts see that alone; beside it is kept whether a monitor became free.
 #[derive(Debug, Drop)]
 pub struct Monitors {
     objects: Vec<Option<Holder>>,
     classes: Vec<Option<Holder>>,
+    freed: bool,
 }
 
 impl Model for Monitors {
@@ -148,6 +149,7 @@ impl Monitors {
         Monitors {
             objects: Vec::new(alloc),
             classes: Vec::new(alloc),
+            freed: false,
         }
     }
 
@@ -194,6 +196,7 @@ impl Monitors {
     fn change(&mut self, monitor: Monitor, holder: Option<Holder>)
         ensures { self.new ≡ with_changed self.old monitor holder }
     {
+        self.freed = self.freed || holder.is_none();
         match monitor {
             Monitor::Object(reference) => {
                 change_at(&mut self.objects, reference as usize, holder);
@@ -223,5 +226,14 @@ impl Monitors {
     {
         release(&mut self.objects, thread);
         release(&mut self.classes, thread);
+        self.freed = true;
+    }
+
+    /// Whether a monitor may have become free since this was last asked, so that those who wait for one may ask again.
+    /// Takes no memory.
+    pub fn take_freed(&mut self) -> bool
+        ensures { self.new ≡ self.old }
+    {
+        std::mem::replace(&mut self.freed, false)
     }
 }

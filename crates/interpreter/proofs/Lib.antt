@@ -1,3 +1,4 @@
+pub mod AtOnce
 pub mod CodeBodies
 pub mod Entering
 pub mod InterfaceCalls

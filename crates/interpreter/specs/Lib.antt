@@ -8,6 +8,7 @@ pub mod CallLeads
 pub mod Leads
 pub mod Printing
 pub mod Rows
+pub mod AtOnce
 pub mod Says
 pub mod CodeRun
 pub mod Waiting

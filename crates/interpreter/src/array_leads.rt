@@ -1,6 +1,7 @@
 //! What instructions on arrays come to (JVMS SE 8 6.5).
 
 ghost use Rattle.std.specs.Prelude.{◌≡◌, ◌↔◌, IfSome, IsTrue};
+ghost use Rattle.heap.specs.Contents.{element_type};
 ghost use Rattle.heap.specs.Objects.{base_of_type};
 ghost use Rattle.interpreter.specs.ArrayLeads.{IsStorable, Stores, StoresIn, element_by, has_kind as has_kind_of, is_stored as is_stored_by, length_lead, load_from as load_from_array, load_lead, loaded as loaded_by, new_array_lead, serves as serves_elements, stored as stored_by};
 ghost use Rattle.interpreter.specs.Fitting.{cell_of as cell_of_value, value_of as value_of_cell};
@@ -70,7 +71,7 @@ fn has_kind(kind: ElementKind, base: Option<BaseType>) -> bool
 }
 
 /// Whether an instruction serves arrays whose elements are of this type.
-fn serves(kind: ElementKind, element: Option<ResolvedType>) -> bool
+pub(crate) fn serves(kind: ElementKind, element: Option<ResolvedType>) -> bool
     ensures { result ≡ serves_elements kind element }
 {
     match element {
@@ -79,12 +80,19 @@ fn serves(kind: ElementKind, element: Option<ResolvedType>) -> bool
     }
 }
 
-fn element(heap: &Heap, program: &Program, array: u32, index: Index) -> Option<Value>
-    ensures { result ≡ element_by program.now heap.now array index }
+/// The type of an array's elements, and the one at an index.
+pub(crate) fn typed_element(
+    heap: &Heap,
+    program: &Program,
+    array: u32,
+    index: Index,
+) -> (Option<ResolvedType>, Option<Value>)
+    ensures held { result.0 ≡ element_type program.now heap.now array }
+    ensures element { result.1 ≡ element_by program.now heap.now array index }
 {
     match index {
-        Index::At(index) => heap.element(program, array, index),
-        Index::NoInt | Index::Negative => None,
+        Index::At(index) => heap.typed_element(program, array, index),
+        Index::NoInt | Index::Negative => (heap.element_type(program, array), None),
     }
 }
 
@@ -109,8 +117,9 @@ fn load_from(
     match array {
         Some(Cell::Null) => Lead::Throws(BuiltIn::NullPointerException),
         Some(Cell::Reference(number)) => {
-            if serves(kind, heap.element_type(program, number)) {
-                loaded(element(heap, program, number, index))
+            let (held, found) = typed_element(heap, program, number, index);
+            if serves(kind, held) {
+                loaded(found)
             } else {
                 VERIFY
             }
@@ -135,7 +144,7 @@ pub(crate) fn load(
 }
 
 /// Whether a value is of the kind that an instruction stores.
-fn is_stored(kind: ElementKind, value: Cell) -> bool
+pub(crate) fn is_stored(kind: ElementKind, value: Cell) -> bool
     ensures { result ≡ is_stored_by kind value }
 {
     match kind {
@@ -145,7 +154,7 @@ fn is_stored(kind: ElementKind, value: Cell) -> bool
 }
 
 /// Whether a value may be stored in an array: a reference that refers to no instance of the elements' type may not.
-fn is_storable(heap: &Heap, program: &Program, array: u32, value: Cell) -> bool
+pub(crate) fn is_storable(heap: &Heap, program: &Program, array: u32, value: Cell) -> bool
     ensures { IsTrue result ↔ IsStorable program.now heap.now array value }
 {
     match value {
@@ -183,14 +192,9 @@ fn store_in(
     ensures { StoresIn program.now heap.now kind array index value result }
 {
     let fits = is_storable(heap, program, array, value);
-    if is_stored(kind, value) && serves(kind, heap.element_type(program, array)) {
-        stored(
-            fits,
-            array,
-            index,
-            element(heap, program, array, index),
-            value,
-        )
+    let (held, old) = typed_element(heap, program, array, index);
+    if is_stored(kind, value) && serves(kind, held) {
+        stored(fits, array, index, old, value)
     } else {
         VERIFY
     }

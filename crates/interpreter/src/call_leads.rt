@@ -4,7 +4,7 @@ ghost use Rattle.std.specs.Prelude.{◌≡◌, IfSome, Some, option_copied};
 ghost use Rattle.hierarchy.specs.LinkedProgram.{id as class_id};
 ghost use Rattle.hierarchy.specs.declared.built_in.BuiltIn.TheVariants.{Object};
 ghost use Rattle.hierarchy.specs.declared.declared_method.MethodId.TheVariants as method_id;
-ghost use Rattle.interpreter.specs.CallLeads.{CallsBy, CallsInterface, HasReceiver, built_in_lead, enters_lead, init_types, interface_lead, parameters_at, receiver_of, reference_at as reference_of_call, selected_at, selected_lead, virtual_lead};
+ghost use Rattle.interpreter.specs.CallLeads.{CallsBy, CallsInterface, HasReceiver, built_in_lead, enters_lead, init_types, interface_lead, parameters_at, receiver_of, reference_at as reference_at_place, selected_by, selected_lead, init_lead, virtual_lead};
 ghost use Rattle.interpreter.specs.Leads.{CallsBuiltIn, CallsSpecialBuiltIn};
 ghost use Rattle.interpreter.specs.Methods.{method_at};
 ghost use Rattle.interpreter.specs.declared.lead.Lead.TheVariants as lead;
@@ -20,7 +20,7 @@ use jasmin_text::{Instruction, MethodReference};
 
 /// What a call at a place names.
 fn reference_at(program: &Program, at: FramePlace) -> Option<&MethodReference>
-    ensures { option_copied result ≡ reference_of_call program.now at }
+    ensures { option_copied result ≡ reference_at_place program.now at }
 {
     match instruction_at(program, at.class, at.method, at.place) {
         Some(Instruction::Call(_, named)) => Some(named),
@@ -29,14 +29,14 @@ fn reference_at(program: &Program, at: FramePlace) -> Option<&MethodReference>
     }
 }
 
-/// The method that a call at a place runs, where this one was resolved; or the error that it throws.
+/// The method that a call runs which names this reference, where this one was resolved; or the error that it throws.
 fn selected(
     program: &Program,
     at: FramePlace,
     call: Call,
     resolved: MethodId,
 ) -> Result<MethodId, BuiltIn>
-    ensures { result ≡ selected_at program.now at call resolved }
+    ensures { result ≡ selected_by program.now call resolved (reference_at_place program.now at) }
 {
     match reference_at(program, at) {
         Some(named) => {
@@ -83,15 +83,15 @@ fn run(program: &Program, selected: Result<MethodId, BuiltIn>, receiver: u32) ->
     }
 }
 
-/// The method of the receiver's class is called.
-fn run_virtual(
+/// The constructor of the receiver's class is called, where that of a built-in class was resolved.
+fn run_init(
     heap: &Heap,
     program: &Program,
     at: FramePlace,
     resolved: MethodId,
     receiver: u32,
 ) -> Option<Lead>
-    ensures { IfSome result (λ l. l ≡ virtual_lead program.now heap.now at resolved receiver) }
+    ensures { IfSome result (λ l. l ≡ init_lead program.now heap.now at resolved receiver) }
 {
     match heap.class_of(program, receiver) {
         Some(class) => {
@@ -102,23 +102,42 @@ fn run_virtual(
     }
 }
 
+/// The method of the receiver's class is called.
+fn run_virtual(
+    heap: &Heap,
+    program: &Program,
+    class: u16,
+    method: u16,
+    receiver: u32,
+) -> Option<Lead>
+    ensures { IfSome result (λ l. l ≡ virtual_lead program.now heap.now class method receiver) }
+{
+    match heap.class_of(program, receiver) {
+        Some(held) => {
+            let selected = program.select_for(Call::Virtual(held), id(class), method as usize);
+            run(program, selected, receiver)
+        }
+        None => Some(VERIFY),
+    }
+}
+
 /// Likewise, where that class implements the interface named.
 fn run_interface(
     heap: &Heap,
     program: &Program,
-    at: FramePlace,
-    resolved: MethodId,
+    class: u16,
+    method: u16,
     implements: bool,
     receiver: u32,
 ) -> Option<Lead>
-    ensures { IfSome result (λ l. l ≡ interface_lead program.now heap.now at resolved implements receiver) }
+    ensures { IfSome result (λ l. l ≡ interface_lead program.now heap.now class method implements receiver) }
 {
     if !implements {
         return Some(Lead::Throws(BuiltIn::IncompatibleClassChangeError));
     }
     match heap.class_of(program, receiver) {
-        Some(class) => {
-            let selected = selected(program, at, Call::Interface(class), resolved);
+        Some(held) => {
+            let selected = program.select_for(Call::Interface(held), id(class), method as usize);
             run(program, selected, receiver)
         }
         None => Some(VERIFY),
@@ -126,7 +145,7 @@ fn run_interface(
 }
 
 /// Whether the operands are as a call of an instance method wants them, and its receiver.
-#[derive(Clone, Copy, Debug, PartialEq, Eq)]
+#[derive(Clone, Copy)]
 pub(crate) enum Receiver {
     /// They aren't.
     Unfit,
@@ -174,21 +193,17 @@ pub(crate) fn call_virtual(
     frames: &Frames,
     heap: &Heap,
     program: &Program,
-    at: FramePlace,
     named: u16,
     class: u16,
     method: u16,
 ) -> Option<Lead>
-    ensures { IfSome result (CallsBy program.now heap.now frames.now named (parameters_at program.now class method) (virtual_lead program.now heap.now at (method_id.Declared (class_id class) method))) }
+    ensures { IfSome result (CallsBy program.now heap.now frames.now named (parameters_at program.now class method) (virtual_lead program.now heap.now class method)) }
 {
     let types = parameters(program, class, method)?;
     match find_receiver(frames, heap, program, named, types) {
         Receiver::Unfit => Some(VERIFY),
         Receiver::Null => Some(NULL),
-        Receiver::At(receiver) => {
-            let resolved = MethodId::Declared(id(class), method as usize);
-            run_virtual(heap, program, at, resolved, receiver)
-        }
+        Receiver::At(receiver) => run_virtual(heap, program, class, method, receiver),
     }
 }
 
@@ -196,12 +211,11 @@ pub(crate) fn call_interface(
     frames: &Frames,
     heap: &Heap,
     program: &Program,
-    at: FramePlace,
     named: u16,
     class: u16,
     method: u16,
 ) -> Option<Lead>
-    ensures { IfSome result (CallsInterface program.now heap.now frames.now at named class method) }
+    ensures { IfSome result (CallsInterface program.now heap.now frames.now named class method) }
 {
     let types = parameters(program, class, method)?;
     let object = frames.operand(types.len());
@@ -210,8 +224,7 @@ pub(crate) fn call_interface(
         Receiver::Unfit => Some(VERIFY),
         Receiver::Null => Some(NULL),
         Receiver::At(receiver) => {
-            let resolved = MethodId::Declared(id(class), method as usize);
-            run_interface(heap, program, at, resolved, implements, receiver)
+            run_interface(heap, program, class, method, implements, receiver)
         }
     }
 }
@@ -281,14 +294,14 @@ fn call_init(
     named: u16,
     method: BuiltInMethod,
 ) -> Option<Lead>
-    ensures { IfSome result (CallsBy program.now heap.now frames.now named (init_types program.now method) (virtual_lead program.now heap.now at (method_id.BuiltIn Object method))) }
+    ensures { IfSome result (CallsBy program.now heap.now frames.now named (init_types program.now method) (init_lead program.now heap.now at (method_id.BuiltIn Object method))) }
 {
     match built_in_receiver(frames, heap, program, named, method) {
         Receiver::Unfit => Some(VERIFY),
         Receiver::Null => Some(NULL),
         Receiver::At(receiver) => {
             let resolved = MethodId::BuiltIn(BuiltIn::Object, method);
-            run_virtual(heap, program, at, resolved, receiver)
+            run_init(heap, program, at, resolved, receiver)
         }
     }
 }

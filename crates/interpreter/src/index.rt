@@ -6,7 +6,7 @@ ghost use Rattle.interpreter.specs.Fitting.{index_of as index_by_operand};
 use frames::Cell;
 
 /// An operand as an index of an array, or as its length.
-#[derive(Clone, Copy, Debug, PartialEq, Eq)]
+#[derive(Clone, Copy)]
 pub(crate) enum Index {
     /// It is no int.
     NoInt,

@@ -25,7 +25,7 @@ use heap::Heap;
 use hierarchy::{BuiltIn, BuiltInMethod, ClassId, MethodCode, Op, Program, ResolvedType, Value};
 
 /// What an instruction comes to that asks something of what lies outside of its frame.
-#[derive(Clone, Copy, Debug, PartialEq, Eq)]
+#[derive(Clone, Copy)]
 pub(crate) enum Lead {
     /// The operand on top is taken, and the frame goes on at that place.
     Jumps(u16),
@@ -183,10 +183,10 @@ pub(crate) fn lead_of(
         Op::PutOut => Some(put_out(frames, heap, program, at, code)),
         Op::InvokeStatic(class, method) => call(frames, heap, program, at, code, class, method),
         Op::InvokeVirtual(named, class, method) => {
-            call_virtual(frames, heap, program, at, named, class, method)
+            call_virtual(frames, heap, program, named, class, method)
         }
         Op::InvokeInterface(named, class, method) => {
-            call_interface(frames, heap, program, at, named, class, method)
+            call_interface(frames, heap, program, named, class, method)
         }
         Op::InvokeSpecial(named, class, method) => {
             call_special(frames, heap, program, named, class, method)

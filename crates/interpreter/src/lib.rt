@@ -1,7 +1,9 @@
 //! The code of initializers and of `main`, as one thread runs it.
 #![tactic(auto)]
 
+mod apart;
 mod array_leads;
+mod at_once;
 mod call_leads;
 mod code_bodies;
 mod fitting;

@@ -13,7 +13,7 @@ use hierarchy::{BuiltIn, ClassId, Program, ResolvedType};
 use jasmin_text::ClassKind;
 
 /// An instance field: its type, and its cell in objects.
-#[derive(Clone, Copy, Debug, PartialEq, Eq)]
+#[derive(Clone, Copy)]
 pub(crate) struct FieldPlace {
     pub(crate) held: ResolvedType,
     pub(crate) cell: usize,
@@ -30,7 +30,7 @@ pub(crate) fn new_object(program: &Program, class: u16) -> Lead
 }
 
 /// An instance field of a class of the files, by its place among those.
-fn place_of(program: &Program, class: u16, field: u16) -> Option<FieldPlace>
+pub(crate) fn place_of(program: &Program, class: u16, field: u16) -> Option<FieldPlace>
     ensures { IfSome result (λ place. field_place program.now class field ≡ Some place) }
 {
     let Some(code) = program.code(class as usize) else {
@@ -52,7 +52,13 @@ fn is_class(program: &Program, class: ClassId) -> bool
 }
 
 /// Whether a value refers to an object that has the fields which a class declares.
-fn is_holder(heap: &Heap, program: &Program, named: u16, class: u16, value: Option<Cell>) -> bool
+pub(crate) fn is_holder(
+    heap: &Heap,
+    program: &Program,
+    named: u16,
+    class: u16,
+    value: Option<Cell>,
+) -> bool
     ensures { IsTrue result ↔ IsHolder program.now heap.now named class value }
 {
     is_instance_in(heap, program, exact_type(named), value) && is_class(program, id(class))
@@ -97,7 +103,7 @@ pub(crate) fn get_field(
     Some(get_by(heap, program, is, place, receiver))
 }
 
-fn may_put(
+pub(crate) fn may_put(
     heap: &Heap,
     program: &Program,
     named: u16,

@@ -78,7 +78,7 @@ impl Interpreter {
     }
 
     /// The monitor that the method of the innermost frame took, if it is synchronized.
-    fn taken_here(&self) -> Option<Monitor>
+    pub(crate) fn taken_here(&self) -> Option<Monitor>
         ensures { result ≡ taken_at (length self.now.frames) (last_of self.now.taken) }
     {
         let last = self.taken.last()?;

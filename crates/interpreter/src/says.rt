@@ -47,7 +47,7 @@ pub(crate) fn is_throwable(program: &Program, class: ClassId) -> bool
 
 impl Interpreter {
     /// The instruction at the innermost frame's place.
-    fn op(&self, program: &Program) -> Option<Op>
+    pub(crate) fn op(&self, program: &Program) -> Option<Op>
         ensures { IfSome result (IsAtOp program.now self.now.frames) }
     {
         let at = self.frames.at()?;

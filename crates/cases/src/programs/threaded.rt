@@ -8,7 +8,7 @@ use interpreter::{SharedInterpreter, SharedObjects};
 use jasmin_reader::read_class;
 use jasmin_text::ClassText;
 use std::alloc::{AllocError, Global};
-use std::sync::{Mutex, Wait};
+use std::sync::Wait;
 use std::thread::Threads;
 use trace::{Limits, Report, write_trace};
 
@@ -51,15 +51,15 @@ fn report_of<R: Threads + Wait + Sync>(
     alloc: Global,
     program: &Program,
     main: ClassId,
-    steps: u32,
+    limits: Limits,
 ) -> Result<Option<Report>, AllocError> {
     if main.number >= program.len() {
         return Ok(None);
     }
-    let shared = Mutex::new(SharedObjects::new(alloc));
+    let shared = SharedObjects::new(alloc);
     let mut bodies = Vec::new(alloc);
-    bodies.push(SharedInterpreter::new(rt, alloc, &shared, 0, steps))?;
-    let limits = Limits { steps, patience: 0 };
+    let sleeps = limits.patience == 0;
+    bodies.push(SharedInterpreter::new(rt, alloc, &shared, 0, limits.steps, sleeps))?;
     match run_threads(rt, alloc, program, &[main], bodies, limits, &NoGate) {
         Ok(report) => Ok(Some(report)),
         Err(RunFault::NoMemory | RunFault::NoThread) => Err(AllocError),
@@ -83,36 +83,53 @@ fn run_of<R: Threads + Wait + Sync>(
     alloc: Global,
     program: &Program,
     name: &str,
-    steps: u32,
+    limits: Limits,
 ) -> Result<Option<Texts>, AllocError> {
     let Some(main) = program.class_named(name.as_bytes()) else {
         return Ok(None);
     };
-    match report_of(rt, alloc, program, main, steps)? {
+    match report_of(rt, alloc, program, main, limits)? {
         Some(report) => Ok(Some(texts_of(alloc, program, &report)?)),
         None => Ok(None),
     }
 }
 
-/// What comes of the run, on a thread of its own, that a command line asks for by one main class and a file for the trace, with
-/// that file's name; nothing where it asks for something else, or where a file is at fault.
+/// What comes of a run on a thread of its own.
+#[derive(Drop)]
+pub(crate) struct ThreadedRun<'a> {
+    /// The file for the trace, if the command line names one.
+    pub trace: Option<&'a str>,
+    /// The output, the lines on standard error, and the trace.
+    pub texts: Texts,
+}
+
+/// The run, on a thread of its own and with this patience, that a command line asks for by one main class; nothing where it asks for
+/// something else, or where a file is at fault.
 pub(crate) fn threaded_run<'a, R: Threads + Wait + Sync>(
     rt: &R,
     alloc: Global,
     words: &'a [&'a str],
     files: &mut Texts,
-) -> Result<Option<(&'a str, Texts)>, AllocError> {
+    patience: u32,
+) -> Result<Option<ThreadedRun<'a>>, AllocError> {
     let Ok(Asked::Run(run)) = parse(alloc, words) else {
         return Ok(None);
     };
-    let (Some(main), Some(trace)) = (run.mains, run.trace) else {
+    let Some(main) = run.mains else {
         return Ok(None);
     };
     let Some(program) = program_of(alloc, run.files.as_slice(), files)? else {
         return Ok(None);
     };
-    match run_of(rt, alloc, &program, main, steps_of(run.steps))? {
-        Some(ran) => Ok(Some((trace, ran))),
+    let limits = Limits {
+        steps: steps_of(run.steps),
+        patience,
+    };
+    match run_of(rt, alloc, &program, main, limits)? {
+        Some(texts) => Ok(Some(ThreadedRun {
+            trace: run.trace,
+            texts,
+        })),
         None => Ok(None),
     }
 }

@@ -1,13 +1,13 @@
-use Rattle.std.proofs.Common.{subst}
+use Rattle.std.proofs.Common.{subst, sym}
 use Rattle.interpreter.specs.declared.interpreter.Interpreter.{Interpreter}
 use Rattle.interpreter.specs.SharedRun.{Meets}
 use Rattle.interpreter.proofs.shared.SharedInterpreterBodies.start.Goals as goal
 
 pub returns : goal.returns
 returns g c = record {
-  met = c.exchange.new.self;
+  met = c.self.inside.inside;
   left = c.start.new.self;
-  meets = subst (λ (s : Interpreter). Meets s c.exchange.new.self) c.self.view_is c.exchange.ensures;
+  meets = subst (λ (s : Interpreter). Meets c.args.self.now s) (sym c.self.view_is) c.hold-objects.ensures;
   step = c.start.ensures;
-  leaves = c.exchange-2.ensures;
+  leaves = c.give_back.ensures;
 }
