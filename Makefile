@@ -2,4 +2,5 @@
 # What an earlier run here passed is taken where nothing has changed, unless FLAGS is --from-nothing.
 .PHONY: test
 test:
+	@gate/edits_fit
 	@python3 gate/run.py $(FLAGS)

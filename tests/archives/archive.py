@@ -4,6 +4,7 @@ crates/cases/src/archive.rt has the form of the text, crates/cases/src/programs.
 program `cases` judges the same texts, over files in memory.
 """
 
+import os
 import re
 import subprocess
 import tempfile
@@ -97,6 +98,11 @@ def example_folders():
 
 def all_paths():
     return sorted((TOP / "crates/cases/data/programs").glob("*.txtar")) + example_folders()
+
+
+def keep_to(count):
+    """Has this process, and those that it starts from now on, run on so many processors, or on all that there are where these are fewer."""
+    os.sched_setaffinity(0, sorted(os.sched_getaffinity(0))[:count])
 
 
 def left_in(folder):
