@@ -4,6 +4,7 @@ pub mod Entering
 pub mod InterfaceCalls
 pub mod Leading
 pub mod NotDone
+pub mod OfClass
 pub mod OnTop
 pub mod Releasing
 pub mod Running

@@ -9,7 +9,7 @@ ghost use Rattle.interpreter.specs.Leads.{CallsBuiltIn, CallsSpecialBuiltIn};
 ghost use Rattle.interpreter.specs.Methods.{method_at};
 ghost use Rattle.interpreter.specs.declared.lead.Lead.TheVariants as lead;
 
-use crate::fitting::{built_in_type, exact_type, is_callable_on, is_instance_in};
+use crate::fitting::{built_in_type, is_callable_on, is_of_class};
 use crate::lead::{Lead, NULL, VERIFY, id};
 use crate::methods::{instruction_at, method_code};
 use crate::print_leads::print;
@@ -219,7 +219,7 @@ pub(crate) fn call_interface(
 {
     let types = parameters(program, class, method)?;
     let object = frames.operand(types.len());
-    let implements = is_instance_in(heap, program, exact_type(named), object);
+    let implements = is_of_class(heap, program, named, object);
     match find_receiver(frames, heap, program, named, types) {
         Receiver::Unfit => Some(VERIFY),
         Receiver::Null => Some(NULL),

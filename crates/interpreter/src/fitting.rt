@@ -2,6 +2,7 @@
 
 ghost use Rattle.std.specs.Prelude.{◌≡◌, ◌↔◌, IsTrue, Some, reverse};
 ghost use Rattle.frames.specs.Activations.{operands_of};
+ghost use Rattle.heap.specs.Instances.{IsInstance};
 ghost use Rattle.hierarchy.specs.LinkedProgram.{id};
 ghost use Rattle.hierarchy.specs.MethodResolution.{kind_of};
 ghost use Rattle.interpreter.specs.Fitting.{AreOnTop, FitsType, IsCallable, IsCallableOn, IsFit, IsInstanceIn, IsReceiver, built_in_type as type_of_built_in, cell_of as cell_of_value, exact_type as exact_type_of, is_int_type as has_ints, is_kind as is_kind_by, print_stream as stream_type, value_of as value_of_cell};
@@ -114,6 +115,27 @@ fn is_interface(program: &Program, class: u16) -> bool
     }
 }
 
+/// Whether a reference refers to an object of this very class; for many objects of subclasses, and for no other, the answer may be no.
+#[inline(always)]
+#[tactic(auto, using(crate::proofs::OfClass::of_class))]
+fn is_exactly(heap: &Heap, program: &Program, class: u16, reference: u32) -> bool
+    ensures { IsTrue result → IsInstance program.now heap.now (exact_type_of class) reference }
+{
+    match heap.class_of(program, reference) {
+        Some(found) => found.number == class as usize,
+        None => false,
+    }
+}
+
+/// Whether a reference refers to an instance of a class or interface. It is looked at first whether that is the object's own, as it is most often.
+#[inline(always)]
+fn is_instance_of(heap: &Heap, program: &Program, class: u16, reference: u32) -> bool
+    ensures { IsTrue result ↔ IsInstance program.now heap.now (exact_type_of class) reference }
+{
+    is_exactly(heap, program, class, reference)
+        || heap.is_instance(program, exact_type(class), reference)
+}
+
 /// Whether a value is null, or fits the class or interface named.
 fn is_receiver(heap: &Heap, program: &Program, named: u16, value: Option<Cell>) -> bool
     ensures { IsTrue result ↔ IsReceiver program.now heap.now named value }
@@ -121,7 +143,7 @@ fn is_receiver(heap: &Heap, program: &Program, named: u16, value: Option<Cell>) 
     match value {
         Some(Cell::Null) => true,
         Some(Cell::Reference(number)) => {
-            is_interface(program, named) || heap.is_instance(program, exact_type(named), number)
+            is_interface(program, named) || is_instance_of(heap, program, named, number)
         }
         _ => false,
     }
@@ -169,6 +191,17 @@ pub(crate) fn is_instance_in(
 {
     match value {
         Some(Cell::Reference(number)) => heap.is_instance(program, wanted, number),
+        _ => false,
+    }
+}
+
+/// Whether a value refers to an instance of a class or interface.
+#[inline(always)]
+pub(crate) fn is_of_class(heap: &Heap, program: &Program, class: u16, value: Option<Cell>) -> bool
+    ensures { IsTrue result ↔ IsInstanceIn program.now heap.now (exact_type_of class) value }
+{
+    match value {
+        Some(Cell::Reference(number)) => is_instance_of(heap, program, class, number),
         _ => false,
     }
 }

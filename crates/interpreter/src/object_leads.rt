@@ -5,7 +5,7 @@ ghost use Rattle.hierarchy.specs.MethodResolution.{kind_of};
 ghost use Rattle.jasmin_text.specs.declared.class_text.ClassKind.TheVariants as kind;
 ghost use Rattle.interpreter.specs.ObjectLeads.{GetsFrom, IsHolder, MayPut, PutsIn, field_place, get_lead, held, new_lead, put_lead};
 
-use crate::fitting::{cell_of, exact_type, fits, is_instance_in, is_kind, value_of};
+use crate::fitting::{cell_of, fits, is_kind, is_of_class, value_of};
 use crate::lead::{Lead, VERIFY, id, when};
 use frames::Cell;
 use heap::Heap;
@@ -52,6 +52,7 @@ fn is_class(program: &Program, class: ClassId) -> bool
 }
 
 /// Whether a value refers to an object that has the fields which a class declares.
+#[inline(always)]
 pub(crate) fn is_holder(
     heap: &Heap,
     program: &Program,
@@ -61,7 +62,7 @@ pub(crate) fn is_holder(
 ) -> bool
     ensures { IsTrue result ↔ IsHolder program.now heap.now named class value }
 {
-    is_instance_in(heap, program, exact_type(named), value) && is_class(program, id(class))
+    is_of_class(heap, program, named, value) && is_class(program, id(class))
 }
 
 fn get_by(
@@ -103,6 +104,7 @@ pub(crate) fn get_field(
     Some(get_by(heap, program, is, place, receiver))
 }
 
+#[inline(always)]
 pub(crate) fn may_put(
     heap: &Heap,
     program: &Program,
