@@ -19,6 +19,8 @@ mod procedures;
 #[cfg(test)]
 mod programs;
 #[cfg(test)]
+mod read_traces;
+#[cfg(test)]
 mod records;
 #[cfg(test)]
 mod resolved;

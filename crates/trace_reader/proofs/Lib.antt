@@ -1,0 +1,12 @@
+pub mod ClassWords
+pub mod FieldWords
+pub mod Fronts
+pub mod LineEnds
+pub mod LineEvents
+pub mod LineNumbers
+pub mod LineWords
+pub mod OneLine
+pub mod QuotedTexts
+pub mod TraceLaws
+pub mod ValueWords
+pub mod WholeTrace

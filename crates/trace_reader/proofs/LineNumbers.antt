@@ -1,0 +1,95 @@
+-- Numbers that are written are read again, and what is read as a number is its decimal.
+use Rattle.std.proofs.Common.{◌≡◌, ℕ, zero, suc, ◌<◌, ◌≤◌, ◌^◌, true, eqb, nat_lt, List, [], ◌∷◌, length, Option, Some, None, Ok, refl, ap, arith}
+use Rattle.std.proofs.lemmas.Bool.{eqb-true, ltb-true, lt-ltb}
+use Rattle.std.proofs.lemmas.Fmt.{decimal_nonempty}
+use Rattle.std.proofs.lemmas.Int.Digits.{digits_value-lt}
+use Rattle.std.proofs.Math.Nat.{pow-le-pow_right}
+use Rattle.std.specs.Str.Parse.{digits_value}
+use Rattle.std.specs.Fmt.{decimal, signed_decimal}
+use Rattle.std.specs.Int.{w32}
+use Rattle.std.specs.Prelude.{ℤ, pos, negsuc, neg_ℤ, FitsSigned}
+use Rattle.jasmin_words.specs.Integers.{integer_of, of_bits, IsInteger, decimal as in_decimal, minus, bits}
+use Rattle.jasmin_words.specs.Names.{same_bytes}
+use Rattle.jasmin_words.proofs.Numbers.{written_again, integer_is}
+use Rattle.jasmin_words.proofs.Results.{Holds, guard_holds, cond_holds, HoldsIn, guard_in}
+use Rattle.jasmin_text.proofs.WordBytes.{same_is, decimal_word}
+use Rattle.jasmin_text.specs.Spellable.{is_int}
+use Rattle.jasmin_text.proofs.AccessLines.{int_of}
+use Rattle.trace_reader.specs.Numbers.{spelled_so, int_in, from_zero, number_in, is_number, number_at, known_thread, thread_at}
+use Rattle.trace_reader.proofs.LineWords.{IsLineWord, unbroken_word}
+
+pub same_self : (xs : List ℕ) → same_bytes xs xs ≡ true
+same_self [] = refl
+same_self (x ∷ xs) = let e : eqb x x ≡ true = grind arith in rw e (same_self xs)
+
+pub decimal_line : (n : ℕ) → n < 2 ^ 64 → IsLineWord (decimal n)
+decimal_line n h = record { some = decimal_nonempty n h; whole = unbroken_word (decimal n) (decimal_word n h) }
+
+pub number_found : (n : ℕ) (word : List ℕ) → Holds (λ _. word ≡ decimal n) (number_at n word)
+unfolding number_at
+number_found n word = cond_holds (λ _. word ≡ decimal n) (same_bytes word (decimal n)) _ _ (same_is word (decimal n)) (λ _. cond_holds (λ _. word ≡ decimal n) (is_number word) _ _ (λ _. tt) (λ _. tt))
+
+pub number_again : (n : ℕ) → number_at n (decimal n) ≡ Ok tt
+unfolding number_at
+number_again n = rw (same_self (decimal n)) refl
+
+pub int_found : (word : List ℕ) → HoldsIn (λ n. word ≡ signed_decimal n) (int_in word)
+unfolding int_in
+int_found word = at (integer_of word)
+  where
+    at : (o : Option ℤ) → HoldsIn (λ n. word ≡ signed_decimal n) (spelled_so word o)
+    at None = tt
+    at (Some n) = guard_in (λ n. word ≡ signed_decimal n) (same_bytes word (signed_decimal n)) _ (same_is word (signed_decimal n))
+
+pub int_again : (n : ℤ) → FitsSigned w32 n → int_in (signed_decimal n) ≡ Some n
+unfolding int_in
+int_again n h = rw (written_again n h, same_self (signed_decimal n)) refl
+
+pub natural_found : (word : List ℕ) → HoldsIn (λ n. word ≡ decimal n) (number_in word)
+natural_found word = at (int_in word) (int_found word)
+  where
+    at : (o : Option ℤ) → HoldsIn (λ n. word ≡ signed_decimal n) o → HoldsIn (λ n. word ≡ decimal n) (from_zero o)
+    at None h = tt
+    at (Some (pos n)) h = h
+    at (Some (negsuc n)) h = tt
+
+pub natural_again : (n : ℕ) → n < 2147483648 → number_in (decimal n) ≡ Some n
+natural_again n h = ap from_zero (int_again (pos n) (int_of (pos n) (lt-ltb n 2147483648 h)))
+
+pub thread_found : (threads : ℕ) (word : List ℕ) → Holds (λ t. (word ≡ 116 ∷ decimal t) × (t < threads)) (thread_at threads word)
+unfolding thread_at
+thread_found threads [] = tt
+thread_found threads (b ∷ digits) =
+    guard_holds (λ t. (b ∷ digits ≡ 116 ∷ decimal t) × (t < threads)) (eqb b 116) _ _ (λ e. at (eqb-true b 116 e) (number_in digits) (natural_found digits))
+  where
+    at : b ≡ 116 → (o : Option ℕ) → HoldsIn (λ n. digits ≡ decimal n) o → Holds (λ t. (b ∷ digits ≡ 116 ∷ decimal t) × (t < threads)) (known_thread threads digits o)
+    at e None h = cond_holds (λ t. (b ∷ digits ≡ 116 ∷ decimal t) × (t < threads)) (is_number digits) _ _ (λ _. tt) (λ _. tt)
+    at e (Some t) h = guard_holds (λ t. (b ∷ digits ≡ 116 ∷ decimal t) × (t < threads)) (nat_lt t threads) _ _ (λ l. (rw (e, h) refl, ltb-true t threads l))
+
+pub thread_again : (threads t : ℕ) → t < threads → t < 2147483648 → thread_at threads (116 ∷ decimal t) ≡ Ok t
+unfolding thread_at
+thread_again threads t less small = rw (natural_again t small, lt-ltb t threads less) refl
+
+bits_int : (n : ℕ) → n < 4294967296 → is_int (of_bits n) ≡ true
+bits_int n h = grind arith
+
+negated_int : (n : ℕ) → n ≤ 2147483648 → is_int (neg_ℤ (pos n)) ≡ true
+negated_int zero h = refl
+negated_int (suc n) h = lt-ltb n 2147483648 (omega (arith, h))
+
+integer_fits : (word : List ℕ) (n : ℤ) → IsInteger word n → is_int n ≡ true
+integer_fits word n (in_decimal {digits} h less) = lt-ltb (digits_value 10 digits) 2147483648 less
+integer_fits word n (minus {digits} h less) = negated_int (digits_value 10 digits) less
+integer_fits word n (bits {digits} h short) =
+    let less = digits_value-lt 16 digits h.1 in
+    let power : 16 ^ length digits ≤ 16 ^ 8 = pow-le-pow_right (omega arith) short in
+    bits_int (digits_value 16 digits) (omega arith)
+
+-- what a word spells has 32 bits
+pub int_word_fits : (word : List ℕ) → HoldsIn (λ n. FitsSigned w32 n) (int_in word)
+unfolding int_in
+int_word_fits word = at (integer_of word) (integer_is word)
+  where
+    at : (o : Option ℤ) → HoldsIn (IsInteger word) o → HoldsIn (λ n. FitsSigned w32 n) (spelled_so word o)
+    at None h = tt
+    at (Some n) h = guard_in (λ n. FitsSigned w32 n) (same_bytes word (signed_decimal n)) _ (λ _. int_of n (integer_fits word n h))

@@ -1,0 +1,11 @@
+pub mod Faults
+pub mod Words
+pub mod Numbers
+pub mod Strings
+pub mod Prefixes
+pub mod Verbs
+pub mod Fields
+pub mod TraceEvents
+pub mod Reading
+pub mod TraceReading
+pub mod Laws

@@ -1,0 +1,152 @@
+//! Texts in their canonical spelling.
+
+ghost use Rattle.std.specs.Prelude.{◌≡◌, ◌<◌, ◌≤◌, length, option_copied, IfOk, IfSome};
+ghost use Rattle.jasmin_words.specs.Gives.{Gives};
+ghost use Rattle.trace_reader.specs.Strings.{low_hex, has_code, coded, letter, code_at, escape_at, is_plain, byte_at, closing, bytes_at, quote_at, closed_at, text_at};
+
+use crate::fault::TraceFaultKind;
+use crate::words::{Read, ends_word};
+use jasmin_words::Refusal;
+use jasmin_words::token::is_text;
+use sequence::Text;
+use std::alloc::Global;
+
+fn digit_of(byte: u8) -> Option<u8>
+    ensures value { result ≡ low_hex byte }
+    ensures small { IfSome result (λ d. d < 16) }
+{
+    if b'0' <= byte && byte <= b'9' {
+        Some(byte - b'0')
+    } else if b'a' <= byte && byte <= b'f' {
+        Some(byte - 87)
+    } else {
+        None
+    }
+}
+
+fn needs_code(byte: u8) -> bool
+    ensures { result ≡ has_code byte }
+{
+    (byte < 32 || byte == 127) && byte != b'\n' && byte != b'\t' && byte != b'\r'
+}
+
+/// The byte of two digits, where its spelling has them.
+fn coded_byte(high: u8, low: u8) -> Option<u8>
+    ensures { result ≡ coded (low_hex high) (low_hex low) }
+{
+    let high = digit_of(high)?;
+    let low = digit_of(low)?;
+    let byte = high * 16 + low;
+    if needs_code(byte) { Some(byte) } else { None }
+}
+
+/// The byte behind `\u`.
+#[tactic(auto, unfolding(crate::specs::Strings::code_at))]
+fn code(bytes: &[u8]) -> Read<(u8, &[u8])>
+    ensures { Gives (λ x. (x.0, x.1.now)) result (code_at bytes.now) }
+{
+    match bytes {
+        [b'0', b'0', high, low, after @ ..] => match coded_byte(*high, *low) {
+            Some(byte) => Ok((byte, after)),
+            None => Err(Refusal::Fault(TraceFaultKind::BadValue)),
+        },
+        _ => Err(Refusal::Fault(TraceFaultKind::BadValue)),
+    }
+}
+
+/// The byte behind a backslash.
+#[tactic(auto, unfolding(crate::specs::Strings::escape_at))]
+fn escape(bytes: &[u8]) -> Read<(u8, &[u8])>
+    ensures { Gives (λ x. (x.0, x.1.now)) result (escape_at bytes.now) }
+{
+    match bytes {
+        [b'u', after @ ..] => code(after),
+        [b'"', after @ ..] => Ok((b'"', after)),
+        [b'\\', after @ ..] => Ok((b'\\', after)),
+        [b'n', after @ ..] => Ok((b'\n', after)),
+        [b't', after @ ..] => Ok((b'\t', after)),
+        [b'r', after @ ..] => Ok((b'\r', after)),
+        _ => Err(Refusal::Fault(TraceFaultKind::BadValue)),
+    }
+}
+
+fn stands_for_itself(byte: u8) -> bool
+    ensures { result ≡ is_plain byte }
+{
+    32 <= byte && byte != 127 && byte != b'"'
+}
+
+/// One byte of a text, and what follows its spelling.
+#[tactic(auto, unfolding(crate::specs::Strings::byte_at))]
+fn byte_of(bytes: &[u8]) -> Read<(u8, &[u8])>
+    ensures { Gives (λ x. (x.0, x.1.now)) result (byte_at bytes.now) }
+{
+    match bytes {
+        [b'\\', after @ ..] => escape(after),
+        [byte, after @ ..] if stands_for_itself(*byte) => Ok((*byte, after)),
+        _ => Err(Refusal::Fault(TraceFaultKind::BadValue)),
+    }
+}
+
+/// What follows a closing quote that the bytes begin with.
+fn behind_closing(bytes: &[u8]) -> Option<&[u8]>
+    ensures { option_copied result ≡ closing bytes.now }
+{
+    match bytes {
+        [b'"', after @ ..] => Some(after),
+        _ => None,
+    }
+}
+
+/// The bytes up to the closing quote, and what follows it.
+fn bytes_of(alloc: Global, bytes: &[u8]) -> Read<(Vec<u8>, &[u8])>
+    ensures { Gives (λ x. (x.0.items, x.1.now)) result (bytes_at bytes.now) }
+{
+    let mut text = Vec::new(alloc);
+    let mut rest = bytes;
+    'bytes: loop {
+        if let Some(after) = behind_closing(rest) {
+            return Ok((text, after));
+        }
+        let (byte, after) = byte_of(rest)?;
+        text.push(byte)?;
+        rest = after;
+    }
+}
+
+#[tactic(auto, unfolding(crate::specs::Strings::quote_at))]
+fn behind_quote(bytes: &[u8]) -> Read<&[u8]>
+    ensures { Gives (λ x. x.now) result (quote_at bytes.now) }
+{
+    match bytes {
+        [] => Err(Refusal::Fault(TraceFaultKind::BadLine)),
+        [b'"', after @ ..] => Ok(after),
+        [byte, ..] if ends_word(*byte) => Err(Refusal::Fault(TraceFaultKind::BadLine)),
+        _ => Err(Refusal::Fault(TraceFaultKind::BadValue)),
+    }
+}
+
+#[tactic(auto, unfolding(crate::specs::Strings::closed_at))]
+fn behind_text(bytes: &[u8]) -> Read<&[u8]>
+    ensures { Gives (λ x. x.now) result (closed_at bytes.now) }
+{
+    match bytes {
+        [b'\n', after @ ..] => Ok(after),
+        [] | [b' ', ..] => Err(Refusal::Fault(TraceFaultKind::BadLine)),
+        _ => Err(Refusal::Fault(TraceFaultKind::BadValue)),
+    }
+}
+
+/// The text between its quotes, and what follows the line's end.
+#[tactic(auto, unfolding(crate::specs::Strings::text_at))]
+pub(crate) fn text(alloc: Global, bytes: &[u8]) -> Read<(Text, &[u8])>
+    ensures { Gives (λ x. (x.0, x.1.now)) result (text_at bytes.now) }
+{
+    let inside = behind_quote(bytes)?;
+    let (text, after) = bytes_of(alloc, inside)?;
+    if !is_text(&text) {
+        return Err(Refusal::Fault(TraceFaultKind::BadValue));
+    }
+    let rest = behind_text(after)?;
+    Ok((Text::from_vec(text), rest))
+}
