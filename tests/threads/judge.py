@@ -43,10 +43,6 @@ class Judge:
         # A thread first needs its main class.
         self.threads = [[Open(None, "needs", [main])] for main in mains]
 
-    def check(self, is_right, why):
-        if not is_right:
-            raise Fault(why)
-
     def label(self, thread, step, name):
         """The label of the class lets the thread make this step."""
         label = self.labels.get(name)
@@ -67,14 +63,20 @@ class Judge:
     def look(self, thread, step, name):
         """Steps 2 to 6: a request begins, or looks again."""
         top = self.threads[thread][-1]
-        self.check(top.throwable is None and not top.by_machine, "the procedure ends by its throwable here")
+        if top.throwable is not None or top.by_machine:
+            raise Fault("the procedure ends by its throwable here")
         if top.doing == "needs":
-            self.check(top.needs, "nothing more is needed here")
-            self.check(name == top.needs[0], f"{top.needs[0]} comes next")
+            if not top.needs:
+                raise Fault("nothing more is needed here")
+            if name != top.needs[0]:
+                raise Fault(f"{top.needs[0]} comes next")
         else:
-            self.check(top.doing == "body", "step 9 comes first")
-        self.check(top.waits_for in (None, name), f"the thread waits for {top.waits_for}")
-        self.check(step != "step2" or top.waits_for is None, "the wait has its step 2 already")
+            if top.doing != "body":
+                raise Fault("step 9 comes first")
+        if top.waits_for not in (None, name):
+            raise Fault(f"the thread waits for {top.waits_for}")
+        if step == "step2" and top.waits_for is not None:
+            raise Fault("the wait has its step 2 already")
         self.label(thread, step, name)
         top.usable = None
         if step == "step2":
@@ -110,54 +112,69 @@ class Judge:
     def innermost(self, thread, step, name):
         """The innermost open procedure, which is for this class."""
         top = self.threads[thread][-1]
-        self.check(top.name == name, f"{top.name or 'main'} is innermost")
+        if top.name != name:
+            raise Fault(f"{top.name or 'main'} is innermost")
         self.label(thread, step, name)
         return top
 
     def ends_by_machine(self, thread):
-        self.check(thread in self.may_end, "the machine didn't end this thread")
+        if thread not in self.may_end:
+            raise Fault("the machine didn't end this thread")
 
     def step_7(self, thread, name, throwable):
         """What the class needs failed, was ended by the machine, or memory is wanting."""
         top = self.innermost(thread, "step7", name)
-        self.check(top.doing == "needs", "step 9 was made")
+        if top.doing != "needs":
+            raise Fault("step 9 was made")
         by_machine = top.by_machine
         if top.throwable is not None:
-            self.check(throwable == top.throwable, f"{top.throwable} was thrown")
+            if throwable != top.throwable:
+                raise Fault(f"{top.throwable} was thrown")
         else:
             may_give_up = MACHINE_ERRORS if top.needs else {NO_MEMORY}
-            self.check(throwable in may_give_up, "nothing that it needs failed")
+            if throwable not in may_give_up:
+                raise Fault("nothing that it needs failed")
             self.ends_by_machine(thread)
             by_machine = True
         self.close(thread, name, "erroneous", throwable, by_machine)
 
     def step_9(self, thread, name):
         top = self.innermost(thread, "step9", name)
-        self.check(top.doing == "needs", "step 9 was made already")
-        self.check(top.throwable is None, "what it needs failed")
-        self.check(not top.needs, f"{(top.needs or [None])[0]} comes next")
+        if top.doing != "needs":
+            raise Fault("step 9 was made already")
+        if top.throwable is not None:
+            raise Fault("what it needs failed")
+        if top.needs:
+            raise Fault(f"{top.needs[0]} comes next")
         top.doing = "body"
 
     def step_10(self, thread, name):
         top = self.innermost(thread, "step10", name)
-        self.check(top.doing == "body", "step 9 comes first")
-        self.check(top.waits_for is None, f"the thread waits for {top.waits_for}")
-        self.check(not top.by_machine, "the machine ended the body")
+        if top.doing != "body":
+            raise Fault("step 9 comes first")
+        if top.waits_for is not None:
+            raise Fault(f"the thread waits for {top.waits_for}")
+        if top.by_machine:
+            raise Fault("the machine ended the body")
         self.close(thread, name, "initialized", None, False)
 
     def step_12(self, thread, name, throwable):
         """The initializer was left by a throwable, which step 11 made an Error, or ended by the machine."""
         top = self.innermost(thread, "step12", name)
-        self.check(top.doing == "body", "step 9 comes first")
+        if top.doing != "body":
+            raise Fault("step 9 comes first")
         by_machine = top.by_machine
         if by_machine:
-            self.check(throwable == top.throwable, f"the machine ended the body by {top.throwable}")
+            if throwable != top.throwable:
+                raise Fault(f"the machine ended the body by {top.throwable}")
         elif top.waits_for is not None:
-            self.check(throwable in MACHINE_ERRORS, f"the thread waits for {top.waits_for}")
+            if throwable not in MACHINE_ERRORS:
+                raise Fault(f"the thread waits for {top.waits_for}")
             self.ends_by_machine(thread)
             by_machine = True
         else:
-            self.check(is_error(self.program, throwable), "the throwable is no Error")
+            if not is_error(self.program, throwable):
+                raise Fault("the throwable is no Error")
         self.close(thread, name, "erroneous", throwable, by_machine)
 
     def close(self, thread, name, label, throwable, by_machine):
@@ -168,26 +185,35 @@ class Judge:
     def body(self, thread):
         """The body that the thread is in, for what stands in one."""
         top = self.threads[thread][-1]
-        self.check(top.doing == "body", "the thread is in no body")
-        self.check(top.waits_for is None, f"the thread waits for {top.waits_for}")
-        self.check(not top.by_machine, "the machine ended the body")
+        if top.doing != "body":
+            raise Fault("the thread is in no body")
+        if top.waits_for is not None:
+            raise Fault(f"the thread waits for {top.waits_for}")
+        if top.by_machine:
+            raise Fault("the machine ended the body")
         return top
 
     def use(self, thread, word, name, field, value):
         """A read or a write of a static field."""
         top = self.body(thread)
-        self.check(top.usable == name, f"no procedure for {name} was completed directly before it")
+        if top.usable != name:
+            raise Fault(f"no procedure for {name} was completed directly before it")
         top.usable = None
         fields = self.program[name].fields
-        self.check(field in fields, "the class declares no such static field")
-        self.check(self.labels.get(name) in ("initialized", thread), f"{name} isn't initialized")
+        if field not in fields:
+            raise Fault("the class declares no such static field")
+        if self.labels.get(name) not in ("initialized", thread):
+            raise Fault(f"{name} isn't initialized")
         descriptor = field.rpartition(":")[2]
         if descriptor in RANGES:
-            self.check(NUMBER.fullmatch(value), "no int")
+            if not NUMBER.fullmatch(value):
+                raise Fault("no int")
             least, most = RANGES[descriptor]
-            self.check(least <= int(value) <= most, "the field's type has no such value")
+            if not least <= int(value) <= most:
+                raise Fault("the field's type has no such value")
         else:
-            self.check(REFERENCE.fullmatch(value), "no reference")
+            if not REFERENCE.fullmatch(value):
+                raise Fault("no reference")
         place = (name, field)
         if word == "put":
             self.values[place] = value
@@ -197,22 +223,28 @@ class Judge:
             constant = fields[field]
             if isinstance(constant, str):
                 # Equal texts have one object (JVMS SE 8 5.1), whose number a first read tells.
-                self.check(value != "null", "the field has a text")
+                if value == "null":
+                    raise Fault("the field has a text")
                 holds = self.texts.setdefault(constant, value)
             else:
                 holds = str(constant or 0) if descriptor in RANGES else "null"
-        self.check(value == holds, f"the field holds {holds}")
+        if value != holds:
+            raise Fault(f"the field holds {holds}")
 
     def line(self, number, line):
         """Reads one line."""
         found = LINE.fullmatch(line)
-        self.check(found, "no line of a trace")
+        if not found:
+            raise Fault("no line of a trace")
         at, thread, step, name, ending, ended, throwable, use, used, field, value, text = found.groups()
-        self.check(at == str(number), f"line {number} comes here")
+        if at != str(number):
+            raise Fault(f"line {number} comes here")
         thread = int(thread)
-        self.check(thread < len(self.threads), "no such thread")
+        if thread >= len(self.threads):
+            raise Fault("no such thread")
         named = name or ended or used
-        self.check(named is None or named in self.program, "no class of the files")
+        if named is not None and named not in self.program:
+            raise Fault("no class of the files")
         if step in LOOKS:
             self.look(thread, step, name)
         elif step == "step9":
@@ -226,15 +258,18 @@ class Judge:
         elif use:
             self.use(thread, use, used, field, value)
         else:
-            self.check(TEXT.fullmatch(text), "the text isn't written canonically")
+            if not TEXT.fullmatch(text):
+                raise Fault("the text isn't written canonically")
             self.body(thread).usable = None
 
     def end(self, thread):
         """The thread does nothing more."""
         first, *rest = self.threads[thread]
-        self.check(not rest, f"{rest[-1].name if rest else ''} is open")
+        if rest:
+            raise Fault(f"{rest[-1].name if rest else ''} is open")
         if first.doing == "needs" or first.waits_for is not None:
-            self.check(thread in self.may_end, f"the procedure for {first.waits_for or first.needs[0]} is open")
+            if thread not in self.may_end:
+                raise Fault(f"the procedure for {first.waits_for or first.needs[0]} is open")
 
 
 def fault_in(program, mains, trace, may_end=None):
