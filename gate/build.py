@@ -72,7 +72,7 @@ def along_the_graph():
     for it in crates:
         waits = [(below.name, "proof") for below in it.below()]
         tasks[it.name, "proof"] = waits, kit.weight(rt, it), lambda given, jobs, it=it: build(it, jobs)
-    lanes.run(tasks, *kit.lanes(rt), kit.memory_for)
+    lanes.run(tasks, {}, *kit.lanes(rt), kit.memory_for)
     return held
 
 

@@ -19,7 +19,8 @@ def paths(tasks):
     for key in reversed([*tasks]):
         found[key] += tasks[key][1]
         for it in tasks[key][0]:
-            found[it] = max(found[it], found[key])
+            if it in found:
+                found[it] = max(found[it], found[key])
     return found
 
 
@@ -36,13 +37,14 @@ class Lanes:
         self.pool = ThreadPoolExecutor(number, **how)
 
 
-def run(tasks, processors, memory, memory_for):
-    """Runs each task once those that it waits for have ended, and returns what each gave. A task is what it waits for, its
-    work, and a call that gets what was given and how many jobs it may use; so many jobs take the memory that `memory_for` says."""
+def run(tasks, given, processors, memory, memory_for):
+    """Runs each task once those that it waits for have ended, and adds what each gave to what is given. A task is what it waits
+    for, its work, and a call that gets what was given and how many jobs it may use; so many jobs take the memory that `memory_for`
+    says."""
     behind = paths(tasks)
     waited_for = {it for key in tasks if key[1] == "proof" for it in tasks[key][0]}
     front, back = Lanes(processors), Lanes(processors, initializer=step_back)
-    left, running, given = [*tasks], {}, {}
+    left, running = [*tasks], {}
 
     def is_ready(key):
         return all(it in given for it in tasks[key][0])
@@ -82,4 +84,3 @@ def run(tasks, processors, memory, memory_for):
         start()
     for lanes in front, back:
         lanes.pool.shutdown()
-    return given

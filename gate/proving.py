@@ -147,9 +147,18 @@ class Gate:
                 made[key] = [*waits, proof], lines, self.timed("tests", key, call)
             else:
                 made.update(self.edit_tasks(crate, waits, lines))
-        given = lanes.run(made, *kit.lanes(self.rt), kit.memory_for)
+        given = self.taken_at_once(made)
+        lanes.run(made, given, *kit.lanes(self.rt), kit.memory_for)
         for crate in self.crates.values():
             self.count(crate, given)
+        return given
+
+    def taken_at_once(self, made):
+        """Takes the tasks of known crates out of these, and returns what they give: a copy is made, and no lane is needed."""
+        given = {}
+        for key in [it for it in made if self.known[it[0]]]:
+            if all(it in given for it in made[key][0]):
+                given[key] = made.pop(key)[2](given, 1)
         return given
 
     def timed(self, kind, key, call):
@@ -182,10 +191,17 @@ class Gate:
                 return bad, good, []
             if self.known[crate.name]:
                 return bad, good, [(True, f"must-fail {crate.name}/{os.path.basename(it)}: refused in an earlier run") for it in good]
-            return bad, good, [self.edits[crate.name].found[it] for it in good]
+            found = [self.edits[crate.name].found[it] for it in good]
+            if all(it for it, _ in found) and not bad and self.is_judged_now(crate):
+                self.store.keep(crate, self.keys[crate.name])
+            return bad, good, found
 
         made[crate.name, "edits"] = [*waits, *shares], 0, gather
         return made
+
+    def is_judged_now(self, crate):
+        """Whether nothing more is asked of the crate once its edits are tried, so that it may be kept though this run is stopped."""
+        return not (crate.is_program or crate.has_tests() or crate.name == self.beside)
 
     def edits_to_try(self, crate):
         """The crate's edits, which the first of the tasks that try them lays out."""
@@ -229,6 +245,7 @@ class Gate:
         run was stopped on its way."""
         is_stopped = sys.exc_info()[0] is not None
         for name, crate in self.crates.items():
-            if not is_stopped and self.passes[name] and not self.known[name] and os.path.isdir(f"{crate.folder}/out"):
+            is_kept = self.known[name] or self.is_judged_now(crate)
+            if not is_stopped and self.passes[name] and not is_kept and os.path.isdir(f"{crate.folder}/out"):
                 self.store.keep(crate, self.keys[name])
         self.original["put_back"](root, aside, was_killed)
