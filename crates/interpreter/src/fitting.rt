@@ -115,7 +115,7 @@ fn is_interface(program: &Program, class: u16) -> bool
     }
 }
 
-/// Whether a reference refers to an object of this very class; for many objects of subclasses, and for no other, the answer may be no.
+/// A yes says that the reference refers to an object of this very class; a no says nothing.
 #[inline(always)]
 #[tactic(auto, using(crate::proofs::OfClass::of_class))]
 fn is_exactly(heap: &Heap, program: &Program, class: u16, reference: u32) -> bool

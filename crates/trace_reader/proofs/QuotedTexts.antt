@@ -38,9 +38,6 @@ with_code v e = grind arith
 itself : (b : ℕ) → eqb b 92 ≡ false → is_plain b ≡ true → quoted_byte b ≡ b ∷ []
 itself b n e = grind arith
 
-same_bytes_of : {b c : ℕ} (rest : List ℕ) → eqb b c ≡ true → b ∷ rest ≡ c ∷ rest
-same_bytes_of {b} {c} rest e = ap (λ (z : ℕ). z ∷ rest) (eqb-true b c e)
-
 both : (a b : Bool) → (a && b) ≡ true → (a ≡ true) × (b ≡ true)
 both true b e = (refl, e)
 both false b e = absurd cc

@@ -32,9 +32,6 @@ not_past total s few fits = let h = line_within s in let below : (total - length
 
 -- ---- one line
 
-abbrev IsLineOf : LinkedProgram → ℕ → ℕ → List ℕ → Event × List ℕ → Type 0
-IsLineOf p threads n s x = IsLine p threads n s x
-
 pub line_found : (p : LinkedProgram) → IsLinked p → (threads total n : ℕ) (s : List ℕ) → Holds (IsLine p threads n s) (line_at p threads total n s)
 unfolding line_at
 line_found p h threads total n s = cond_holds (IsLine p threads n s) (is_past total s) _ _ (λ _. tt) (λ _. told (event_at p threads n s) (event_found p h threads n s))
