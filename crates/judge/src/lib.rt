@@ -17,6 +17,7 @@ ghost use Rattle.judge.specs.Verdicts.{IsVerdict};
 ghost use Rattle.judge.specs.declared.verdict.Verdict.TheVariants as verdicts;
 
 mod classes;
+mod explanation;
 mod items;
 mod judge;
 pub mod laws;
@@ -24,8 +25,10 @@ mod moves;
 mod open_class;
 mod reader;
 mod readers;
+mod state_words;
 pub mod verdict;
 
+pub use explanation::explain;
 use hierarchy::{ClassId, Program};
 use init_core::Event;
 use judge::Judge;

@@ -104,6 +104,11 @@ impl Procedures {
         Ok(made)
     }
 
+    /// The open classes; the innermost one is the last.
+    pub(crate) fn open_classes(&self) -> &[OpenClass] {
+        &self.outermost_first
+    }
+
     /// The innermost open class, which is open no more.
     pub(crate) fn pop(&mut self) -> Option<OpenClass>
         ensures some { IfSome result (λ found. self.old.frames ≡ frame_in found ∷ self.new.frames) }

@@ -7,7 +7,7 @@ ghost use Rattle.judge.specs.Reading.{MayStop, Reads, made_by, opening};
 
 use crate::open_class::Procedures;
 use hierarchy::{ClassId, Program};
-use init_core::Kind;
+use init_core::{Kind, Outcome};
 use std::alloc::{AllocError, Global};
 
 /// Where the events of one thread have led.
@@ -49,6 +49,18 @@ impl Reader {
         let begun = self.begun;
         self.begun = self.procedures.begun_after(begun);
         self.procedures.take(alloc, program, begun, class, kind)
+    }
+
+    /// Whether no class is open, and the thread is ended: by what its main class ended with, or by the machine. Takes no memory.
+    pub(crate) fn has_ended(&self) -> bool {
+        match self.procedures.last {
+            Some(completed) => match completed.outcome {
+                Outcome::Normal => false,
+                Outcome::Abrupt(_) => !self.begun,
+                Outcome::Ended(_) => true,
+            },
+            None => false,
+        }
     }
 
     /// Whether the thread may stop here: no class is open, or only a request that is given up. Takes no memory.

@@ -1,0 +1,279 @@
+//! The state of threads and classes after some events, in words.
+
+use crate::items::ending_error;
+use crate::open_class::{OpenClass, Stage};
+use crate::reader::Reader;
+use hierarchy::{ClassId, Program, Value};
+use init_core::{Completed, Event, Kind, Label, Outcome};
+use jasmin_words::integer::{push_decimal, push_integer};
+use std::alloc::{AllocError, Global};
+use trace::{write_class_name, write_trace};
+
+/// The errors by which the machine ends a thread.
+const MACHINE_ERRORS: &str = " java/lang/InternalError or java/lang/OutOfMemoryError";
+
+/// A text about the events of a program.
+#[derive(Drop)]
+pub(crate) struct Words<'a> {
+    program: &'a Program,
+    events: &'a [Event],
+    text: Vec<u8>,
+}
+
+/// The label that an event of this kind gives its class, if it gives one.
+fn label_by(thread: usize, kind: &Kind) -> Option<Label> {
+    match kind {
+        Kind::Begins => Some(Label::InProgress(thread)),
+        Kind::Completes => Some(Label::Initialized),
+        Kind::SuperFails(_) | Kind::Fails(_) => Some(Label::Erroneous),
+        _ => None,
+    }
+}
+
+impl<'a> Words<'a> {
+    /// No words, about these events of a program.
+    pub(crate) fn new(alloc: Global, program: &'a Program, events: &'a [Event]) -> Self {
+        Words {
+            program,
+            events,
+            text: Vec::new(alloc),
+        }
+    }
+
+    pub(crate) fn into_text(self) -> Vec<u8> {
+        let Words { text, .. } = self;
+        text
+    }
+}
+
+impl Words<'_> {
+    pub(crate) fn say(&mut self, words: &str) -> Result<(), AllocError> {
+        self.text.extend_from_slice(words.as_bytes())
+    }
+
+    fn class(&mut self, class: ClassId) -> Result<(), AllocError> {
+        write_class_name(&mut self.text, self.program, class)
+    }
+
+    fn thread(&mut self, thread: usize) -> Result<(), AllocError> {
+        self.say("t")?;
+        push_decimal(&mut self.text, thread)
+    }
+
+    pub(crate) fn value(&mut self, value: Value) -> Result<(), AllocError> {
+        match value {
+            Value::Int(number) => push_integer(&mut self.text, number),
+            Value::Null => self.say("null"),
+            Value::Reference(number) => {
+                self.say("#")?;
+                push_decimal(&mut self.text, number as usize)
+            }
+        }
+    }
+
+    /// The label of a class after the events, and the number of the event that gave it.
+    fn label(&self, class: ClassId) -> Result<(Label, usize), AllocError> {
+        let mut found = (Label::Prepared, 0);
+        'events: for (number, event) in self.events.iter().enumerate() {
+            if event.class() == Some(class) {
+                if let Some(label) = label_by(event.thread(), &event.kind()?) {
+                    found = (label, number);
+                }
+            }
+        }
+        Ok(found)
+    }
+
+    fn since(&mut self, number: usize) -> Result<(), AllocError> {
+        self.say(" since event ")?;
+        push_decimal(&mut self.text, number)
+    }
+
+    /// An event, as a trace has it but for its number.
+    pub(crate) fn event(&mut self, alloc: Global, event: &Event) -> Result<(), AllocError> {
+        let mut alone = Vec::new(alloc);
+        alone.push(event.clone()?)?;
+        let line = write_trace(alloc, self.program, &alone)?;
+        self.text.extend_from_slice(line.get(2..).unwrap_or(&[]))
+    }
+
+    pub(crate) fn no_thread(&mut self, thread: usize) -> Result<(), AllocError> {
+        self.say("there is no thread ")?;
+        self.thread(thread)?;
+        self.say("\n")
+    }
+
+    /// The label of a class, and since when.
+    pub(crate) fn label_line(&mut self, class: ClassId) -> Result<(), AllocError> {
+        let (label, number) = self.label(class)?;
+        self.class(class)?;
+        match label {
+            Label::Prepared => return self.say(" is prepared\n"),
+            Label::InProgress(owner) => {
+                self.say(" is being initialized by ")?;
+                self.thread(owner)?;
+            }
+            Label::Initialized => self.say(" is initialized")?,
+            Label::Erroneous => self.say(" is erroneous")?,
+        }
+        self.since(number)?;
+        self.say("\n")
+    }
+
+    /// Who initializes a class, where another thread does.
+    fn owner(&mut self, thread: usize, class: ClassId) -> Result<(), AllocError> {
+        if let (Label::InProgress(owner), _) = self.label(class)? {
+            if owner != thread {
+                self.say(", which ")?;
+                self.thread(owner)?;
+                self.say(" initializes")?;
+            }
+        }
+        Ok(())
+    }
+
+    /// What a thread is doing with a class that it initializes.
+    fn stage(&mut self, stage: &Stage) -> Result<(), AllocError> {
+        match stage {
+            Stage::Looking { .. } => Ok(()),
+            Stage::Needing(_) => self.say(": in step 7, what it needs comes first"),
+            Stage::Running { ran: false } => self.say(": all that it needs is done"),
+            Stage::Running { ran: true } => self.say(": its initializer runs"),
+            Stage::SuperFails { .. } => self.say(": what it needs has failed"),
+        }
+    }
+
+    /// What a thread is doing with an open class.
+    pub(crate) fn open_class(&mut self, thread: usize, open: &OpenClass) -> Result<(), AllocError> {
+        self.thread(thread)?;
+        match open.stage {
+            Stage::Looking { waited: false } => {
+                self.say(" comes to ")?;
+                self.class(open.class)?;
+            }
+            Stage::Looking { waited: true } => {
+                self.say(" waits for ")?;
+                self.class(open.class)?;
+                self.owner(thread, open.class)?;
+            }
+            _ => {
+                self.say(" initializes ")?;
+                self.class(open.class)?;
+                let (_, number) = self.label(open.class)?;
+                self.since(number)?;
+                self.stage(&open.stage)?;
+            }
+        }
+        self.say("\n")
+    }
+
+    /// Of a thread that has no class open.
+    pub(crate) fn outside(&mut self, thread: usize, has_ended: bool) -> Result<(), AllocError> {
+        self.thread(thread)?;
+        self.say(if has_ended {
+            " has ended\n"
+        } else {
+            " is in main\n"
+        })
+    }
+
+    /// A step at a class.
+    fn step(&mut self, step: &str, class: ClassId) -> Result<(), AllocError> {
+        self.say(step)?;
+        self.class(class)
+    }
+
+    /// A step that ends a class by this error.
+    fn step_by(&mut self, step: &str, class: ClassId, error: ClassId) -> Result<(), AllocError> {
+        self.step(step, class)?;
+        self.say(" ")?;
+        self.class(error)
+    }
+
+    /// What may come at a look.
+    fn look(&mut self, thread: usize, class: ClassId, waited: bool) -> Result<(), AllocError> {
+        match self.label(class)?.0 {
+            Label::Prepared => self.step("step6 ", class),
+            Label::InProgress(owner) if owner == thread => self.step("step3 ", class),
+            Label::InProgress(_) if waited => self.say("nothing while it waits"),
+            Label::InProgress(_) => self.step("step2 ", class),
+            Label::Initialized => self.step("step4 ", class),
+            Label::Erroneous => self.step("step5 ", class),
+        }
+    }
+
+    /// What may come in a body besides its end.
+    fn items(&mut self, last: Option<Completed>) -> Result<(), AllocError> {
+        self.say("a print, a use of a class")?;
+        if let Some(
+            Completed {
+                class,
+                outcome: Outcome::Normal,
+            },
+        ) = last
+        {
+            self.step(", a get or put of ", class)?;
+        }
+        Ok(())
+    }
+
+    /// What may come in the initializer of a class.
+    fn body(&mut self, class: ClassId, last: Option<Completed>) -> Result<(), AllocError> {
+        if let Some(error) = ending_error(last) {
+            return self.step_by("step12 ", class, error);
+        }
+        self.step("step10 ", class)?;
+        self.step(", step12 ", class)?;
+        self.say(" by an Error, ")?;
+        self.items(last)
+    }
+
+    /// What may come while this class is the innermost open one.
+    fn within(
+        &mut self,
+        thread: usize,
+        open: &OpenClass,
+        last: Option<Completed>,
+    ) -> Result<(), AllocError> {
+        match &open.stage {
+            Stage::Looking { waited } => self.look(thread, open.class, *waited),
+            Stage::Needing(_) => Ok(()),
+            Stage::Running { ran: false } => {
+                self.step("step9 ", open.class)?;
+                self.step(", step7 ", open.class)?;
+                self.say(" java/lang/OutOfMemoryError")
+            }
+            Stage::Running { ran: true } => self.body(open.class, last),
+            Stage::SuperFails { error, .. } => self.step_by("step7 ", open.class, *error),
+        }
+    }
+
+    /// What may come where the thread gives up a request in this class.
+    fn giving_up(&mut self, around: &OpenClass) -> Result<(), AllocError> {
+        match around.stage {
+            Stage::Needing(_) => self.step(", step7 ", around.class)?,
+            _ => self.step(", step12 ", around.class)?,
+        }
+        self.say(MACHINE_ERRORS)
+    }
+
+    /// What a thread could do next.
+    pub(crate) fn possible(&mut self, thread: usize, reader: &Reader) -> Result<(), AllocError> {
+        self.thread(thread)?;
+        self.say(" could go on with: ")?;
+        let last = reader.procedures.last;
+        match reader.procedures.open_classes() {
+            [] if reader.has_ended() => self.say("nothing")?,
+            [] if reader.begun => self.items(last)?,
+            [] => self.items(None)?,
+            [.., around, innermost] => {
+                self.within(thread, innermost, last)?;
+                if let Stage::Looking { .. } = innermost.stage {
+                    self.giving_up(around)?;
+                }
+            }
+            [innermost] => self.within(thread, innermost, last)?,
+        }
+        self.say("\n")
+    }
+}
