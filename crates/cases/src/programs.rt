@@ -14,11 +14,14 @@
 //!
 //! A file that no `left` names holds after the run what it held before, and the run makes no file but those. Where a command runs
 //! one main class, its run on a thread of its own must come to the same output, lines and trace, with any patience and with the least.
+//! A trace that a run wrote must be judged legal.
 
+mod checked;
 mod texts;
 mod threaded;
 
 use crate::archive::{Archive, Part};
+use crate::programs::checked::said_of_trace;
 use crate::programs::texts::Texts;
 use crate::programs::threaded::{ThreadedRun, threaded_run};
 use crate::report::Report;
@@ -151,6 +154,10 @@ fn run<R: Threads + Wait + Sync>(
     let mut came = outcome_of(alloc, out, err, line.as_bytes(), files)?;
     if status > 1 {
         return Ok(came);
+    }
+    let said = said_of_trace(rt, alloc, words.as_slice(), files)?;
+    if said.as_slice() != b"legal\n".as_slice() {
+        came.put("verdict", said.as_slice())?;
     }
     if let Some(threaded) = patient {
         compare(&threaded, files, &mut came)?;

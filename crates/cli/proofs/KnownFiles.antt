@@ -1,11 +1,16 @@
 -- Files that are known by their names.
-use Rattle.std.proofs.Common.{◌≡◌, ◌≢◌, ◌∙◌, ◌+◌, ◌<◌, ◌≤◌, ℕ, sym, subst, ap, refl, arith, length, take, List, [], ◌∷◌, ◌++◌, Option, Some, None, is_none, true≢false, IsSomeAnd, Bor, slice_index_or}
+use Rattle.std.proofs.Common.{◌≡◌, ◌≢◌, ◌∙◌, ◌+◌, ◌<◌, ◌≤◌, ℕ, sym, subst, ap, refl, arith, length, take, drop, append_assoc, List, [], ◌∷◌, ◌++◌, Option, Some, None, is_none, true≢false, IsSomeAnd, Bor, slice_index_or}
 use Rattle.std.specs.List.{AllZip}
-use Rattle.std.proofs.lemmas.List.{length-take, map-append, take_all, take_more}
+use Rattle.std.proofs.lemmas.List.{length-take, map-append, take-append-drop, take_all, take_more}
 use Rattle.jasmin_text.specs.Grammar.{Spells}
 use Rattle.jasmin_text.specs.Lines.{lines_of}
 use Rattle.jasmin_text.specs.declared.class_text.ClassParts.{ClassParts}
 use Rattle.clap.specs.Walk.{texts}
+use Rattle.std.specs.Prelude.{Err}
+use Rattle.jasmin_reader.specs.File.{class_at}
+use Rattle.cli.specs.declared.fault.Fault.{Fault}
+use Rattle.cli.specs.declared.files.TheConstants.{MOST_BYTES}
+use Rattle.cli.specs.ReadRefusals.{AreRefused, IsReadRefusal, at_file, faulty, no_memory, too_large, unread}
 use Rattle.cli.specs.Files.{AreSpelled, FileHolds, Files, KeepsAllBut, SpellsClass}
 
 no_name : (name : List ℕ) → None ≢ Some name
@@ -54,6 +59,30 @@ large_file most (Some files) name bytes front long = go (files name) front
         let cut = length-take (most + 1) all in
         let more : most < length (take (most + 1) all) = subst (λ bs. most < length bs) is long in
         omega arith
+
+-- why a file isn't had stays so, while no file is written
+pub refused_before : (before after : Option Files) (file : List ℕ) (f : Fault) → KeepsAllBut None before after → IsReadRefusal after file f → IsReadRefusal before file f
+refused_before before after file _ kept (unread is) = unread is
+refused_before before after file _ kept (too_large large) = too_large (held_before before after file (λ all. MOST_BYTES < length all) kept large)
+refused_before before after file _ kept (faulty {f = g} is found) = faulty is (held_before before after file (λ all. class_at all ≡ Err g) kept found)
+refused_before before after file _ kept no_memory = no_memory
+
+-- the files before one, that one, and those after it
+split_at : (files : List (Bor (List ℕ))) (i : ℕ) (d : Bor (List ℕ)) → i < length files
+    → texts files ≡ texts (take i files) ++ (slice_index_or files i d).now ∷ texts (drop (i + 1) files)
+split_at files i d lt =
+    let more : take (i + 1) files ++ drop (i + 1) files ≡ files = take-append-drop (i + 1) files in
+    let all : (take i files ++ slice_index_or files i d ∷ []) ++ drop (i + 1) files ≡ files = subst (λ front. front ++ drop (i + 1) files ≡ files) (take_more files i d lt) more in
+    let named : texts ((take i files ++ slice_index_or files i d ∷ []) ++ drop (i + 1) files) ≡ texts files = ap texts all in
+    sym named ∙ (map-append (λ s. s.now) (take i files ++ slice_index_or files i d ∷ []) (drop (i + 1) files)
+    ∙ (ap (λ front. front ++ texts (drop (i + 1) files)) (map-append (λ s. s.now) (take i files) (slice_index_or files i d ∷ []))
+    ∙ append_assoc (texts (take i files)) ((slice_index_or files i d).now ∷ []) (texts (drop (i + 1) files))))
+
+-- a file isn't had, while those before it are
+pub refused_at : (before now : Option Files) (files : List (Bor (List ℕ))) (i : ℕ) (d : Bor (List ℕ)) (classes : List ClassParts) (f : Fault) → i < length files
+    → AreSpelled before (texts (take i files)) classes → KeepsAllBut None before now → IsReadRefusal now (slice_index_or files i d).now f → AreRefused before (texts files) f
+refused_at before now files i d classes f lt all kept refused =
+    at_file (texts (take i files)) (slice_index_or files i d).now (texts (drop (i + 1) files)) classes (split_at files i d lt) all (refused_before before now (slice_index_or files i d).now f kept refused)
 
 -- one more place
 all_zip_push : {A B : Type 0} (R : A → B → Type 0) (xs : List A) (ys : List B) (x : A) (y : B) → AllZip R xs ys → R x y → AllZip R (xs ++ x ∷ []) (ys ++ y ∷ [])

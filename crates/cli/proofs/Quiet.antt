@@ -5,7 +5,7 @@ use Rattle.std.specs.Io.KnownBytes.{Appends, Keeps}
 use Rattle.hierarchy.specs.LinkedProgram.{LinkedProgram}
 use Rattle.trace.specs.declared.report.ThreadOutcome.{ThreadOutcome}
 use Rattle.trace.specs.declared.report.ThreadOutcome.TheVariants.{Normal, Abrupt, Ended}
-use Rattle.cli.specs.CommandLine.{Request, run, needs, unfit}
+use Rattle.cli.specs.CommandLine.{Request, run, check, needs, unfit}
 use Rattle.cli.specs.Outcomes.{is_abrupt, outcomes_from}
 use Rattle.cli.specs.Serving.{IsServed, Surroundings}
 
@@ -27,5 +27,6 @@ nothing (Some xs) (Some ys) appended = appended ∙ append-nil xs
 
 pub quiet : (before after : Surroundings) (errors errors_after : Option (List ℕ)) (request : Request) → IsServed before after errors errors_after request 0 → Keeps errors errors_after
 quiet before after errors errors_after (run words) done = nothing errors errors_after (subst (Appends errors errors_after) (silent done.program 0 done.report.outcomes (none_by (list_any is_abrupt done.report.outcomes) done.ended)) done.told)
+quiet before after errors errors_after (check words) done = done.quiet
 quiet before after errors errors_after (needs files) done = done.1
 quiet before after errors errors_after unfit done = absurd done

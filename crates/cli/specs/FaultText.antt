@@ -5,8 +5,10 @@ use Rattle.hierarchy.specs.declared.fault.LinkFaultKind.{LinkFaultKind}
 use Rattle.hierarchy.specs.declared.fault.LinkFaultKind.TheVariants.{RepeatedName, UnknownSupertype, Cycle, SuperclassKind, InterfaceKind, ReservedName, RepeatedMember, TooMany, NoMemory}
 use Rattle.jasmin_reader.specs.declared.fault.ReadFault.{ReadFault}
 use Rattle.jasmin_words.specs.Fault.{number_of}
+use Rattle.trace_reader.specs.declared.fault.TraceFault.{TraceFault}
+use Rattle.trace_reader.specs.Faults.{number_of as trace_number_of}
 use Rattle.cli.specs.declared.fault.Fault.{Fault}
-use Rattle.cli.specs.declared.fault.Fault.TheVariants.{Files, Io, Jasmin, Link, Mains, Memory, Output, Patience, Steps, Threads, Words}
+use Rattle.cli.specs.declared.fault.Fault.TheVariants.{Files, Io, Jasmin, Link, Mains, Memory, Output, Patience, Steps, Threads, Trace, Words}
 
 -- the number in the code of a fault of linking
 abbrev pub link_number_of : LinkFaultKind → ℕ
@@ -24,6 +26,9 @@ link_number_of NoMemory = 9
 abbrev pub jasmin_line : List ℕ → ReadFault → List ℕ
 jasmin_line file f = file ++ codes ":" ++ decimal f.line ++ codes ": J" ++ decimal (number_of f.kind) ++ codes "\n"
 
+abbrev pub trace_line : List ℕ → TraceFault → List ℕ
+trace_line file f = file ++ codes ":" ++ decimal f.line ++ codes ": L" ++ decimal (trace_number_of f.kind) ++ codes "\n"
+
 -- link: <kind> <class>
 abbrev pub link_line : LinkFault → List ℕ
 link_line f = codes "link: H" ++ decimal (link_number_of f.kind) ++ codes " " ++ f.class ++ codes "\n"
@@ -34,6 +39,7 @@ fault_line Words = codes "cli: words\n"
 fault_line Files = codes "cli: files\n"
 fault_line (Io file) = codes "io: " ++ file.now ++ codes "\n"
 fault_line (Jasmin file f) = jasmin_line file.now f
+fault_line (Trace file f) = trace_line file.now f
 fault_line (Link f) = link_line f
 fault_line Steps = codes "cli: steps\n"
 fault_line Patience = codes "cli: patience\n"

@@ -4,6 +4,8 @@ use Rattle.std.specs.List.{AllZip}
 use Rattle.jasmin_text.specs.Grammar.{Spells}
 use Rattle.jasmin_text.specs.declared.class_text.ClassParts.{ClassParts}
 use Rattle.jasmin_text.specs.Lines.{lines_of}
+use Rattle.hierarchy.specs.FirstFault.{LinksTo}
+use Rattle.hierarchy.specs.LinkedProgram.{LinkedProgram}
 
 abbrev pub Files : Type 0
 Files = List ℕ → Option (List ℕ)
@@ -26,3 +28,9 @@ SpellsClass known name c = FileHolds known name (λ bytes. Spells (lines_of byte
 -- each file spells the class at its place
 abbrev pub AreSpelled : Option Files → List (List ℕ) → List ClassParts → Type 0
 AreSpelled known = AllZip (SpellsClass known)
+
+-- the program is linked from the classes that the files spell
+pub record IsLinkedFrom (known : Option Files) (files : List (List ℕ)) (program : LinkedProgram) : Type 0 where
+  pub texts : List ClassParts
+  pub spelled : AreSpelled known files texts
+  pub linked : LinksTo texts program

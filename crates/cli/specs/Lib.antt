@@ -8,3 +8,4 @@ pub mod Limits
 pub mod FaultText
 pub mod ReadRefusals
 pub mod Outcomes
+pub mod Checking

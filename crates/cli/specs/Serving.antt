@@ -1,5 +1,5 @@
 -- What the program does, where it is known what files hold and what was written to its output.
-use Rattle.std.specs.Prelude.{◌≡◌, ◌⊎◌, ℕ, List, [], Option, None, IfSome}
+use Rattle.std.specs.Prelude.{◌≡◌, ◌⊎◌, ℕ, Bool, List, [], Option, None, IfSome}
 use Rattle.std.specs.Io.KnownBytes.{Appends, Keeps}
 use Rattle.clap.specs.Words.{IsAmong, Text}
 use Rattle.clap.specs.declared.error.kind.ErrorKind.TheVariants.{DisplayHelp, DisplayVersion}
@@ -9,7 +9,11 @@ use Rattle.hierarchy.specs.LinkedProgram.{LinkedProgram}
 use Rattle.trace.specs.TraceText.{trace_of}
 use Rattle.trace.specs.declared.report.Limits.{Limits}
 use Rattle.trace.specs.declared.report.Report.{Report}
-use Rattle.cli.specs.CommandLine.{Request, RunWords, faults_in, needs, request_in, run, unfit}
+use Rattle.hierarchy.specs.declared.class.ClassId.{ClassId}
+use Rattle.init_core.specs.declared.event.Event.{Event}
+use Rattle.judge.specs.declared.verdict.Verdict.{Verdict}
+use Rattle.cli.specs.Checking.{IsJudged, TellsVerdict, status_by}
+use Rattle.cli.specs.CommandLine.{CheckWords, Request, RunWords, check, faults_in, needs, request_in, run, unfit}
 use Rattle.cli.specs.Files.{AreSpelled, FileHolds, Files, KeepsAllBut}
 use Rattle.cli.specs.Limits.{AreLimits}
 use Rattle.cli.specs.NeedsText.{needs_text}
@@ -23,12 +27,6 @@ pub record Surroundings : Type 0 where
 
 abbrev pub around : Option Files → Option (List ℕ) → Surroundings
 around files output = record { files = files; output = output }
-
--- the program is linked from the classes that the files spell
-pub record IsLinkedFrom (known : Option Files) (files : List Text) (program : LinkedProgram) : Type 0 where
-  pub texts : List ClassParts
-  pub spelled : AreSpelled known files texts
-  pub linked : LinksTo texts program
 
 -- the output of a run was written, and its trace where a file for it is named
 pub record HasWritten (before after : Surroundings) (trace : Option Text) (program : LinkedProgram) (report : Report) : Type 0 where
@@ -59,9 +57,29 @@ pub record HasToldNeeds (before after : Surroundings) (files : List Text) : Type
   pub linked : LinksTo texts program
   pub output : Appends before.output after.output (needs_text program)
 
+-- the verdict was written, and where it is to be explained further words
+abbrev pub HasToldVerdict : Option (List ℕ) → Option (List ℕ) → Verdict → Bool → Type 0
+HasToldVerdict before after v explains = (text : List ℕ) × TellsVerdict v explains text × Appends before after text
+
+-- the trace was judged against the classes that the files spell, and the verdict was written
+pub record IsToldVerdict (before after : Surroundings) (words : CheckWords) (verdict : Verdict) : Type 0 where
+  pub program : LinkedProgram
+  pub classes : List ClassId
+  pub events : List Event
+  pub judged : IsJudged before.files words.files words.mains words.trace program classes events verdict
+  pub told : HasToldVerdict before.output after.output verdict words.explains
+
+-- so it was, with nothing on standard error, and the status tells the verdict too
+pub record HasChecked (before after : Surroundings) (errors errors_after : Option (List ℕ)) (words : CheckWords) (status : ℕ) : Type 0 where
+  pub verdict : Verdict
+  pub written : IsToldVerdict before after words verdict
+  pub quiet : Keeps errors errors_after
+  pub ended : status ≡ status_by verdict
+
 -- what was asked for is done, with this exit status
 abbrev pub IsServed : Surroundings → Surroundings → Option (List ℕ) → Option (List ℕ) → Request → ℕ → Type 0
 IsServed before after errors errors_after (run words) status = HasRun before after errors errors_after words status
+IsServed before after errors errors_after (check words) status = HasChecked before after errors errors_after words status
 IsServed before after errors errors_after (needs files) status = (status ≡ 0) × Keeps errors errors_after × HasToldNeeds before after files
 IsServed before after errors errors_after unfit status = ⊥
 
@@ -78,5 +96,6 @@ pub record IsUntouched (before after : Surroundings) : Type 0 where
 -- the file that a trace is asked into
 abbrev pub trace_in : Request → Option Text
 trace_in (run words) = words.trace
+trace_in (check words) = None
 trace_in (needs files) = None
 trace_in unfit = None

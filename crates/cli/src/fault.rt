@@ -3,13 +3,14 @@
 ghost use Rattle.std.specs.Prelude.{◌≡◌, OnOk};
 ghost use Rattle.std.specs.Io.KnownBytes.{Appends};
 ghost use Rattle.cli.specs.declared.fault.Fault.TheVariants.{Memory};
-ghost use Rattle.cli.specs.FaultText.{fault_line, jasmin_line, link_line, link_number_of};
+ghost use Rattle.cli.specs.FaultText.{fault_line, jasmin_line, link_line, link_number_of, trace_line};
 ghost use Rattle.cli.specs.Status.{status_of};
 
 use hierarchy::{LinkFault, LinkFaultKind};
 use jasmin_reader::ReadFault;
 use std::alloc::{AllocError, AllocFailed};
 use std::io;
+use trace_reader::TraceFault;
 
 /// Why the program stops, once its command line has been read.
 #[derive(Debug, Drop)]
@@ -22,6 +23,8 @@ pub enum Fault<'a> {
     Io(&'a str),
     /// A file isn't in the Jasmin form that is read.
     Jasmin { file: &'a str, fault: ReadFault },
+    /// A file's text is no trace of the classes and their threads.
+    Trace { file: &'a str, fault: TraceFault },
     /// The classes can't be linked, for another reason than want of memory.
     Link(LinkFault),
     /// The steps are no decimal number from 1 to 100,000,000.
@@ -60,7 +63,7 @@ impl Fault<'_> {
         ensures { result ≡ status_of self.now }
     {
         match self {
-            Fault::Words | Fault::Files | Fault::Jasmin { .. } => 2,
+            Fault::Words | Fault::Files | Fault::Jasmin { .. } | Fault::Trace { .. } => 2,
             Fault::Steps | Fault::Patience => 2,
             Fault::Link(_) | Fault::Mains => 2,
             Fault::Io(_) | Fault::Threads | Fault::Memory | Fault::Output => 3,
@@ -74,6 +77,7 @@ impl Fault<'_> {
         match self {
             Fault::Io(name) => writeln!(err, "io: {name}"),
             Fault::Jasmin { file, fault } => tell_jasmin(file, fault, err),
+            Fault::Trace { file, fault } => tell_trace(file, fault, err),
             Fault::Link(fault) => tell_link(fault, err),
             Fault::Words => err.write_all(b"cli: words\n"),
             Fault::Files => err.write_all(b"cli: files\n"),
@@ -93,6 +97,14 @@ fn tell_jasmin<W: io::Write>(file: &str, fault: &ReadFault, err: &mut W) -> io::
     let line = fault.line;
     let number = fault.kind.number();
     writeln!(err, "{file}:{line}: J{number}")
+}
+
+fn tell_trace<W: io::Write>(file: &str, fault: &TraceFault, err: &mut W) -> io::Result<()>
+    ensures { OnOk result (Appends (W.contents err.old) (W.contents err.new) (trace_line file.now fault.now)) }
+{
+    let line = fault.line;
+    let number = fault.kind.number();
+    writeln!(err, "{file}:{line}: L{number}")
 }
 
 /// The number in the code of a fault of linking.

@@ -3,7 +3,7 @@
 ghost use Rattle.std.specs.Prelude.{◌≡◌, ◌≤◌, ℕ, List, Option, Some, None, length, vec_len, take, IfErr, IfOk, OnOk};
 ghost use Rattle.clap.specs.Walk.{texts as texts_of};
 ghost use Rattle.cli.specs.Files.{AreSpelled, FileHolds, KeepsAllBut, SpellsClass};
-ghost use Rattle.cli.specs.ReadRefusals.{IsReadRefusal};
+ghost use Rattle.cli.specs.ReadRefusals.{AreRefused, IsReadRefusal};
 ghost use Rattle.cli.specs.Status.{status_of};
 ghost use Rattle.cli.specs.declared.files.TheConstants.{MOST_BYTES};
 
@@ -83,6 +83,7 @@ pub(crate) fn read_texts<'a, N: Named>(
     files: &[&'a str],
 ) -> Result<Vec<ClassText>, Fault<'a>>
     ensures spelled { IfOk result (λ texts. AreSpelled (N.held named.old) (texts_of files.now) texts.items) }
+    ensures refused { IfErr result (AreRefused (N.held named.old) (texts_of files.now)) }
     ensures files { KeepsAllBut None (N.held named.old) (N.held named.new) }
 {
     if files.len() > MOST_FILES {
@@ -90,7 +91,11 @@ pub(crate) fn read_texts<'a, N: Named>(
     }
     let mut texts = Vec::new(alloc);
     for file in files {
-        texts.push(read_text(alloc, named, file)?)?;
+        let text = match read_text(alloc, named, file) {
+            Ok(text) => text,
+            Err(fault) => return Err(fault),
+        };
+        texts.push(text)?;
     }
     Ok(texts)
 }

@@ -5,6 +5,7 @@
 //! machine's files and streams, so that each of its runs is also a test over files in memory.
 #![tactic(auto)]
 
+pub mod checking;
 pub mod fault;
 pub mod files;
 pub mod limits;
@@ -14,10 +15,11 @@ pub mod running;
 pub mod serving;
 pub mod words;
 
+pub use checking::{Judged, check_named, status_of_verdict, write_judged};
 pub use fault::Fault;
 pub use files::{Named, NamedFault};
 pub use needed::write_needs;
 pub use outcomes::{status_of_outcomes, write_outcomes};
 pub use running::{ProgramRun, run_texts};
 pub use serving::serve;
-pub use words::{Asked, Run, parse};
+pub use words::{Asked, Check, Run, parse};

@@ -1,17 +1,21 @@
 //! From class texts to the run of their main classes.
 
-ghost use Rattle.std.specs.Prelude.{◌≡◌, ◌⊎◌, ◌<◌, ◌≤◌, ◌∷◌, [], IfErr, IfOk, IfSome, length, vec_len};
+ghost use Rattle.std.specs.Prelude.{◌≡◌, ◌⊎◌, ◌<◌, ◌≤◌, ◌∷◌, [], None, Some, IfErr, IfOk, IfSome, length, vec_len};
 ghost use Rattle.std.specs.Option.{option_map};
+ghost use Rattle.clap.specs.Walk.{texts as texts_of};
 ghost use Rattle.hierarchy.specs.FirstFault.{LinksTo};
 ghost use Rattle.init_core.specs.ProcedureWord.{IsOfFiles};
 ghost use Rattle.interpreter.specs.CodeRun.{code_bodies, interpreter_at_start};
 ghost use Rattle.interpreter.specs.SharedRun.{shared_bodies};
 ghost use Rattle.bodies.specs.Runs.{AreMains, IsRunOf};
-ghost use Rattle.cli.specs.declared.fault.Fault.TheVariants.{Memory, Threads};
+ghost use Rattle.cli.specs.declared.fault.Fault.TheVariants.{Mains, Memory, Threads};
 ghost use Rattle.cli.specs.CommandLine.{text_of};
+ghost use Rattle.cli.specs.Files.{IsLinkedFrom, KeepsAllBut};
+ghost use Rattle.cli.specs.ReadRefusals.{AreUnlinked};
 ghost use Rattle.cli.specs.Running.{IsLinkRefusal, IsRefusal, IsRunOfNamed, IsRunRefusal, bodies_of, main_named as class_of_name, mains_in, mains_named as classes_of_names, starts_below, starts_of};
 
 use crate::fault::Fault;
+use crate::files::{Named, read_texts};
 use guest_threads::{NoGate, RunFault, run_threads};
 use hierarchy::{ClassId, LinkFaultKind, Program, link};
 use interpreter::{Interpreter, SharedInterpreter, SharedObjects};
@@ -23,7 +27,7 @@ use std::thread::Threads;
 use trace::{Limits, Report};
 
 /// The program of all class texts. Want of memory is told in its own way.
-pub(crate) fn link_texts<'a>(alloc: Global, texts: Vec<ClassText>) -> Result<Program, Fault<'a>>
+fn link_texts<'a>(alloc: Global, texts: Vec<ClassText>) -> Result<Program, Fault<'a>>
     ensures linked { IfOk result (LinksTo texts.items) }
     ensures refused { IfErr result (IsLinkRefusal texts.items) }
 {
@@ -34,6 +38,23 @@ pub(crate) fn link_texts<'a>(alloc: Global, texts: Vec<ClassText>) -> Result<Pro
             _ => Err(Fault::Link(fault)),
         },
     }
+}
+
+/// Reads and links the classes of the files.
+pub(crate) fn link_files<'a, N: Named>(
+    alloc: Global,
+    files: &[&'a str],
+    named: &mut N,
+) -> Result<Program, Fault<'a>>
+    ensures linked { IfOk result (IsLinkedFrom (N.held named.old) (texts_of files.now)) }
+    ensures refused { IfErr result (AreUnlinked (N.held named.old) (texts_of files.now)) }
+    ensures files { KeepsAllBut None (N.held named.old) (N.held named.new) }
+{
+    let texts = match read_texts(alloc, named, files) {
+        Ok(texts) => texts,
+        Err(fault) => return Err(fault),
+    };
+    link_texts(alloc, texts)
 }
 
 /// The class of the files of that name.
@@ -84,6 +105,27 @@ fn mains_named(
         return Ok(None);
     }
     Ok(Some(mains))
+}
+
+/// The main classes that the text of `--mains` names.
+pub(crate) fn mains_of<'a>(
+    alloc: Global,
+    program: &Program,
+    mains: Option<&str>,
+) -> Result<Vec<ClassId>, Fault<'a>>
+    ensures named { IfOk result (λ classes. mains_in program.now (text_of mains.entry) ≡ Some classes.items) }
+    ensures mains { IfOk result (λ classes. AreMains program.now classes.items) }
+    ensures some { IfOk result (λ classes. 1 ≤ vec_len classes) }
+    ensures few { IfOk result (λ classes. vec_len classes ≤ 16) }
+    ensures refused { IfErr result (λ fault. (fault ≡ Memory) ⊎ ((fault ≡ Mains) × (mains_in program.now (text_of mains.entry) ≡ None))) }
+{
+    let Some(names) = mains else {
+        return Err(Fault::Mains);
+    };
+    match mains_named(alloc, program, names.as_bytes())? {
+        Some(classes) => Ok(classes),
+        None => Err(Fault::Mains),
+    }
 }
 
 /// Runs one main class on the calling thread.
@@ -177,13 +219,10 @@ fn run_program<'a, R: Threads + Wait + Sync>(
     ensures ran { IfOk result (IsRunOfNamed (text_of mains.entry) limits program.now) }
     ensures refused { IfErr result (IsRunRefusal program.now (text_of mains.entry)) }
 {
-    let Some(names) = mains else {
-        return Err(Fault::Mains);
-    };
-    let Some(mains) = mains_named(alloc, program, names.as_bytes())? else {
-        return Err(Fault::Mains);
-    };
-    run_mains(rt, alloc, program, &mains, limits)
+    match mains_of(alloc, program, mains) {
+        Ok(mains) => run_mains(rt, alloc, program, &mains, limits),
+        Err(fault) => Err(fault),
+    }
 }
 
 /// A program and what its run was.

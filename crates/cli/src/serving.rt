@@ -6,24 +6,26 @@ ghost use Rattle.clap.specs.Walk.{texts};
 ghost use Rattle.clap.specs.Words.{kind_of};
 ghost use Rattle.clap.specs.declared.error.kind.ErrorKind.TheVariants.{DisplayHelp, DisplayVersion};
 ghost use Rattle.trace.specs.TraceText.{trace_of};
-ghost use Rattle.cli.specs.CommandLine.{request_in, request_of, run_words_of, text_of};
-ghost use Rattle.cli.specs.Files.{FileHolds, KeepsAllBut};
+ghost use Rattle.cli.specs.CommandLine.{check_words_of, request_in, request_of, run_words_of, text_of};
+ghost use Rattle.cli.specs.Files.{FileHolds, IsLinkedFrom, KeepsAllBut};
 ghost use Rattle.cli.specs.Limits.{AreLimits};
 ghost use Rattle.cli.specs.NeedsText.{needs_text};
 ghost use Rattle.cli.specs.Outcomes.{outcomes_text, status_after};
 ghost use Rattle.cli.specs.Running.{IsRunOfNamed};
-ghost use Rattle.cli.specs.Serving.{HasRun, HasToldNeeds, HasWritten, IsDone, IsLinkedFrom, IsServed, IsUntouched, around, trace_in};
+ghost use Rattle.cli.specs.Serving.{HasRun, HasToldNeeds, HasToldVerdict, HasWritten, IsDone, IsServed, IsToldVerdict, IsUntouched, around, trace_in};
 ghost use Rattle.cli.specs.Status.{IsStatus, status_of};
 
+use crate::checking::{Judged, check_named, status_of_verdict, write_judged};
 use crate::fault::Fault;
 use crate::files::{Named, read_texts, write_named};
 use crate::limits::limits_of;
 use crate::needed::write_needs;
 use crate::outcomes::{status_of_outcomes, write_outcomes};
-use crate::running::{ProgramRun, link_texts, run_texts};
-use crate::words::{Asked, Run, parse};
+use crate::running::{ProgramRun, link_files, run_texts};
+use crate::words::{Asked, Check, Run, parse};
 use clap::error::ErrorKind;
 use hierarchy::Program;
+use judge::Verdict;
 use std::alloc::Global;
 use std::io;
 use std::sync::Wait;
@@ -176,20 +178,6 @@ fn run<'a, R: Threads + Wait + Sync, N: Named, O: io::Write, E: io::Write>(
     }
 }
 
-/// Reads and links the classes of the files.
-fn link_files<'a, N: Named>(
-    alloc: Global,
-    files: &[&'a str],
-    named: &mut N,
-) -> Result<Program, Fault<'a>>
-    ensures files { KeepsAllBut None (N.held named.old) (N.held named.new) }
-    ensures linked { IfOk result (IsLinkedFrom (N.held named.old) (texts files.now)) }
-{
-    let texts = read_texts(alloc, named, files)?;
-    let program = link_texts(alloc, texts)?;
-    Ok(program)
-}
-
 /// Writes what each class needs.
 fn write_needed<'a, O: io::Write>(
     alloc: Global,
@@ -221,6 +209,39 @@ fn tell_needs<'a, N: Named, O: io::Write>(
     write_needed(alloc, &program, out)
 }
 
+/// Writes the verdict.
+fn write_verdict<'a, O: io::Write>(
+    alloc: Global,
+    judged: &Judged,
+    explains: bool,
+    out: &mut O,
+) -> Result<(), Fault<'a>>
+    ensures told { OnOk result (HasToldVerdict (O.contents out.old) (O.contents out.new) judged.now.verdict explains) }
+    ensures refused { IfErr result (λ f. status_of f ≡ 3) }
+{
+    let line = write_judged(alloc, judged, explains)?;
+    write_output(out, &line)
+}
+
+/// Judges the trace that the words name, and writes the verdict.
+fn tell_judged<'a, N: Named, O: io::Write>(
+    alloc: Global,
+    words: &Check<'a>,
+    named: &mut N,
+    out: &mut O,
+) -> Result<Verdict, Fault<'a>>
+    ensures files { KeepsAllBut None (N.held named.old) (N.held named.new) }
+    ensures judged { IfOk result (IsToldVerdict (around (N.held named.old) (O.contents out.old)) (around (N.held named.new) (O.contents out.new)) (check_words_of words.now)) }
+    ensures untouched { IfErr result (λ f. status_of f ≡ 2 → IsUntouched (around (N.held named.old) (O.contents out.old)) (around (N.held named.new) (O.contents out.new))) }
+{
+    let judged = match check_named(alloc, named, &words.files, words.mains, words.trace) {
+        Ok(judged) => judged,
+        Err(fault) => return Err(fault),
+    };
+    write_verdict(alloc, &judged, words.explains, out)?;
+    Ok(judged.verdict)
+}
+
 /// Does what the words ask for, and answers the exit status.
 fn answer<'a, R: Threads + Wait + Sync, N: Named, O: io::Write, E: io::Write>(
     rt: &R,
@@ -237,6 +258,10 @@ fn answer<'a, R: Threads + Wait + Sync, N: Named, O: io::Write, E: io::Write>(
 {
     match asked {
         Asked::Run(words) => run(rt, alloc, words, named, out, err),
+        Asked::Check(words) => {
+            let verdict = tell_judged(alloc, words, named, out)?;
+            Ok(status_of_verdict(verdict))
+        }
         Asked::Needs(files) => {
             tell_needs(alloc, files, named, out)?;
             Ok(0)
@@ -301,8 +326,9 @@ fn answer_or_tell<R: Threads + Wait + Sync, N: Named, O: io::Write, E: io::Write
 ///
 /// Files are read and written by name through `named`, the output goes to `out`, and to `err` what went wrong, in one line
 /// or in `clap`'s words, and how threads ended that didn't end normally, a line each. The status is 0 where all
-/// threads ended normally, 1 where one didn't, 2 where the words, the files or the classes are at fault, and 3 where memory, a
-/// thread, a file or the output was refused; nothing further is written then. It may wait, for ever where `--patience` is 0.
+/// threads ended normally, or the trace is legal, 1 where one didn't, or the trace is illegal, 2 where the words, the files or the
+/// classes are at fault, and 3 where memory, a thread, a file or the output was refused; nothing further is written then. It may
+/// wait, for ever where `--patience` is 0.
 ///
 /// At status 0 and 1 what the words ask for is done, or, at 0, they ask for help or the version; at 0 nothing is written to `err`.
 /// At status 2 no file is written, and nothing to `out`. At every status all files but the trace are as they were. What files hold is said where that is known

@@ -2,9 +2,9 @@
 
 ghost use Rattle.std.specs.Prelude.{◌≡◌, IfOk, false};
 ghost use Rattle.clap.specs.Walk.{texts};
-ghost use Rattle.clap.specs.Words.{FailsBy, app_of, found_of, rule_of, subcommand_rows_of, with_rule, with_subcommand};
+ghost use Rattle.clap.specs.Words.{FailsBy, app_of, first_value, found_of, rule_of, subcommand_rows_of, with_rule, with_subcommand};
 ghost use Rattle.clap.specs.declared.builder.command.Command.TheViews.{out-Command as fields_of};
-ghost use Rattle.cli.specs.CommandLine.{bare_line, command_line, faults_in, file_words, files_found, option_named, request_found, request_in, request_of, rows_in, subcommand_named, with_limits as with_limit_options};
+ghost use Rattle.cli.specs.CommandLine.{bare_line, check_found, command_line, faults_in, file_words, files_found, flag_named, is_set, limits_found, mains_or_trace_found, option_named, request_found, request_in, request_of, rows_in, run_found, subcommand_named, with_limits as with_limit_options, with_trace as with_trace_options};
 
 use clap::{Arg, ArgAction, ArgMatches, Command, Error};
 use std::alloc::{AllocError, Global};
@@ -12,7 +12,7 @@ use std::alloc::{AllocError, Global};
 /// What `jinit run` asks for.
 #[derive(Debug, Drop)]
 pub struct Run<'a> {
-    /// The text of `--mains`: the main classes, parted by commas.
+    /// The text of `--mains`: the main classes, separated by commas.
     pub mains: Option<&'a str>,
     /// The text of `--trace`: the file that the trace is written to.
     pub trace: Option<&'a str>,
@@ -24,14 +24,29 @@ pub struct Run<'a> {
     pub files: Vec<&'a str>,
 }
 
+/// What `jinit check` asks for.
+#[derive(Debug, Drop)]
+pub struct Check<'a> {
+    /// The text of `--mains`: the main classes, separated by commas.
+    pub mains: Option<&'a str>,
+    /// The text of `--trace`: the file whose trace is judged.
+    pub trace: &'a str,
+    /// Whether `--explain` is given: what is illegal is told in words too.
+    pub explains: bool,
+    /// The Jasmin files, in order.
+    pub files: Vec<&'a str>,
+}
+
 /// What the words ask for.
 #[derive(Debug, Drop)]
 pub enum Asked<'a> {
     /// `jinit run`.
     Run(Run<'a>),
+    /// `jinit check`.
+    Check(Check<'a>),
     /// `jinit needs`, with the Jasmin files in order.
     Needs(Vec<&'a str>),
-    /// Nothing that can be done: an option of one subcommand stands with another, which doesn't take it.
+    /// Nothing that can be done: an option of one subcommand stands with another, which doesn't take it, or `check` without a trace.
     Unfit,
 }
 
@@ -51,6 +66,19 @@ fn option<'a>(
         .long(name)
         .value_name(value)
         .help(help)
+        .hide(is_hidden)
+}
+
+/// An option without a value.
+#[tactic(auto, unfolding(crate::specs::CommandLine::flag_named))]
+fn flag<'a>(alloc: Global, name: &'a str, help: &'a str, is_hidden: bool) -> Arg<'a>
+    ensures rule { rule_of result ≡ flag_named name.entry.now }
+    ensures local { result.global ≡ false }
+{
+    Arg::new(alloc, name)
+        .long(name)
+        .help(help)
+        .action(ArgAction::SetTrue)
         .hide(is_hidden)
 }
 
@@ -93,24 +121,50 @@ fn with_limits<'a>(
     with_argument(command, patience)
 }
 
-/// A subcommand. It knows the options of the others too, but shows only those that it takes.
+/// The command with the options of main classes and their trace, and of what is told of a trace.
+#[tactic(auto, unfolding(crate::specs::CommandLine::with_trace))]
+fn with_trace<'a>(
+    alloc: Global,
+    command: Command<'a>,
+    trace_help: Option<&'a str>,
+    explains: bool,
+) -> Result<Command<'a>, AllocError>
+    ensures rules { IfOk result (λ c. app_of c ≡ with_trace_options (app_of command.entry)) }
+    ensures local { IfOk result (λ c. (fields_of c).has_globals ≡ (fields_of command.entry).has_globals) }
+{
+    let is_hidden = trace_help.is_none();
+    let help = "The main classes, as their files name them, 1 to 16: each has a thread";
+    let mains = option(alloc, "mains", "CLASS,..", help, is_hidden);
+    let command = with_argument(command, mains)?;
+    let trace = option(alloc, "trace", "FILE", trace_help.unwrap_or(""), is_hidden);
+    let command = with_argument(command, trace)?;
+    let help = "Says in words what is illegal, and what could have been done";
+    with_argument(command, flag(alloc, "explain", help, !explains))
+}
+
+/// What a subcommand shows of the options, all of which it knows.
+#[derive(Drop)]
+struct Shown<'a> {
+    /// What the trace is for; `--mains` and `--trace` are shown then.
+    trace: Option<&'a str>,
+    explain: bool,
+    limits: bool,
+}
+
+/// A subcommand.
 #[tactic(auto, unfolding(crate::specs::CommandLine::subcommand_named))]
 fn subcommand<'a>(
     alloc: Global,
     name: &'a str,
     about: &'a str,
-    takes_options: bool,
+    shown: Shown<'a>,
 ) -> Result<Command<'a>, AllocError>
     ensures rules { IfOk result (λ c. app_of c ≡ subcommand_named name.entry.now) }
     ensures local { IfOk result (λ c. (fields_of c).has_globals ≡ false) }
 {
-    let help = "The main classes, as their files name them, 1 to 16: each has a thread";
-    let mains = option(alloc, "mains", "CLASS,..", help, !takes_options);
-    let command = with_argument(Command::new(alloc, name).about(about), mains)?;
-    let help = "Writes every initialization step to FILE";
-    let trace = option(alloc, "trace", "FILE", help, !takes_options);
-    let command = with_argument(command, trace)?;
-    let command = with_limits(alloc, command, !takes_options)?;
+    let command = Command::new(alloc, name).about(about);
+    let command = with_trace(alloc, command, shown.trace, shown.explain)?;
+    let command = with_limits(alloc, command, !shown.limits)?;
     with_argument(command, files_argument(alloc))
 }
 
@@ -142,10 +196,28 @@ fn command<'a>(alloc: Global) -> Result<Command<'a>, AllocError>
     ensures { IfOk result (λ c. app_of c ≡ command_line) }
 {
     let about = "Initializes each main class on a thread of its own, with all that it needs";
-    let run = subcommand(alloc, "run", about, true)?;
+    let shown = Shown {
+        trace: Some("Writes every initialization step to FILE"),
+        explain: false,
+        limits: true,
+    };
+    let run = subcommand(alloc, "run", about, shown)?;
     let command = with_command(bare_command(alloc), run)?;
+    let about = "Judges whether a trace is a legal interleaving of the main classes' threads";
+    let shown = Shown {
+        trace: Some("The trace to judge"),
+        explain: true,
+        limits: false,
+    };
+    let check = subcommand(alloc, "check", about, shown)?;
+    let command = with_command(command, check)?;
     let about = "Writes for each class what is initialized before its own initializer runs";
-    let needs = subcommand(alloc, "needs", about, false)?;
+    let shown = Shown {
+        trace: None,
+        explain: false,
+        limits: false,
+    };
+    let needs = subcommand(alloc, "needs", about, shown)?;
     with_command(command, needs)
 }
 
@@ -158,6 +230,58 @@ fn files_of<'a>(alloc: Global, matches: &ArgMatches<'a>) -> Result<Vec<&'a str>,
     }
 }
 
+/// Whether an option without a value is given.
+fn is_given(matches: &ArgMatches<'_>, name: &str) -> bool
+    ensures { result ≡ is_set (first_value (found_of matches.now) name.now) }
+{
+    match matches.get_str(name) {
+        Some(text) => text == "true",
+        None => false,
+    }
+}
+
+/// What is asked for of `check`.
+fn check_of<'a>(alloc: Global, matches: &ArgMatches<'a>) -> Result<Asked<'a>, AllocError>
+    ensures { IfOk result (λ asked. request_of asked ≡ check_found (found_of matches.now)) }
+{
+    let Some(trace) = matches.get_str("trace") else {
+        return Ok(Asked::Unfit);
+    };
+    Ok(Asked::Check(Check {
+        mains: matches.get_str("mains"),
+        trace,
+        explains: is_given(matches, "explain"),
+        files: files_of(alloc, matches)?,
+    }))
+}
+
+/// What is asked for of `run`.
+fn run_of<'a>(alloc: Global, matches: &ArgMatches<'a>) -> Result<Asked<'a>, AllocError>
+    ensures { IfOk result (λ asked. request_of asked ≡ run_found (found_of matches.now)) }
+{
+    Ok(Asked::Run(Run {
+        mains: matches.get_str("mains"),
+        trace: matches.get_str("trace"),
+        steps: matches.get_str("steps"),
+        patience: matches.get_str("patience"),
+        files: files_of(alloc, matches)?,
+    }))
+}
+
+/// Whether an option is given that says how far a thread may go.
+fn has_limits(matches: &ArgMatches<'_>) -> bool
+    ensures { result ≡ limits_found (found_of matches.now) }
+{
+    matches.get_str("steps").is_some() || matches.get_str("patience").is_some()
+}
+
+/// Whether an option is given that says what is run, or which trace is judged.
+fn has_mains_or_trace(matches: &ArgMatches<'_>) -> bool
+    ensures { result ≡ mains_or_trace_found (found_of matches.now) }
+{
+    matches.get_str("mains").is_some() || matches.get_str("trace").is_some()
+}
+
 /// What is asked for of the subcommand of that name, with these options and files.
 fn asked_of<'a>(
     alloc: Global,
@@ -166,23 +290,16 @@ fn asked_of<'a>(
 ) -> Result<Asked<'a>, AllocError>
     ensures { IfOk result (λ asked. request_of asked ≡ request_found name.now (found_of matches.now)) }
 {
-    let mains = matches.get_str("mains");
-    let trace = matches.get_str("trace");
-    let steps = matches.get_str("steps");
-    let patience = matches.get_str("patience");
-    let files = files_of(alloc, matches)?;
-    if name == "run" {
-        return Ok(Asked::Run(Run {
-            mains,
-            trace,
-            steps,
-            patience,
-            files,
-        }));
+    let explains = is_given(matches, "explain");
+    let limits = has_limits(matches);
+    if name == "run" && !explains {
+        return run_of(alloc, matches);
     }
-    let has_limits = steps.is_some() || patience.is_some();
-    if name == "needs" && mains.is_none() && trace.is_none() && !has_limits {
-        return Ok(Asked::Needs(files));
+    if name == "check" && !limits {
+        return check_of(alloc, matches);
+    }
+    if name == "needs" && !explains && !limits && !has_mains_or_trace(matches) {
+        return Ok(Asked::Needs(files_of(alloc, matches)?));
     }
     Ok(Asked::Unfit)
 }
@@ -197,8 +314,9 @@ fn matches_of<'a>(alloc: Global, words: &'a [&'a str]) -> Result<ArgMatches<'a>,
 
 /// What the words ask for; the first word is the program's name.
 ///
-/// Subcommand, options and files are those that `clap` finds in the words: `run` and `needs` with any number of files, and
-/// with the options `--mains`, `--trace`, `--steps` and `--patience`, of which `needs` takes none.
+/// Subcommand, options and files are those that `clap` finds in the words: `run`, `check` and `needs` with any number of files, and
+/// with the options `--mains`, `--trace`, `--explain`, `--steps` and `--patience`. Of these `run` takes all but `--explain`, `check`
+/// all but the last two, and `--trace` always, and `needs` none.
 ///
 /// # Errors
 ///

@@ -8,8 +8,8 @@ use std::io;
 use std::sync::Wait;
 use std::thread::Threads;
 
-/// Files that each hold a class Solo, but for `None.j`, which isn't there. Memory is refused for reading `starved.j` and
-/// for writing `starved`, and `locked` can't be written.
+/// Files that each hold a class Solo, but for `None.j`, which isn't there, and `empty`. Memory is refused for reading `starved.j`
+/// and for writing `starved`, and `locked` can't be written.
 #[derive(Drop)]
 struct RefusingFiles {
     is_written: bool,
@@ -23,7 +23,11 @@ impl Named for RefusingFiles {
         if name == "starved.j" {
             return Err(NamedFault::Memory);
         }
-        let text = b".class Solo".as_slice();
+        let text = if name == "empty" {
+            b"".as_slice()
+        } else {
+            b".class Solo".as_slice()
+        };
         match Vec::from_slice(alloc, &text[..text.len().min(most)]) {
             Ok(bytes) => Ok(bytes),
             Err(_) => Err(NamedFault::Memory),
@@ -70,7 +74,19 @@ fn is_refused<R: Threads + Wait + Sync, O: io::Write>(
     status == 3 && err.as_slice() == line && !files.is_written
 }
 
-const BY_FILES: [(&[&str], &[u8]); 4] = [
+const BY_FILES: [(&[&str], &[u8]); 5] = [
+    (
+        &[
+            "jinit",
+            "check",
+            "--mains",
+            "Solo",
+            "--trace",
+            "starved.j",
+            "Solo.j",
+        ],
+        b"memory\n",
+    ),
     (
         &["jinit", "run", "--mains", "Solo", "starved.j", "None.j"],
         b"memory\n",
@@ -102,7 +118,10 @@ fn refused_by_files(rt: HostRuntime) {
     }
 }
 
-const WITH_OUTPUT: [&[&str]; 5] = [
+const WITH_OUTPUT: [&[&str]; 6] = [
+    &[
+        "jinit", "check", "--mains", "Solo", "--trace", "empty", "Solo.j",
+    ],
     &[
         "jinit", "run", "--mains", "Solo", "--trace", "solo", "Solo.j",
     ],

@@ -36,6 +36,17 @@ fn limits_are_parsed(rt: HostRuntime) -> Result<(), Fail> {
 }
 
 #[test]
+fn a_trace_to_check_is_parsed(rt: HostRuntime) -> Result<(), Fail> {
+    let words = ["jinit", "check", "--trace", "made", "a.j", "--mains=A,B"];
+    let Ok(Asked::Check(check)) = parse(rt.alloc(), &words) else {
+        return Err(Fail::from("nothing to check"));
+    };
+    assert!(rt; check.mains == Some("A,B") && check.trace == "made");
+    assert!(rt; check.files.as_slice() == ["a.j"].as_slice());
+    Ok(())
+}
+
+#[test]
 fn words_without_options_are_parsed(rt: HostRuntime) -> Result<(), Fail> {
     let Ok(Asked::Needs(files)) = parse(rt.alloc(), &["jinit", "needs", "a.j", "a.j"]) else {
         return Err(Fail::from("nothing about needs"));

@@ -11,14 +11,11 @@ ended_by : {p : LinkedProgram} {text : Option (List ℕ)} {classes : List ClassI
 ended_by named f (inl is) = subst (IsRunRefusal _ _) (sym is) no_memory
 ended_by named f (inr is) = subst (IsRunRefusal _ _) (sym is) (no_thread named)
 
-pub returns-in_default-clause-refused : goal.returns-in_default-clause-refused
-returns-in_default-clause-refused g c = search (rules, unnamed)
+pub returns-in-Ok-clause-refused : goal.returns-in-Ok-clause-refused
+returns-in-Ok-clause-refused g c = IfErr-weaker c.run_mains.result _ _ (ended_by {classes = c.in-Ok.mains.items} c.in-Ok.ensures.named) c.run_mains.ensures.refused
 
-pub returns-in_err-mains-clause-refused : goal.returns-in_err-mains-clause-refused
-returns-in_err-mains-clause-refused g c = search (rules, no_memory)
-
-pub returns-in_default-2-clause-refused : goal.returns-in_default-2-clause-refused
-returns-in_default-2-clause-refused g c = search (rules, unnamed)
-
-pub returns-clause-refused : goal.returns-clause-refused
-returns-clause-refused g c = IfErr-weaker c.run_mains.result _ _ (ended_by {classes = c.in-Some-2.mains.items} (search rules)) c.run_mains.ensures.refused
+pub returns-in-Err-clause-refused : goal.returns-in-Err-clause-refused
+returns-in-Err-clause-refused g c = elim c.in-Err.ensures.refused [
+  | inl is ↦ subst (IsRunRefusal _ _) (sym is) no_memory
+  | inr is ↦ subst (IsRunRefusal _ _) (sym is.0) (unnamed is.1)
+]

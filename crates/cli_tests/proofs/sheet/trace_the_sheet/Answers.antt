@@ -12,7 +12,7 @@ use Rattle.hierarchy.specs.LinkedProgram.{LinkedProgram}
 use Rattle.trace.specs.TraceText.{trace_of}
 use Rattle.trace.specs.declared.report.Limits.{Limits}
 use Rattle.trace.specs.declared.report.Report.{Report}
-use Rattle.cli.specs.CommandLine.{RunWords, bare_line, command_line, faults_in, file_words, option_named, request_in, rows_in, run, subcommand_named, with_limits}
+use Rattle.cli.specs.CommandLine.{RunWords, bare_line, command_line, faults_in, file_words, flag_named, option_named, request_in, rows_in, run, subcommand_named, with_limits, with_trace}
 use Rattle.cli.specs.Files.{AreSpelled, Files}
 use Rattle.cli.specs.Limits.{AreLimits}
 use Rattle.cli.specs.Running.{IsRunOfNamed}
@@ -26,11 +26,11 @@ abbrev run_words : RunWords
 run_words = record { mains = Some (codes "Solo"); trace = Some (codes "sheet"); steps = None; patience = None; files = codes "sheet" ∷ [] }
 
 asked : request_in words ≡ run run_words
-unfolding clap_on_literals rows_in faults_in command_line bare_line subcommand_named with_limits option_named file_words
+unfolding clap_on_literals rows_in faults_in command_line bare_line subcommand_named with_trace with_limits option_named flag_named file_words
 asked = refl
 
 no_fault : faults_in words ≡ []
-unfolding clap_on_literals rows_in faults_in command_line bare_line subcommand_named with_limits option_named file_words
+unfolding clap_on_literals rows_in faults_in command_line bare_line subcommand_named with_trace with_limits option_named flag_named file_words
 no_fault = refl
 
 run_done : (before after : Surroundings) (errors errors_after : Option (List ℕ)) (status : ℕ) (ws : List Text) → ws ≡ words → IsDone before after errors errors_after ws status → HasRun before after errors errors_after run_words status

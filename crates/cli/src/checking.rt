@@ -1,0 +1,197 @@
+//! From files by name to the verdict on a trace.
+
+ghost use Rattle.std.specs.Prelude.{◌≡◌, ◌≤◌, ◌++◌, None, IfErr, IfOk, OnOk, length};
+ghost use Rattle.clap.specs.Walk.{texts};
+ghost use Rattle.judge.specs.Verdicts.{IsVerdict};
+ghost use Rattle.cli.specs.Checking.{IsCheckRefusal, IsJudgeRefusal, IsJudged, IsJudgedOf, IsTraceRefusal, TellsVerdict, TraceHolds, rule_text, status_by, verdict_line};
+ghost use Rattle.cli.specs.CommandLine.{text_of};
+ghost use Rattle.cli.specs.Files.{KeepsAllBut};
+
+use crate::fault::Fault;
+use crate::files::{Named, NamedFault};
+use crate::running::{link_files, mains_of};
+use hierarchy::{ClassId, Program};
+use init_core::Event;
+use jasmin_words::integer::push_decimal;
+use judge::{Rule, Verdict, check, explain};
+use std::alloc::{AllocError, Global};
+use trace_reader::{MOST_BYTES, TraceFaultKind, read_trace};
+
+/// A trace of a program, and what it was judged to be.
+#[derive(Drop)]
+pub struct Judged {
+    /// The classes of the files, linked.
+    pub program: Program,
+    /// The main classes, one a thread.
+    pub mains: Vec<ClassId>,
+    /// The events of the trace.
+    pub events: Vec<Event>,
+    /// Whether they are a legal interleaving.
+    pub verdict: Verdict,
+}
+
+/// The events of the trace in a file, of so many threads.
+fn read_events<'a, N: Named>(
+    alloc: Global,
+    named: &mut N,
+    program: &Program,
+    threads: usize,
+    file: &'a str,
+) -> Result<Vec<Event>, Fault<'a>>
+    requires { threads ≤ 16 }
+    ensures traced { IfOk result (λ events. TraceHolds (N.held named.old) file.now program.now threads events.items) }
+    ensures refused { IfErr result (IsTraceRefusal (N.held named.old) file.now program.now threads) }
+    ensures files { KeepsAllBut None (N.held named.old) (N.held named.new) }
+{
+    let bytes = match named.read(alloc, file, MOST_BYTES + 1) {
+        Ok(bytes) => bytes,
+        Err(NamedFault::Io) => return Err(Fault::Io(file)),
+        Err(NamedFault::Memory) => return Err(Fault::Memory),
+    };
+    match read_trace(alloc, program, threads, &bytes) {
+        Ok(events) => Ok(events),
+        Err(fault) => match fault.kind {
+            TraceFaultKind::OutOfMemory => Err(Fault::Memory),
+            _ => Err(Fault::Trace { file, fault }),
+        },
+    }
+}
+
+/// Judges the trace in a file, of threads of these main classes.
+fn judge_events<'a, N: Named>(
+    alloc: Global,
+    named: &mut N,
+    program: &Program,
+    mains: &[ClassId],
+    file: &'a str,
+) -> Result<(Vec<Event>, Verdict), Fault<'a>>
+    requires { length mains.now ≤ 16 }
+    ensures traced { IfOk result (λ r. TraceHolds (N.held named.old) file.now program.now (length mains.now) r.0.items) }
+    ensures judged { IfOk result (λ r. IsVerdict program.now mains.now r.0.items r.1) }
+    ensures refused { IfErr result (IsTraceRefusal (N.held named.old) file.now program.now (length mains.now)) }
+    ensures files { KeepsAllBut None (N.held named.old) (N.held named.new) }
+{
+    let events = match read_events(alloc, named, program, mains.len(), file) {
+        Ok(events) => events,
+        Err(fault) => return Err(fault),
+    };
+    let verdict = check(alloc, program, mains, &events)?;
+    Ok((events, verdict))
+}
+
+/// Judges the trace in a file against a program, with a thread for each class that the text of `--mains` names.
+fn judge_trace<'a, N: Named>(
+    alloc: Global,
+    named: &mut N,
+    program: Program,
+    mains: Option<&str>,
+    file: &'a str,
+) -> Result<Judged, Fault<'a>>
+    ensures program { IfOk result (λ j. j.program ≡ program) }
+    ensures judged { IfOk result (λ j. IsJudgedOf (N.held named.old) program (text_of mains.entry) file.now j.mains.items j.events.items j.verdict) }
+    ensures refused { IfErr result (IsJudgeRefusal (N.held named.old) program (text_of mains.entry) file.now) }
+    ensures files { KeepsAllBut None (N.held named.old) (N.held named.new) }
+{
+    let mains = match mains_of(alloc, &program, mains) {
+        Ok(mains) => mains,
+        Err(fault) => return Err(fault),
+    };
+    match judge_events(alloc, named, &program, &mains, file) {
+        Ok((events, verdict)) => Ok(Judged {
+            program,
+            mains,
+            events,
+            verdict,
+        }),
+        Err(fault) => Err(fault),
+    }
+}
+
+/// Links the classes of the files, and judges the trace in a file against them, with a thread for each class that the text
+/// of `--mains` names, 1 to 16, separated by commas.
+///
+/// The trace is judged by [`check`]: whatever the bodies of the initializers and of `main` do (JLS SE 8 12.4.2).
+///
+/// # Errors
+///
+/// The first of: more than 256 files, or the first file's fault (`Fault::Files`, `Fault::Io`, `Fault::Jasmin`); the first fault of
+/// linking (`Fault::Link`); no main class, one that no file has, or more than 16 (`Fault::Mains`); the trace file can't be read
+/// (`Fault::Io`) or isn't a trace of these classes and threads (`Fault::Trace`). Want of memory (`Fault::Memory`) may come before
+/// any of them.
+pub fn check_named<'a, N: Named>(
+    alloc: Global,
+    named: &mut N,
+    files: &[&'a str],
+    mains: Option<&str>,
+    trace: &'a str,
+) -> Result<Judged, Fault<'a>>
+    ensures judged { IfOk result (λ j. IsJudged (N.held named.old) (texts files.now) (text_of mains.entry) trace.now j.program j.mains.items j.events.items j.verdict) }
+    ensures refused { IfErr result (IsCheckRefusal (N.held named.old) (texts files.now) (text_of mains.entry) trace.now) }
+    ensures files { KeepsAllBut None (N.held named.old) (N.held named.new) }
+{
+    match link_files(alloc, files, named) {
+        Ok(program) => judge_trace(alloc, named, program, mains, trace),
+        Err(fault) => Err(fault),
+    }
+}
+
+/// The rule's name.
+fn name_of(rule: Rule) -> &'static str
+    ensures { result.now ≡ rule_text rule }
+{
+    match rule {
+        Rule::Word => "word",
+        Rule::Label => "label",
+        Rule::Value => "value",
+        Rule::End => "end",
+    }
+}
+
+/// Adds the line of a verdict: `legal`, or `illegal at <n>: <rule>`.
+fn write_verdict(out: &mut Vec<u8>, verdict: Verdict) -> Result<(), AllocError>
+    ensures { OnOk result (out.new.items ≡ out.old.items ++ verdict_line verdict) }
+{
+    match verdict {
+        Verdict::Legal => out.extend_from_slice(b"legal\n"),
+        Verdict::IllegalAt(number, rule) => {
+            out.extend_from_slice(b"illegal at ")?;
+            push_decimal(out, number)?;
+            out.extend_from_slice(b": ")?;
+            out.extend_from_slice(name_of(rule).as_bytes())?;
+            out.push(b'\n')?;
+            Ok(())
+        }
+    }
+}
+
+/// The line of the verdict, `legal` or `illegal at <n>: <rule>`, and where `explains` is set further lines that say in words
+/// what is illegal ([`explain`]).
+///
+/// An `Err` is want of memory.
+pub fn write_judged(alloc: Global, judged: &Judged, explains: bool) -> Result<Vec<u8>, AllocError>
+    ensures { IfOk result (λ text. TellsVerdict judged.now.verdict explains text.items) }
+{
+    let mut text = Vec::new(alloc);
+    write_verdict(&mut text, judged.verdict)?;
+    if explains {
+        let Judged {
+            program,
+            mains,
+            events,
+            verdict,
+        } = judged;
+        let words = explain(alloc, program, mains, events, *verdict)?;
+        text.extend_from_slice(&words)?;
+    }
+    Ok(text)
+}
+
+/// The exit status that tells the verdict.
+pub fn status_of_verdict(verdict: Verdict) -> u8
+    ensures { result ≡ status_by verdict }
+{
+    match verdict {
+        Verdict::Legal => 0,
+        Verdict::IllegalAt(..) => 1,
+    }
+}
