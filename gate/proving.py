@@ -67,7 +67,7 @@ class Gate:
         self.original = {it: getattr(self.rt, it) for it in ("crates_of", "add_edits", "in_lanes", "run", "put_back")}
         for name in self.original:
             setattr(self.rt, name, getattr(self, name))
-        self.rt.Crate = self.crate_class()
+        self.rt.Crate, self.rt.Kept = self.crate_class(), self.kept_class()
         # (a verdict's line may also say that the check took up what this very run proved)
         line = self.rt.rtlib.VERDICT
         end = r" statements=trusted\n"
@@ -117,6 +117,19 @@ class Gate:
 
         return Crate
 
+    def kept_class(gate):
+        class Kept(gate.rt.Kept):
+            """In the place of what the kit's script keeps of each run on this machine: nothing, as the gate has its own store."""
+
+            def __init__(self, *given):
+                super().__init__(*given)
+                self.at = None
+
+            def is_built(self, crate):
+                pass
+
+        return Kept
+
     def crates_of(self, root):
         found = self.original["crates_of"](root)
         for it in found:
@@ -154,11 +167,15 @@ class Gate:
         return given
 
     def taken_at_once(self, made):
-        """Takes the tasks of known crates out of these, and returns what they give: a copy is made, and no lane is needed."""
+        """Takes the tasks of known crates out of these, and returns what they give: what was built is put back, and no lane is
+        needed, nor what the kit's script looks at before it proves a crate, since the earlier run did."""
         given = {}
         for key in [it for it in made if self.known[it[0]]]:
             if all(it in given for it in made[key][0]):
-                given[key] = made.pop(key)[2](given, 1)
+                call = made.pop(key)[2]
+                if key[1] == "proof":
+                    self.store.bring_back(self.crates[key[0]])
+                given[key] = key[1] in ("proof", "tests") or call(given, 1)
         return given
 
     def timed(self, kind, key, call):
