@@ -22,12 +22,16 @@ pub record Making (S : Type 0) : Type 1 where
   pub enters : S → ClassId → S → Type 0
   -- told the procedure completed last, if nothing was done since, the innermost body does this next
   pub does : S → Option Completed → Does → S → Type 0
+  -- it stands at something that another thread holds
+  pub waits : S → Type 0
   -- it takes the value that it reads
   pub gets : S → Value → S → Type 0
   -- the machine ends it
   pub is_ended : S → S → Type 0
   -- step 11: for a throwable of this class comes an error of that
   pub replaces : S → ClassId → ClassId → S → Type 0
+  -- the thread has ended
+  pub ends : S → S → Type 0
   -- a body may come to this limit
   pub limits : Limit → Type 0
 
@@ -67,9 +71,11 @@ empty_bodies = record {
   starts = λ s c z. s ≡ z;
   enters = λ s c z. s ≡ z;
   does = λ s last d z. (s ≡ z) × (d ≡ Over None);
+  waits = λ s. ⊥;
   gets = λ s v z. s ≡ z;
   is_ended = λ s z. s ≡ z;
   replaces = λ s thrown e z. s ≡ z;
+  ends = λ s z. s ≡ z;
   limits = λ l. ⊥;
 }
 

@@ -26,6 +26,10 @@ impl Bodies for NoCode {
         Does::Over(None)
     }
 
+    fn waits(&self, _program: &Program) -> bool {
+        false
+    }
+
     fn get(&mut self, _program: &Program, _value: Value) {}
 
     fn leave(&mut self, _program: &Program) {}
@@ -33,6 +37,8 @@ impl Bodies for NoCode {
     fn replace(&mut self, _alloc: Global, program: &Program, _thrown: ClassId) -> ClassId {
         program.built_in(BuiltIn::ExceptionInInitializerError)
     }
+
+    fn end(&mut self, _program: &Program) {}
 
     ghost waits_on = { waits_for_nothing };
 }

@@ -7,10 +7,10 @@ use Rattle.clap.specs.declared.parser.matches.ArgMatches.TheViews.{out-ArgMatche
 use Rattle.clap.specs.declared.parser.matches.Found.{Found}
 use Rattle.clap.proofs.WalkLemmas.{first_value-rows, raw_values-rows}
 use Rattle.clap.proofs.OnLiterals.{clap_on_literals}
-use Rattle.cli.specs.CommandLine.{bare_line, command_line, file_words, flag_named, option_named, request_by, request_found, subcommand_named, with_limits, with_trace}
+use Rattle.cli.specs.CommandLine.{bare_line, command_line, file_words, flag_named, option_named, request_by, request_found, subcommand_named, with_run_options, with_trace}
 
 pub found_by_rows : (name : Text) (f : Found) → request_found name f ≡ request_by (Some (name, rows_of f))
-found_by_rows name f = rw (first_value-rows f (codes "mains"), first_value-rows f (codes "trace"), first_value-rows f (codes "explain"), first_value-rows f (codes "steps"), first_value-rows f (codes "patience"), raw_values-rows f (codes "files")) refl
+found_by_rows name f = rw (first_value-rows f (codes "mains"), first_value-rows f (codes "trace"), first_value-rows f (codes "explain"), first_value-rows f (codes "order"), first_value-rows f (codes "steps"), first_value-rows f (codes "patience"), raw_values-rows f (codes "files")) refl
 
 -- the subcommand that a parse entered, from its name and its rows
 pub entered_is : (o : Option (Text × List Row)) (name : Text) (rows : List Row) → Some name ≡ option_map (λ p. p.0) o → Some rows ≡ option_map (λ p. p.1) o → o ≡ Some (name, rows)
@@ -38,9 +38,9 @@ entered_none m n = none_of (subcommand_rows_of m) (n ∙ name_in_rows m)
 
 -- the command line is one of which `clap` tells all
 pub is_told : is_simple command_line ≡ true
-unfolding clap_on_literals command_line bare_line subcommand_named with_trace with_limits option_named flag_named file_words
+unfolding clap_on_literals command_line bare_line subcommand_named with_trace with_run_options option_named flag_named file_words
 is_told = refl
 
 pub is_told_of_faults : is_simple_and_free command_line ≡ true
-unfolding clap_on_literals command_line bare_line subcommand_named with_trace with_limits option_named flag_named file_words
+unfolding clap_on_literals command_line bare_line subcommand_named with_trace with_run_options option_named flag_named file_words
 is_told_of_faults = refl

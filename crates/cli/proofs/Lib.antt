@@ -4,5 +4,6 @@ pub mod KnownFiles
 pub mod KnownOutput
 pub mod Names
 pub mod OneMain
+pub mod OrderText
 pub mod Quiet
 pub mod Starts

@@ -30,9 +30,9 @@ file_words = record (new_rule (codes "files")) {
   value_names = 1;
 }
 
--- the options of how far a thread may go
-unfoldable pub with_limits : App → App
-with_limits app = with_rule (with_rule app (option_named (codes "steps"))) (option_named (codes "patience"))
+-- the options of how the threads of a run go on, and how far
+unfoldable pub with_run_options : App → App
+with_run_options app = with_rule (with_rule (with_rule app (option_named (codes "order"))) (option_named (codes "steps"))) (option_named (codes "patience"))
 
 -- the options of main classes and their trace
 unfoldable pub with_trace : App → App
@@ -40,7 +40,7 @@ with_trace app = with_rule (with_rule (with_rule app (option_named (codes "mains
 
 -- a subcommand: each has all options
 unfoldable pub subcommand_named : Text → App
-subcommand_named name = with_rule (with_limits (with_trace (new_app name))) file_words
+subcommand_named name = with_rule (with_run_options (with_trace (new_app name))) file_words
 
 -- the command line without its subcommands
 unfoldable pub bare_line : App
@@ -54,6 +54,7 @@ command_line = with_subcommand (with_subcommand (with_subcommand bare_line (subc
 pub record RunWords : Type 0 where
   pub mains : Option Text
   pub trace : Option Text
+  pub order : Option Text
   pub steps : Option Text
   pub patience : Option Text
   pub files : List Text
@@ -77,7 +78,7 @@ abbrev pub text_of : Option (Bor Text) → Option Text
 text_of o = option_map (λ s. s.now) o
 
 abbrev pub run_words_of : Run → RunWords
-run_words_of r = record { mains = text_of r.mains; trace = text_of r.trace; steps = text_of r.steps; patience = text_of r.patience; files = texts r.files.items }
+run_words_of r = record { mains = text_of r.mains; trace = text_of r.trace; order = text_of r.order; steps = text_of r.steps; patience = text_of r.patience; files = texts r.files.items }
 
 abbrev pub check_words_of : Check → CheckWords
 check_words_of c = record { mains = text_of c.mains; trace = c.trace.now; explains = c.explains; files = texts c.files.items }
@@ -99,7 +100,7 @@ pub record Options : Type 0 where
   pub files : List Text
 
 abbrev pub run_by : Options → Request
-run_by o = run (record { mains = o.text (codes "mains"); trace = o.text (codes "trace"); steps = o.text (codes "steps"); patience = o.text (codes "patience"); files = o.files })
+run_by o = run (record { mains = o.text (codes "mains"); trace = o.text (codes "trace"); order = o.text (codes "order"); steps = o.text (codes "steps"); patience = o.text (codes "patience"); files = o.files })
 
 -- `check` has a trace
 abbrev pub check_with : Option Text → Option Text → Bool → List Text → Request
@@ -113,17 +114,17 @@ check_by o = check_with (o.text (codes "mains")) (o.text (codes "trace")) (is_se
 abbrev pub has_explain : Options → Bool
 has_explain o = is_set (o.text (codes "explain"))
 
-abbrev pub has_limits : Options → Bool
-has_limits o = is_some (o.text (codes "steps")) || is_some (o.text (codes "patience"))
+abbrev pub has_run_options : Options → Bool
+has_run_options o = is_some (o.text (codes "order")) || (is_some (o.text (codes "steps")) || is_some (o.text (codes "patience")))
 
 abbrev pub has_mains_or_trace : Options → Bool
 has_mains_or_trace o = is_some (o.text (codes "mains")) || is_some (o.text (codes "trace"))
 
--- `run` doesn't explain, `check` takes no limits, and `needs` takes no option
+-- `run` doesn't explain, `check` takes no order and no limits, and `needs` takes no option
 abbrev pub request_to : Text → Options → Request
 request_to name o = if bytes_eq name (codes "run") && not (has_explain o) then run_by o
-    else (if bytes_eq name (codes "check") && not (has_limits o) then check_by o
-    else (if bytes_eq name (codes "needs") && (not (has_explain o) && (not (has_limits o) && not (has_mains_or_trace o))) then needs o.files else unfit))
+    else (if bytes_eq name (codes "check") && not (has_run_options o) then check_by o
+    else (if bytes_eq name (codes "needs") && (not (has_explain o) && (not (has_run_options o) && not (has_mains_or_trace o))) then needs o.files else unfit))
 
 -- what the subcommand of that name asks for, with the rows that `clap` finds in the words
 abbrev pub options_in : List Row → Options
@@ -158,8 +159,8 @@ run_found f = run_by (options_found f)
 abbrev pub check_found : Found → Request
 check_found f = check_by (options_found f)
 
-abbrev pub limits_found : Found → Bool
-limits_found f = has_limits (options_found f)
+abbrev pub run_options_found : Found → Bool
+run_options_found f = has_run_options (options_found f)
 
 abbrev pub mains_or_trace_found : Found → Bool
 mains_or_trace_found f = has_mains_or_trace (options_found f)

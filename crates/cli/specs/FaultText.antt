@@ -8,7 +8,7 @@ use Rattle.jasmin_words.specs.Fault.{number_of}
 use Rattle.trace_reader.specs.declared.fault.TraceFault.{TraceFault}
 use Rattle.trace_reader.specs.Faults.{number_of as trace_number_of}
 use Rattle.cli.specs.declared.fault.Fault.{Fault}
-use Rattle.cli.specs.declared.fault.Fault.TheVariants.{Files, Io, Jasmin, Link, Mains, Memory, Output, Patience, Steps, Threads, Trace, Words}
+use Rattle.cli.specs.declared.fault.Fault.TheVariants.{Files, Io, Jasmin, Link, Mains, Memory, Order, Output, Patience, Steps, Threads, Trace, Words}
 
 -- the number in the code of a fault of linking
 abbrev pub link_number_of : LinkFaultKind → ℕ
@@ -41,6 +41,7 @@ fault_line (Io file) = codes "io: " ++ file.now ++ codes "\n"
 fault_line (Jasmin file f) = jasmin_line file.now f
 fault_line (Trace file f) = trace_line file.now f
 fault_line (Link f) = link_line f
+fault_line Order = codes "cli: order\n"
 fault_line Steps = codes "cli: steps\n"
 fault_line Patience = codes "cli: patience\n"
 fault_line Mains = codes "cli: mains\n"

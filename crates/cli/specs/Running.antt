@@ -12,8 +12,10 @@ use Rattle.interpreter.specs.CodeRun.{code_bodies, interpreter_at_start}
 use Rattle.interpreter.specs.SharedRun.{shared_bodies}
 use Rattle.bodies.specs.Making.{Making}
 use Rattle.bodies.specs.Runs.{IsRunOf}
+use Rattle.replayer.specs.OrderedRun.{IsOrderedRunOf}
 use Rattle.cli.specs.declared.fault.Fault.{Fault}
-use Rattle.cli.specs.declared.fault.Fault.TheVariants.{Link, Mains, Memory, Threads}
+use Rattle.cli.specs.declared.fault.Fault.TheVariants.{Link, Mains, Memory, Order, Threads}
+use Rattle.cli.specs.Orders.{is_of_threads}
 
 -- why class texts aren't linked: their first fault, or want of memory
 pub data IsLinkRefusal (texts : List ClassParts) : Fault → Type 0 where
@@ -67,19 +69,25 @@ bodies_by false p = shared_bodies p
 abbrev pub bodies_of : LinkedProgram → List ClassId → Making Interpreter
 bodies_of p mains = bodies_by (nat_lt (length mains) 2) p
 
--- the report is of a run of the code of the classes that the text of `--mains` names, each on a thread of its own
-pub record IsRunOfNamed (mains : Option (List ℕ)) (limits : Limits) (p : LinkedProgram) (r : Report) : Type 0 where
+-- the report is of a run of the code of these classes, each on a thread of its own: in this order, or, where there is none, in any
+abbrev pub IsRunOfMains : LinkedProgram → List ClassId → Option (List ℕ) → Limits → Report → Type 0
+IsRunOfMains p classes None limits r = IsRunOf p (bodies_of p classes) (starts_of classes limits) classes limits r
+IsRunOfMains p classes (Some order) limits r = IsOrderedRunOf p (bodies_of p classes) (starts_of classes limits) classes order r
+
+-- and these are the classes that the text of `--mains` names
+pub record IsRunOfNamed (mains : Option (List ℕ)) (order : Option (List ℕ)) (limits : Limits) (p : LinkedProgram) (r : Report) : Type 0 where
   pub classes : List ClassId
   pub named : mains_in p mains ≡ Some classes
-  pub run : IsRunOf p (bodies_of p classes) (starts_of classes limits) classes limits r
+  pub run : IsRunOfMains p classes order limits r
 
 -- why a program isn't run: the first fault, in this order, or want of memory or of a thread
-pub data IsRunRefusal (p : LinkedProgram) (mains : Option (List ℕ)) : Fault → Type 0 where
-  unnamed : mains_in p mains ≡ None → IsRunRefusal p mains Mains
-  no_thread : {classes : List ClassId} → mains_in p mains ≡ Some classes → IsRunRefusal p mains Threads
-  no_memory : IsRunRefusal p mains Memory
+pub data IsRunRefusal (p : LinkedProgram) (mains : Option (List ℕ)) (order : Option (List ℕ)) : Fault → Type 0 where
+  unnamed : mains_in p mains ≡ None → IsRunRefusal p mains order Mains
+  disordered : {classes : List ClassId} → mains_in p mains ≡ Some classes → is_of_threads (length classes) order ≡ false → IsRunRefusal p mains order Order
+  no_thread : {classes : List ClassId} → mains_in p mains ≡ Some classes → order ≡ None → IsRunRefusal p mains order Threads
+  no_memory : IsRunRefusal p mains order Memory
 
--- why class texts and a text of `--mains` aren't run: the first fault, in this order, or want of memory or of a thread
-pub data IsRefusal (texts : List ClassParts) (mains : Option (List ℕ)) : Fault → Type 0 where
-  unlinked : {f : Fault} → IsLinkRefusal texts f → IsRefusal texts mains f
-  not_run : {p : LinkedProgram} {f : Fault} → LinksTo texts p → IsRunRefusal p mains f → IsRefusal texts mains f
+-- why class texts, a text of `--mains` and an order aren't run: the first fault, in this order, or want of memory or of a thread
+pub data IsRefusal (texts : List ClassParts) (mains : Option (List ℕ)) (order : Option (List ℕ)) : Fault → Type 0 where
+  unlinked : {f : Fault} → IsLinkRefusal texts f → IsRefusal texts mains order f
+  not_run : {p : LinkedProgram} {f : Fault} → LinksTo texts p → IsRunRefusal p mains order f → IsRefusal texts mains order f

@@ -1,5 +1,5 @@
 -- What the program does, where it is known what files hold and what was written to its output.
-use Rattle.std.specs.Prelude.{◌≡◌, ◌⊎◌, ℕ, Bool, List, [], Option, None, IfSome}
+use Rattle.std.specs.Prelude.{◌≡◌, ◌⊎◌, ℕ, Bool, List, [], Option, Some, None, IfSome}
 use Rattle.std.specs.Io.KnownBytes.{Appends, Keeps}
 use Rattle.clap.specs.Words.{IsAmong, Text}
 use Rattle.clap.specs.declared.error.kind.ErrorKind.TheVariants.{DisplayHelp, DisplayVersion}
@@ -17,6 +17,7 @@ use Rattle.cli.specs.CommandLine.{CheckWords, Request, RunWords, check, faults_i
 use Rattle.cli.specs.Files.{AreSpelled, FileHolds, Files, KeepsAllBut}
 use Rattle.cli.specs.Limits.{AreLimits}
 use Rattle.cli.specs.NeedsText.{needs_text}
+use Rattle.cli.specs.Orders.{order_in}
 use Rattle.cli.specs.Outcomes.{outcomes_text, status_after}
 use Rattle.cli.specs.Running.{IsRunOfNamed}
 
@@ -33,18 +34,20 @@ pub record HasWritten (before after : Surroundings) (trace : Option Text) (progr
   pub output : Appends before.output after.output report.output
   pub traced : IfSome trace (λ name. FileHolds after.files name (λ bytes. bytes ≡ trace_of program report.events))
 
--- The classes that the files spell were linked, and the main classes were run, within the limits that are said. The output is
+-- The classes that the files spell were linked, and the main classes were run, in the order and within the limits that are said. The output is
 -- that of the run, the trace file, where one is asked for, holds its trace, and standard error, known before and after, and the
 -- status tell how the threads ended.
 pub record HasRun (before after : Surroundings) (errors errors_after : Option (List ℕ)) (words : RunWords) (status : ℕ) : Type 0 where
   pub texts : List ClassParts
   pub program : LinkedProgram
+  pub order : Option (List ℕ)
   pub limits : Limits
   pub report : Report
   pub spelled : AreSpelled before.files words.files texts
   pub linked : LinksTo texts program
+  pub ordered : order_in words.mains words.order ≡ Some order
   pub said : AreLimits words.steps words.patience limits
-  pub ran : IsRunOfNamed words.mains limits program report
+  pub ran : IsRunOfNamed words.mains order limits program report
   pub written : HasWritten before after words.trace program report
   pub told : Appends errors errors_after (outcomes_text program report.outcomes)
   pub ended : status ≡ status_after report.outcomes

@@ -27,6 +27,8 @@ pub enum Fault<'a> {
     Trace { file: &'a str, fault: TraceFault },
     /// The classes can't be linked, for another reason than want of memory.
     Link(LinkFault),
+    /// The order has an entry that is no number of a main class, or there are no main classes.
+    Order,
     /// The steps are no decimal number from 1 to 100,000,000.
     Steps,
     /// The patience is no decimal number up to 1,000,000,000.
@@ -64,7 +66,7 @@ impl Fault<'_> {
     {
         match self {
             Fault::Words | Fault::Files | Fault::Jasmin { .. } | Fault::Trace { .. } => 2,
-            Fault::Steps | Fault::Patience => 2,
+            Fault::Order | Fault::Steps | Fault::Patience => 2,
             Fault::Link(_) | Fault::Mains => 2,
             Fault::Io(_) | Fault::Threads | Fault::Memory | Fault::Output => 3,
         }
@@ -81,6 +83,7 @@ impl Fault<'_> {
             Fault::Link(fault) => tell_link(fault, err),
             Fault::Words => err.write_all(b"cli: words\n"),
             Fault::Files => err.write_all(b"cli: files\n"),
+            Fault::Order => err.write_all(b"cli: order\n"),
             Fault::Steps => err.write_all(b"cli: steps\n"),
             Fault::Patience => err.write_all(b"cli: patience\n"),
             Fault::Mains => err.write_all(b"cli: mains\n"),

@@ -10,6 +10,7 @@ pub mod fault;
 pub mod files;
 pub mod limits;
 pub mod needed;
+pub mod orders;
 pub mod outcomes;
 pub mod running;
 pub mod serving;

@@ -1,6 +1,7 @@
 //! From class texts to the run of their main classes.
 
-ghost use Rattle.std.specs.Prelude.{◌≡◌, ◌⊎◌, ◌<◌, ◌≤◌, ◌∷◌, [], None, Some, IfErr, IfOk, IfSome, length, vec_len};
+ghost use Rattle.std.specs.Prelude.{◌≡◌, ◌⊎◌, ◌<◌, ◌≤◌, ◌∷◌, [], None, Some, IfErr, IfOk, IfSome, length, true, vec_len};
+ghost use Rattle.std.specs.List.{AllByRecursion};
 ghost use Rattle.std.specs.Option.{option_map};
 ghost use Rattle.clap.specs.Walk.{texts as texts_of};
 ghost use Rattle.hierarchy.specs.FirstFault.{LinksTo};
@@ -8,14 +9,17 @@ ghost use Rattle.init_core.specs.ProcedureWord.{IsOfFiles};
 ghost use Rattle.interpreter.specs.CodeRun.{code_bodies, interpreter_at_start};
 ghost use Rattle.interpreter.specs.SharedRun.{shared_bodies};
 ghost use Rattle.bodies.specs.Runs.{AreMains, IsRunOf};
+ghost use Rattle.replayer.specs.OrderedRun.{IsOrderedRunOf};
 ghost use Rattle.cli.specs.declared.fault.Fault.TheVariants.{Mains, Memory, Threads};
 ghost use Rattle.cli.specs.CommandLine.{text_of};
 ghost use Rattle.cli.specs.Files.{IsLinkedFrom, KeepsAllBut};
+ghost use Rattle.cli.specs.Orders.{is_of_threads, numbers_of};
 ghost use Rattle.cli.specs.ReadRefusals.{AreUnlinked};
-ghost use Rattle.cli.specs.Running.{IsLinkRefusal, IsRefusal, IsRunOfNamed, IsRunRefusal, bodies_of, main_named as class_of_name, mains_in, mains_named as classes_of_names, starts_below, starts_of};
+ghost use Rattle.cli.specs.Running.{IsLinkRefusal, IsRefusal, IsRunOfMains, IsRunOfNamed, IsRunRefusal, bodies_of, main_named as class_of_name, mains_in, mains_named as classes_of_names, starts_below, starts_of};
 
 use crate::fault::Fault;
 use crate::files::{Named, read_texts};
+use crate::orders::fits;
 use guest_threads::{NoGate, RunFault, run_threads};
 use hierarchy::{ClassId, LinkFaultKind, Program, link};
 use interpreter::{Interpreter, SharedInterpreter, SharedObjects};
@@ -128,8 +132,27 @@ pub(crate) fn mains_of<'a>(
     }
 }
 
-/// Runs one main class on the calling thread.
+/// Runs one main class in this order.
 fn run_alone<'a>(
+    alloc: Global,
+    program: &Program,
+    main: ClassId,
+    order: &[usize],
+    limits: Limits,
+) -> Result<Report, Fault<'a>>
+    requires file { IsOfFiles program.now main }
+    requires order { AllByRecursion (λ t. t < 1) order.now }
+    ensures ran { IfOk result (IsOrderedRunOf program.now (code_bodies program.now) (interpreter_at_start 0 limits.steps ∷ []) (main ∷ []) order.now) }
+    ensures refused { IfErr result (λ fault. fault ≡ Memory) }
+{
+    let mut bodies = Vec::new(alloc);
+    bodies.push(Interpreter::new(alloc, 0, limits.steps))?;
+    let report = run_ordered(alloc, program, &[main], order, bodies)?;
+    Ok(report)
+}
+
+/// Runs one main class, which meets no other thread.
+fn run_one<'a>(
     alloc: Global,
     program: &Program,
     main: ClassId,
@@ -139,25 +162,24 @@ fn run_alone<'a>(
     ensures ran { IfOk result (IsRunOf program.now (code_bodies program.now) (interpreter_at_start 0 limits.steps ∷ []) (main ∷ []) limits) }
     ensures refused { IfErr result (λ fault. fault ≡ Memory) }
 {
-    let bodies = Interpreter::new(alloc, 0, limits.steps);
-    let report = run_ordered(alloc, program, main, bodies)?;
-    Ok(report)
+    run_alone(alloc, program, main, &[], limits)
 }
 
-/// What runs the code of so many threads, which share one heap. Without a limit of patience a thread that waits for a monitor sleeps.
+/// What runs the code of so many threads, which share one heap. Where it `sleeps`, a thread that waits for a monitor does so until
+/// one is left, and else it is asked again.
 fn interpreters<'s, R: Wait>(
     rt: &'s R,
     alloc: Global,
     shared: &'s SharedObjects,
     count: usize,
     limits: Limits,
+    sleeps: bool,
 ) -> Result<Vec<SharedInterpreter<'s, R>>, AllocError>
     requires { count ≤ 16 }
     ensures starts { IfOk result (λ made. made.items ≡ starts_below count limits.steps) }
     ensures count { IfOk result (λ made. vec_len made ≡ count) }
 {
     let mut made = Vec::new(alloc);
-    let sleeps = limits.patience == 0;
     'threads: while made.len() < count {
         let thread = made.len() as u8;
         made.push(SharedInterpreter::new(rt, alloc, shared, thread, limits.steps, sleeps))?;
@@ -165,7 +187,7 @@ fn interpreters<'s, R: Wait>(
     Ok(made)
 }
 
-/// Runs several main classes, each on a thread of its own.
+/// Runs several main classes, each on a thread of its own. Without a limit of patience a thread that waits for a monitor sleeps.
 fn run_several<'a, R: Threads + Wait + Sync>(
     rt: &R,
     alloc: Global,
@@ -180,7 +202,8 @@ fn run_several<'a, R: Threads + Wait + Sync>(
     ensures refused { IfErr result (λ fault. (fault ≡ Memory) ⊎ (fault ≡ Threads)) }
 {
     let shared = SharedObjects::new(alloc);
-    let bodies = interpreters(rt, alloc, &shared, mains.len(), limits)?;
+    let sleeps = limits.patience == 0;
+    let bodies = interpreters(rt, alloc, &shared, mains.len(), limits, sleeps)?;
     match run_threads(rt, alloc, program, mains, bodies, limits, &NoGate) {
         Ok(report) => Ok(report),
         Err(RunFault::NoMemory) => Err(Fault::Memory),
@@ -188,8 +211,8 @@ fn run_several<'a, R: Threads + Wait + Sync>(
     }
 }
 
-/// Runs these main classes: one on the calling thread, several each on a thread of its own.
-fn run_mains<'a, R: Threads + Wait + Sync>(
+/// Runs these main classes in any order: one on the calling thread, several each on a thread of the machine.
+fn run_unordered<'a, R: Threads + Wait + Sync>(
     rt: &R,
     alloc: Global,
     program: &Program,
@@ -203,26 +226,97 @@ fn run_mains<'a, R: Threads + Wait + Sync>(
     ensures refused { IfErr result (λ fault. (fault ≡ Memory) ⊎ (fault ≡ Threads)) }
 {
     if let [main] = mains {
-        return run_alone(alloc, program, *main, limits);
+        return run_one(alloc, program, *main, limits);
     }
     run_several(rt, alloc, program, mains, limits)
 }
 
-/// Runs the main classes that the text of `--mains` names.
+/// Runs several main classes in this order, on the calling thread.
+fn run_several_in_order<'a, R: Wait>(
+    rt: &R,
+    alloc: Global,
+    program: &Program,
+    mains: &[ClassId],
+    order: &[usize],
+    limits: Limits,
+) -> Result<Report, Fault<'a>>
+    requires mains { AreMains program.now mains.now }
+    requires some { 1 ≤ length mains.now }
+    requires few { length mains.now ≤ 16 }
+    requires order { AllByRecursion (λ t. t < length mains.now) order.now }
+    ensures ran { IfOk result (IsOrderedRunOf program.now (shared_bodies program.now) (starts_of mains.now limits) mains.now order.now) }
+    ensures refused { IfErr result (λ fault. fault ≡ Memory) }
+{
+    let shared = SharedObjects::new(alloc);
+    let bodies = interpreters(rt, alloc, &shared, mains.len(), limits, false)?;
+    let report = run_ordered(alloc, program, mains, order, bodies)?;
+    Ok(report)
+}
+
+/// Runs these main classes in this order, on the calling thread.
+fn run_in_order<'a, R: Wait>(
+    rt: &R,
+    alloc: Global,
+    program: &Program,
+    mains: &[ClassId],
+    order: &[usize],
+    limits: Limits,
+) -> Result<Report, Fault<'a>>
+    requires mains { AreMains program.now mains.now }
+    requires some { 1 ≤ length mains.now }
+    requires few { length mains.now ≤ 16 }
+    requires order { AllByRecursion (λ t. t < length mains.now) order.now }
+    ensures ran { IfOk result (IsOrderedRunOf program.now (bodies_of program.now mains.now) (starts_of mains.now limits) mains.now order.now) }
+    ensures refused { IfErr result (λ fault. fault ≡ Memory) }
+{
+    if let [main] = mains {
+        return run_alone(alloc, program, *main, order, limits);
+    }
+    run_several_in_order(rt, alloc, program, mains, order, limits)
+}
+
+/// Runs these main classes: in this order on the calling thread, or, where there is none, in any.
+fn run_mains<'a, R: Threads + Wait + Sync>(
+    rt: &R,
+    alloc: Global,
+    program: &Program,
+    mains: &[ClassId],
+    order: Option<&[usize]>,
+    limits: Limits,
+) -> Result<Report, Fault<'a>>
+    requires mains { AreMains program.now mains.now }
+    requires some { 1 ≤ length mains.now }
+    requires few { length mains.now ≤ 16 }
+    requires order { is_of_threads (length mains.now) (numbers_of order) ≡ true }
+    ensures ran { IfOk result (IsRunOfMains program.now mains.now (numbers_of order.entry) limits) }
+    ensures refused { IfErr result (λ fault. (fault ≡ Memory) ⊎ ((fault ≡ Threads) × (numbers_of order.entry ≡ None))) }
+{
+    match order {
+        Some(order) => run_in_order(rt, alloc, program, mains, order, limits),
+        None => run_unordered(rt, alloc, program, mains, limits),
+    }
+}
+
+/// Runs the main classes that the text of `--mains` names, in this order, where there is one.
 fn run_program<'a, R: Threads + Wait + Sync>(
     rt: &R,
     alloc: Global,
     program: &Program,
     mains: Option<&str>,
+    order: Option<&[usize]>,
     limits: Limits,
 ) -> Result<Report, Fault<'a>>
-    ensures ran { IfOk result (IsRunOfNamed (text_of mains.entry) limits program.now) }
-    ensures refused { IfErr result (IsRunRefusal program.now (text_of mains.entry)) }
+    ensures ran { IfOk result (IsRunOfNamed (text_of mains.entry) (numbers_of order.entry) limits program.now) }
+    ensures refused { IfErr result (IsRunRefusal program.now (text_of mains.entry) (numbers_of order.entry)) }
 {
-    match mains_of(alloc, program, mains) {
-        Ok(mains) => run_mains(rt, alloc, program, &mains, limits),
-        Err(fault) => Err(fault),
+    let mains = match mains_of(alloc, program, mains) {
+        Ok(mains) => mains,
+        Err(fault) => return Err(fault),
+    };
+    if !fits(order, mains.len()) {
+        return Err(Fault::Order);
     }
+    run_mains(rt, alloc, program, &mains, order, limits)
 }
 
 /// A program and what its run was.
@@ -234,30 +328,32 @@ pub struct ProgramRun {
     pub report: Report,
 }
 
-/// Links the classes and runs the main classes that the text of `--mains` names, 1 to 16, separated by commas: one on the
-/// calling thread, several each on a thread of its own.
+/// Links the classes and runs the main classes that the text of `--mains` names, 1 to 16, separated by commas: in this order, or
+/// where there is none, one on the calling thread, several each on a thread of the machine.
 ///
-/// The program is what linking makes of the class texts. The report is that of [`run_ordered`] where one class is named, and else
-/// that of [`run_threads`]; the code may begin so many instructions on each thread. It may wait, for ever where the limits know no
-/// patience.
+/// The program is what linking makes of the class texts. The report is that of [`run_ordered`] where there is an order or one class
+/// is named, and else that of [`run_threads`]; the code may begin so many instructions on each thread. Without an order it may
+/// wait, for ever where the limits know no patience; the patience plays no part in an order.
 ///
 /// # Errors
 ///
 /// The first of: the first fault of linking (`Fault::Link`); no main class, one that no file has, or more than 16
-/// (`Fault::Mains`); a thread that can't be started (`Fault::Threads`). Want of memory (`Fault::Memory`) may come before any of them.
+/// (`Fault::Mains`); an order with a number that isn't below that of the main classes (`Fault::Order`); a thread that can't be
+/// started (`Fault::Threads`). Want of memory (`Fault::Memory`) may come before any of them.
 pub fn run_texts<'a, R: Threads + Wait + Sync>(
     rt: &R,
     alloc: Global,
     texts: Vec<ClassText>,
     mains: Option<&str>,
+    order: Option<&[usize]>,
     limits: Limits,
 ) -> Result<ProgramRun, Fault<'a>>
     ensures linked { IfOk result (λ ran. LinksTo texts.items ran.program) }
-    ensures ran { IfOk result (λ ran. IsRunOfNamed (text_of mains.entry) limits ran.program ran.report) }
-    ensures refused { IfErr result (IsRefusal texts.items (text_of mains.entry)) }
+    ensures ran { IfOk result (λ ran. IsRunOfNamed (text_of mains.entry) (numbers_of order.entry) limits ran.program ran.report) }
+    ensures refused { IfErr result (IsRefusal texts.items (text_of mains.entry) (numbers_of order.entry)) }
 {
     let program = link_texts(alloc, texts)?;
-    let report = match run_program(rt, alloc, &program, mains, limits) {
+    let report = match run_program(rt, alloc, &program, mains, order, limits) {
         Ok(report) => report,
         Err(fault) => return Err(fault),
     };

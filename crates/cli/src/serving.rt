@@ -1,6 +1,6 @@
 //! The program's body.
 
-ghost use Rattle.std.specs.Prelude.{◌≡◌, ◌≤◌, ◌⊎◌, None, IfErr, IfOk, IfSome, OnOk};
+ghost use Rattle.std.specs.Prelude.{◌≡◌, ◌≤◌, ◌⊎◌, None, Some, IfErr, IfOk, IfSome, OnOk};
 ghost use Rattle.std.specs.Io.KnownBytes.{Appends, Keeps};
 ghost use Rattle.clap.specs.Walk.{texts};
 ghost use Rattle.clap.specs.Words.{kind_of};
@@ -10,6 +10,7 @@ ghost use Rattle.cli.specs.CommandLine.{check_words_of, request_in, request_of, 
 ghost use Rattle.cli.specs.Files.{FileHolds, IsLinkedFrom, KeepsAllBut};
 ghost use Rattle.cli.specs.Limits.{AreLimits};
 ghost use Rattle.cli.specs.NeedsText.{needs_text};
+ghost use Rattle.cli.specs.Orders.{numbers_of, order_in};
 ghost use Rattle.cli.specs.Outcomes.{outcomes_text, status_after};
 ghost use Rattle.cli.specs.Running.{IsRunOfNamed};
 ghost use Rattle.cli.specs.Serving.{HasRun, HasToldNeeds, HasToldVerdict, HasWritten, IsDone, IsServed, IsToldVerdict, IsUntouched, around, trace_in};
@@ -20,6 +21,7 @@ use crate::fault::Fault;
 use crate::files::{Named, read_texts, write_named};
 use crate::limits::limits_of;
 use crate::needed::write_needs;
+use crate::orders::order_of;
 use crate::outcomes::{status_of_outcomes, write_outcomes};
 use crate::running::{ProgramRun, link_files, run_texts};
 use crate::words::{Asked, Check, Run, parse};
@@ -79,21 +81,22 @@ fn tell_outcomes<'a, E: io::Write>(
     write_output(err, &text)
 }
 
-/// Reads and links the classes of the files, and runs the main classes.
+/// Reads and links the classes of the files, and runs the main classes, in this order where there is one.
 fn run_files<'a, R: Threads + Wait + Sync, N: Named>(
     rt: &R,
     alloc: Global,
     files: &[&'a str],
     mains: Option<&str>,
+    order: Option<&[usize]>,
     limits: Limits,
     named: &mut N,
 ) -> Result<ProgramRun, Fault<'a>>
     ensures files { KeepsAllBut None (N.held named.old) (N.held named.new) }
     ensures linked { IfOk result (λ ran. IsLinkedFrom (N.held named.old) (texts files.now) ran.program) }
-    ensures ran { IfOk result (λ ran. IsRunOfNamed (text_of mains.entry) limits ran.program ran.report) }
+    ensures ran { IfOk result (λ ran. IsRunOfNamed (text_of mains.entry) (numbers_of order.entry) limits ran.program ran.report) }
 {
     let texts = read_texts(alloc, named, files)?;
-    let ran = run_texts(rt, alloc, texts, mains, limits)?;
+    let ran = run_texts(rt, alloc, texts, mains, order, limits)?;
     Ok(ran)
 }
 
@@ -135,24 +138,26 @@ fn report_run<'a, N: Named, O: io::Write, E: io::Write>(
     Ok(status_of_outcomes(ran.report.outcomes.as_slice()))
 }
 
-/// Runs what the words ask for within these limits, writes the output and the trace, tells how the threads ended, and answers the
-/// exit status.
+/// Runs what the words ask for, in this order, where there is one, and within these limits, writes the output and the trace, tells
+/// how the threads ended, and answers the exit status.
 fn run_within<'a, R: Threads + Wait + Sync, N: Named, O: io::Write, E: io::Write>(
     rt: &R,
     alloc: Global,
     words: &Run<'a>,
+    order: Option<&[usize]>,
     limits: Limits,
     named: &mut N,
     out: &mut O,
     err: &mut E,
 ) -> Result<u8, Fault<'a>>
+    requires order { order_in (text_of words.now.mains) (text_of words.now.order) ≡ Some (numbers_of order) }
     requires said { AreLimits (text_of words.now.steps) (text_of words.now.patience) limits }
     ensures files { KeepsAllBut (text_of words.now.trace) (N.held named.old) (N.held named.new) }
     ensures ran { IfOk result (HasRun (around (N.held named.old) (O.contents out.old)) (around (N.held named.new) (O.contents out.new))
         (E.contents err.old) (E.contents err.new) (run_words_of words.now)) }
     ensures untouched { IfErr result (λ f. status_of f ≡ 2 → IsUntouched (around (N.held named.old) (O.contents out.old)) (around (N.held named.new) (O.contents out.new))) }
 {
-    match run_files(rt, alloc, &words.files, words.mains, limits, named) {
+    match run_files(rt, alloc, &words.files, words.mains, order, limits, named) {
         Ok(ran) => report_run(alloc, &ran, words.trace, named, out, err),
         Err(fault) => Err(fault),
     }
@@ -172,8 +177,12 @@ fn run<'a, R: Threads + Wait + Sync, N: Named, O: io::Write, E: io::Write>(
         (E.contents err.old) (E.contents err.new) (run_words_of words.now)) }
     ensures untouched { IfErr result (λ f. status_of f ≡ 2 → IsUntouched (around (N.held named.old) (O.contents out.old)) (around (N.held named.new) (O.contents out.new))) }
 {
+    let order = match order_of(alloc, words.mains, words.order) {
+        Ok(order) => order,
+        Err(fault) => return Err(fault),
+    };
     match limits_of(words.steps, words.patience) {
-        Ok(limits) => run_within(rt, alloc, words, limits, named, out, err),
+        Ok(limits) => run_within(rt, alloc, words, order.as_deref(), limits, named, out, err),
         Err(fault) => Err(fault),
     }
 }
@@ -327,8 +336,8 @@ fn answer_or_tell<R: Threads + Wait + Sync, N: Named, O: io::Write, E: io::Write
 /// Files are read and written by name through `named`, the output goes to `out`, and to `err` what went wrong, in one line
 /// or in `clap`'s words, and how threads ended that didn't end normally, a line each. The status is 0 where all
 /// threads ended normally, or the trace is legal, 1 where one didn't, or the trace is illegal, 2 where the words, the files or the
-/// classes are at fault, and 3 where memory, a thread, a file or the output was refused; nothing further is written then. It may
-/// wait, for ever where `--patience` is 0.
+/// classes are at fault, and 3 where memory, a thread, a file or the output was refused; nothing further is written then. Without
+/// `--order` it may wait, for ever where `--patience` is 0.
 ///
 /// At status 0 and 1 what the words ask for is done, or, at 0, they ask for help or the version; at 0 nothing is written to `err`.
 /// At status 2 no file is written, and nothing to `out`. At every status all files but the trace are as they were. What files hold is said where that is known

@@ -4,7 +4,7 @@ ghost use Rattle.std.specs.Prelude.{◌≡◌, IfOk, false};
 ghost use Rattle.clap.specs.Walk.{texts};
 ghost use Rattle.clap.specs.Words.{FailsBy, app_of, first_value, found_of, rule_of, subcommand_rows_of, with_rule, with_subcommand};
 ghost use Rattle.clap.specs.declared.builder.command.Command.TheViews.{out-Command as fields_of};
-ghost use Rattle.cli.specs.CommandLine.{bare_line, check_found, command_line, faults_in, file_words, files_found, flag_named, is_set, limits_found, mains_or_trace_found, option_named, request_found, request_in, request_of, rows_in, run_found, subcommand_named, with_limits as with_limit_options, with_trace as with_trace_options};
+ghost use Rattle.cli.specs.CommandLine.{bare_line, check_found, command_line, faults_in, file_words, files_found, flag_named, is_set, mains_or_trace_found, option_named, request_found, request_in, request_of, rows_in, run_found, run_options_found, subcommand_named, with_run_options as with_options_of_run, with_trace as with_trace_options};
 
 use clap::{Arg, ArgAction, ArgMatches, Command, Error};
 use std::alloc::{AllocError, Global};
@@ -16,6 +16,8 @@ pub struct Run<'a> {
     pub mains: Option<&'a str>,
     /// The text of `--trace`: the file that the trace is written to.
     pub trace: Option<&'a str>,
+    /// The text of `--order`: the numbers of the threads as they go on, separated by commas.
+    pub order: Option<&'a str>,
     /// The text of `--steps`: how many instructions a thread may begin.
     pub steps: Option<&'a str>,
     /// The text of `--patience`: how often a thread looks at what another holds.
@@ -103,16 +105,20 @@ fn with_argument<'a>(command: Command<'a>, argument: Arg<'a>) -> Result<Command<
     command.arg(argument)
 }
 
-/// The command with the options of how far a thread may go.
-#[tactic(auto, unfolding(crate::specs::CommandLine::with_limits))]
-fn with_limits<'a>(
+/// The command with the options of how the threads of a run go on, and how far.
+#[tactic(auto, unfolding(crate::specs::CommandLine::with_run_options))]
+fn with_run_options<'a>(
     alloc: Global,
     command: Command<'a>,
     is_hidden: bool,
 ) -> Result<Command<'a>, AllocError>
-    ensures rules { IfOk result (λ c. app_of c ≡ with_limit_options (app_of command.entry)) }
+    ensures rules { IfOk result (λ c. app_of c ≡ with_options_of_run (app_of command.entry)) }
     ensures local { IfOk result (λ c. (fields_of c).has_globals ≡ (fields_of command.entry).has_globals) }
 {
+    let help =
+        "The threads go on in this order, one event at each number; then the lowest that can";
+    let order = option(alloc, "order", "N,..", help, is_hidden);
+    let command = with_argument(command, order)?;
     let help = "A thread that has begun so many instructions is ended; 1000000 if not given";
     let steps = option(alloc, "steps", "N", help, is_hidden);
     let command = with_argument(command, steps)?;
@@ -148,7 +154,7 @@ struct Shown<'a> {
     /// What the trace is for; `--mains` and `--trace` are shown then.
     trace: Option<&'a str>,
     explain: bool,
-    limits: bool,
+    run_options: bool,
 }
 
 /// A subcommand.
@@ -164,7 +170,7 @@ fn subcommand<'a>(
 {
     let command = Command::new(alloc, name).about(about);
     let command = with_trace(alloc, command, shown.trace, shown.explain)?;
-    let command = with_limits(alloc, command, !shown.limits)?;
+    let command = with_run_options(alloc, command, !shown.run_options)?;
     with_argument(command, files_argument(alloc))
 }
 
@@ -199,7 +205,7 @@ fn command<'a>(alloc: Global) -> Result<Command<'a>, AllocError>
     let shown = Shown {
         trace: Some("Writes every initialization step to FILE"),
         explain: false,
-        limits: true,
+        run_options: true,
     };
     let run = subcommand(alloc, "run", about, shown)?;
     let command = with_command(bare_command(alloc), run)?;
@@ -207,7 +213,7 @@ fn command<'a>(alloc: Global) -> Result<Command<'a>, AllocError>
     let shown = Shown {
         trace: Some("The trace to judge"),
         explain: true,
-        limits: false,
+        run_options: false,
     };
     let check = subcommand(alloc, "check", about, shown)?;
     let command = with_command(command, check)?;
@@ -215,7 +221,7 @@ fn command<'a>(alloc: Global) -> Result<Command<'a>, AllocError>
     let shown = Shown {
         trace: None,
         explain: false,
-        limits: false,
+        run_options: false,
     };
     let needs = subcommand(alloc, "needs", about, shown)?;
     with_command(command, needs)
@@ -262,17 +268,19 @@ fn run_of<'a>(alloc: Global, matches: &ArgMatches<'a>) -> Result<Asked<'a>, Allo
     Ok(Asked::Run(Run {
         mains: matches.get_str("mains"),
         trace: matches.get_str("trace"),
+        order: matches.get_str("order"),
         steps: matches.get_str("steps"),
         patience: matches.get_str("patience"),
         files: files_of(alloc, matches)?,
     }))
 }
 
-/// Whether an option is given that says how far a thread may go.
-fn has_limits(matches: &ArgMatches<'_>) -> bool
-    ensures { result ≡ limits_found (found_of matches.now) }
+/// Whether an option is given that says how the threads of a run go on, or how far.
+fn has_run_options(matches: &ArgMatches<'_>) -> bool
+    ensures { result ≡ run_options_found (found_of matches.now) }
 {
-    matches.get_str("steps").is_some() || matches.get_str("patience").is_some()
+    let has_limits = matches.get_str("steps").is_some() || matches.get_str("patience").is_some();
+    matches.get_str("order").is_some() || has_limits
 }
 
 /// Whether an option is given that says what is run, or which trace is judged.
@@ -291,14 +299,14 @@ fn asked_of<'a>(
     ensures { IfOk result (λ asked. request_of asked ≡ request_found name.now (found_of matches.now)) }
 {
     let explains = is_given(matches, "explain");
-    let limits = has_limits(matches);
+    let run_options = has_run_options(matches);
     if name == "run" && !explains {
         return run_of(alloc, matches);
     }
-    if name == "check" && !limits {
+    if name == "check" && !run_options {
         return check_of(alloc, matches);
     }
-    if name == "needs" && !explains && !limits && !has_mains_or_trace(matches) {
+    if name == "needs" && !explains && !run_options && !has_mains_or_trace(matches) {
         return Ok(Asked::Needs(files_of(alloc, matches)?));
     }
     Ok(Asked::Unfit)
@@ -315,8 +323,8 @@ fn matches_of<'a>(alloc: Global, words: &'a [&'a str]) -> Result<ArgMatches<'a>,
 /// What the words ask for; the first word is the program's name.
 ///
 /// Subcommand, options and files are those that `clap` finds in the words: `run`, `check` and `needs` with any number of files, and
-/// with the options `--mains`, `--trace`, `--explain`, `--steps` and `--patience`. Of these `run` takes all but `--explain`, `check`
-/// all but the last two, and `--trace` always, and `needs` none.
+/// with the options `--mains`, `--trace`, `--explain`, `--order`, `--steps` and `--patience`. Of these `run` takes all but `--explain`, `check`
+/// all but the last three, and `--trace` always, and `needs` none.
 ///
 /// # Errors
 ///

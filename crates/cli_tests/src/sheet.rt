@@ -61,7 +61,7 @@ static WORDS: [&str; 7] = [
 /// Runs the class Solo that the sheet spells, and writes the trace in its place.
 fn trace_the_sheet<R: Threads + Wait + Sync>(rt: &R, alloc: Global, sheet: &mut Sheet) -> u8
     ensures { result ≡ 0 → (c : ClassParts) × (p : LinkedProgram) × (l : Limits) × (r : Report) × Spells (lines_of sheet.old.bytes.items) c
-        × LinksTo (c ∷ []) p × AreLimits None None l × IsRunOfNamed (Some (codes "Solo")) l p r × (sheet.new.bytes.items ≡ trace_of p r.events) }
+        × LinksTo (c ∷ []) p × AreLimits None None l × IsRunOfNamed (Some (codes "Solo")) None l p r × (sheet.new.bytes.items ≡ trace_of p r.events) }
 {
     let mut out = Vec::new(alloc);
     let mut err = Vec::new(alloc);

@@ -36,6 +36,16 @@ fn limits_are_parsed(rt: HostRuntime) -> Result<(), Fail> {
 }
 
 #[test]
+fn an_order_is_parsed(rt: HostRuntime) -> Result<(), Fail> {
+    let words = ["jinit", "run", "--mains", "A,B", "--order", "0,1,1", "a.j"];
+    let Ok(Asked::Run(run)) = parse(rt.alloc(), &words) else {
+        return Err(Fail::from("no run"));
+    };
+    assert!(rt; run.order == Some("0,1,1") && run.mains == Some("A,B") && run.steps.is_none());
+    Ok(())
+}
+
+#[test]
 fn a_trace_to_check_is_parsed(rt: HostRuntime) -> Result<(), Fail> {
     let words = ["jinit", "check", "--trace", "made", "a.j", "--mains=A,B"];
     let Ok(Asked::Check(check)) = parse(rt.alloc(), &words) else {

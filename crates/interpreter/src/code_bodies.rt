@@ -232,6 +232,10 @@ impl Bodies for Interpreter {
         self.say(alloc, program)
     }
 
+    fn waits(&self, _program: &Program) -> bool {
+        false
+    }
+
     fn get(&mut self, _program: &Program, value: Value) {
         if self.frames.can_replace(0) {
             give(&mut self.frames, 0, cell_of(value));
@@ -253,6 +257,8 @@ impl Bodies for Interpreter {
             self.wrap(program)
         }
     }
+
+    fn end(&mut self, _program: &Program) {}
 
     ghost waits_on = { never_waits };
 }

@@ -1,6 +1,9 @@
 -- The report of a run that is over.
-use Rattle.std.proofs.Common.{◌≡◌, ◌≢◌, ◌⊎◌, inl, inr, ⊎_elim, ℕ, zero, suc, ◌<◌, ◌≤◌, List, [], ◌∷◌, Some, None, Bool, true, false, length, refl, sym, ap, subst, ◌∙◌, arith}
-use Rattle.std.specs.Prelude.{slice_get}
+use Rattle.std.proofs.Common.{◌≡◌, ◌≢◌, ◌⊎◌, inl, inr, ⊎_elim, ℕ, zero, suc, ◌<◌, ◌≤◌, List, [], ◌∷◌, ◌++◌, Option, Some, None, Bool, true, false, length, refl, sym, ap, subst, ◌∙◌, append-nil, eq-eqb, arith}
+use Rattle.std.specs.Prelude.{MatchOption, slice_get, slice_index_or}
+use Rattle.std.specs.List.{AllByRecursion}
+use Rattle.std.proofs.lemmas.List.{length-map}
+use Rattle.std.proofs.lemmas.Option.{slice_get_cases}
 use Rattle.hierarchy.specs.declared.class.ClassId.{ClassId}
 use Rattle.hierarchy.specs.LinkedProgram.{LinkedProgram}
 use Rattle.statics.specs.Statics.{statics_of}
@@ -15,10 +18,8 @@ use Rattle.init_core.specs.ProcedureWord.{ThreadWord, ThreadWordOf, IsOfFiles}
 use Rattle.init_core.specs.ProgramEvents.{IsProgramEvent, at_class, prints_text}
 use Rattle.init_core.proofs.Forgetting.{forget_thread}
 use Rattle.init_world.proofs.Balanced.{total, begun, ended, thread_even}
-use Rattle.init_world.proofs.UnderWay.{mine, AreCounted, lawful_counted}
+use Rattle.init_world.proofs.UnderWay.{mine, AreCounted, counted_by_part, lawful_counted}
 use Rattle.init_world.proofs.Sound.{class_is}
-use Rattle.std.specs.List.{AllByRecursion}
-use Rattle.trace.specs.declared.report.Limit.{Limit}
 use Rattle.trace.specs.declared.report.Limit.TheVariants.{Memory}
 use Rattle.trace.specs.declared.report.Limits.{Limits}
 use Rattle.trace.specs.declared.report.Report.{Report}
@@ -29,88 +30,188 @@ use Rattle.bodies.specs.Making.{Making, maker_of}
 use Rattle.bodies.specs.Runs.{IsOutcome, IsThreadRun, AreOutcomes}
 use Rattle.replayer.specs.declared.log.EventLog.{EventLog}
 use Rattle.replayer.specs.declared.run.Run.{Run}
-use Rattle.replayer.specs.Going.{IsOver, IsWhy, outcome_by}
+use Rattle.replayer.specs.declared.thread.Thread.{Thread}
+use Rattle.replayer.specs.AllGoing.{AllThreads, AreGoing, AreGone, AreToCome, HasDone, IsThere, Leads, mains_of, outcome_in, outcomes_of, starts_of}
+use Rattle.replayer.specs.Going.{IsOver, IsWhy, Resting, outcome_by}
 use Rattle.replayer.specs.Logged.{IsLog}
-use Rattle.replayer.specs.OrderedRun.{MayGiveUp, IsOrderedRunOf}
-use Rattle.replayer.proofs.Logged.{AreZero, all_zero, lone_owner, all_of_zero, none_of_others}
-use Rattle.replayer.proofs.OneThread.{one_is_legal}
+use Rattle.replayer.specs.OrderedRun.{Follows, IsOrderedRunOf, MayGiveUp, ended as all_ended}
+use Rattle.replayer.proofs.Followed.{done_ended, slice_get_map}
+use Rattle.replayer.proofs.Logged.{all_low, low_owner, none_high}
 
 below_or : (n m : ℕ) → (n < m) ⊎ (m ≤ n)
 below_or n zero = inr (omega arith)
 below_or zero (suc m) = inl (omega arith)
 below_or (suc n) (suc m) = ⊎_elim (λ l. inl (omega (arith, l))) (λ l. inr (omega (arith, l))) (below_or n m)
 
+beyond : {A : Type 0} (xs : List A) (t : ℕ) → length xs ≤ t → slice_get xs t ≡ None
+beyond xs t high = ⊎_elim (λ x. absurd (let low = x.1 in omega (arith, low, high))) (λ x. x.1) (slice_get_cases xs t).1
+
+within : {A : Type 0} (xs : List A) (t : ℕ) (x : A) → slice_get xs t ≡ Some x → t < length xs
+within xs t x is = ⊎_elim (λ y. y.1) (λ y. absurd (let z : None ≡ Some x = sym y.1 ∙ is in cc)) (slice_get_cases xs t).1
+
+some_of : {A : Type 0} (xs : List A) (t : ℕ) → t < length xs → A
+some_of [] t low = absurd (omega (arith, low))
+some_of (x ∷ xs) t low = x
+
 no_state : ClassId → State
 no_state c = record { class = c; label = Prepared; failure = None; fields = []; values = []; waiting = [] }
 
 module _ (p : LinkedProgram) where
-  file_of : (c : ClassId) (e : Event) → IsProgramEvent p 1 e → e.class ≡ Some c → IsOfFiles p c
-  file_of c e (at_class {c = d} k low within done) q = let same : d ≡ c = cc in subst (IsOfFiles p) same within
-  file_of c e (prints_text text low is) q = absurd (let z : None ≡ Some c = q in cc)
+  file_of : (n : ℕ) (c : ClassId) (e : Event) → IsProgramEvent p n e → e.class ≡ Some c → IsOfFiles p c
+  file_of n c e (at_class {c = d} k low inside done) q = let same : d ≡ c = cc in subst (IsOfFiles p) same inside
+  file_of n c e (prints_text text low is) q = absurd (let z : None ≡ Some c = q in cc)
 
   -- no event is one of a class that isn't of the files
-  none_outside : (c : ClassId) (events : List Event) → length p.classes ≤ c.number → AllByRecursion (λ e. IsProgramEvent p 1 e) events → of_class c events ≡ []
-  none_outside c [] out a = refl
-  none_outside c (e ∷ events) out a = at (is_class c e.class) refl (none_outside c events out a.1) where
+  none_outside : (n : ℕ) (c : ClassId) (events : List Event) → length p.classes ≤ c.number → AllByRecursion (λ e. IsProgramEvent p n e) events → of_class c events ≡ []
+  none_outside n c [] out a = refl
+  none_outside n c (e ∷ events) out a = at (is_class c e.class) refl (none_outside n c events out a.1) where
     at : (b : Bool) → is_class c e.class ≡ b → of_class c events ≡ [] → of_class c (e ∷ events) ≡ []
-    at true q h = absurd (let w = file_of c e a.0 (class_is c e.class q) in omega (arith, w, out))
+    at true q h = absurd (let w = file_of n c e a.0 (class_is c e.class q) in omega (arith, w, out))
     at false q h = rw q h
 
   lawful_at : (l : EventLog) (c : ClassId) → IsLog p l → IsLawful (statics_of p c) (of_class c l.events.items)
   lawful_at l c log = by (below_or c.number (length p.classes)) where
     by : (IsOfFiles p c) ⊎ (length p.classes ≤ c.number) → IsLawful (statics_of p c) (of_class c l.events.items)
     by (inl w) = let s = log.states c.number (no_state c) w in subst (λ fs. IsLawful fs (of_class c l.events.items)) s.fields s.state.lawful
-    by (inr out) = subst (λ (es : List Event). IsLawful (statics_of p c) es) (sym (none_outside c l.events.items out log.events)) (record { labels = tt; values = tt })
+    by (inr out) = subst (λ (es : List Event). IsLawful (statics_of p c) es) (sym (none_outside l.threads.value c l.events.items out log.events)) (record { labels = tt; values = tt })
+
+mine_one : (t : ℕ) → mine t (InProgress t) ≡ 1
+mine_one t = rw (eq-eqb t t refl) refl
 
 module _ {S : Type 0} (p : LinkedProgram) (M : Making S) where
-  -- no class is left in progress
-  pub none_left : (l : EventLog) (r : Outcome) (start z : S) (m : ClassId) → IsLog p l → ((c : ClassId) → IsLawful (statics_of p c) (of_class c l.events.items)) → ThreadWordOf p 0 (maker_of p M) start m l.events.items r z → (c : ClassId) (t : ℕ) → label_at l.events.items c ≢ InProgress t
-  none_left l r start z m log lawful word c t q =
-      let events = l.events.items in
-      let zero_is : t ≡ 0 = lone_owner events c t (all_zero p events log.events) q in
-      let counted : AreCounted 0 c events = lawful_counted p 0 c events (λ d. (lawful d).labels) in
-      let even : total (begun 0 c) events ≡ total (ended 0 c) events = thread_even 0 c p 0 word in
-      let one : mine 0 (label_at events c) ≡ 1 = ap (mine 0) (q ∙ ap InProgress zero_is) in
-      omega (arith, counted, even, one)
+  outcome_is : (limits : Limits) (threads : ℕ) → MayGiveUp M threads limits → (r : Outcome) (gave_up : Bool) → ((e : ClassId) → r ≡ Ended e → IsWhy p M threads gave_up e) → IsOutcome p M limits r (outcome_by gave_up r)
+  outcome_is limits threads may Normal gave_up reason = refl
+  outcome_is limits threads may (Abrupt e) gave_up reason = refl
+  outcome_is limits threads may (Ended e) gave_up reason = reason e refl limits may
 
-  outcome_is : (limits : Limits) → MayGiveUp M limits → (r : Outcome) (why : Limit) → ((e : ClassId) → r ≡ Ended e → IsWhy p M why e) → IsOutcome p M limits r (outcome_by why r)
-  outcome_is limits gives_up Normal why reason = refl
-  outcome_is limits gives_up (Abrupt e) why reason = refl
-  outcome_is limits gives_up (Ended e) why reason = (reason e refl).ends limits gives_up
+  not_memory : (gave_up : Bool) (r : Outcome) → outcome_by gave_up r ≢ outcome.Ended Memory
+  not_memory gave_up Normal q = cc
+  not_memory gave_up (Abrupt e) q = cc
+  not_memory true (Ended e) q = cc
+  not_memory false (Ended e) q = cc
 
-  not_memory : (r : Outcome) (why : Limit) → ((e : ClassId) → r ≡ Ended e → IsWhy p M why e) → outcome_by why r ≢ outcome.Ended Memory
-  not_memory Normal why reason q = cc
-  not_memory (Abrupt e) why reason q = cc
-  not_memory (Ended e) why reason q = (reason e refl).memory (let same : why ≡ Memory = cc in same)
+  -- where a thread of the run has ended
+  record HasEndedAt (r : Run S) (t : ℕ) (w : Thread S) : Type 0 where
+    result : Outcome
+    low : t < length r.threads.items
+    is : slice_index_or r.threads.items t w ≡ w
+    number : w.number ≡ t
+    done : w.done ≡ Some result
+    over : IsOver p M r.log result w
 
-  pub ordered : (w : Run S) (r : Outcome) (start : S) (main : ClassId) → IsOver p M r w → w.main ≡ main → w.start.value ≡ start → (report : Report) → report.events ≡ w.log.events.items → report.labels ≡ labels_of p w.log.events.items → report.outcomes ≡ outcome_by w.why r ∷ [] → report.output ≡ output_of w.log.events.items → IsOrderedRunOf p M start main report
-  ordered w r start main over is_main is_start report events labels outcomes output = record {
-    run = λ limits gives_up. record {
-      legal = subst (λ (es : List Event). IsLegal p (main ∷ []) es) (sym events) (one_is_legal p main w.log.events.items (subst (λ (es : List Event). ThreadWord p 0 main es) (sym (all_of_zero w.log.events.items zeros)) (forget_thread p 0 (maker_of p M) word)) (λ t past. none_of_others t w.log.events.items (λ q. let z : 1 ≤ 0 = subst (λ n. 1 ≤ n) q past in omega (arith, z)) zeros) lawful);
-      events = subst (λ (es : List Event). AllByRecursion (λ e. IsProgramEvent p 1 e) es) (sym events) over.log.events;
-      labels = labels ∙ ap (labels_of p) (sym events);
-      count = ap length outcomes;
-      outcomes = done limits gives_up;
-      finished = λ c t q. none_left w.log r start w.bodies main over.log lawful word c t (ap (λ (es : List Event). label_at es c) (sym events) ∙ q);
-      output = output ∙ ap output_of (sym events);
-    };
-    memory = λ q. not_memory r w.why over.reason (let same : outcome_by w.why r ∷ [] ≡ outcome.Ended Memory ∷ [] = sym outcomes ∙ q in cc);
-  } where
-    zeros : AreZero w.log.events.items
-    zeros = all_zero p w.log.events.items over.log.events
+  same_item : (r : Run S) (t : ℕ) (w other : Thread S) → t < length r.threads.items → slice_index_or r.threads.items t other ≡ slice_index_or r.threads.items t w
+  same_item r t w other low = at r.threads.items t low where
+    at : (ws : List (Thread S)) (t : ℕ) → t < length ws → slice_index_or ws t other ≡ slice_index_or ws t w
+    at [] t low = absurd (omega (arith, low))
+    at (v ∷ ws) zero low = refl
+    at (v ∷ ws) (suc t) low = at ws t (omega (arith, low))
 
-    lawful : (c : ClassId) → IsLawful (statics_of p c) (of_class c w.log.events.items)
-    lawful c = lawful_at p w.log c over.log
+  over_of : (r : Run S) (w : Thread S) (x : Outcome) → w.done ≡ Some x → IsThere p M r.log w → IsOver p M r.log x w
+  over_of r w x done there = subst (λ (o : Option Outcome). MatchOption o (Resting p M r.log w) (λ x. IsOver p M r.log x w)) done there
 
-    word : ThreadWordOf p 0 (maker_of p M) start main w.log.events.items r w.bodies
-    word = subst (λ (m : ClassId). ThreadWordOf p 0 (maker_of p M) start m w.log.events.items r w.bodies) is_main (subst (λ (s : S). ThreadWordOf p 0 (maker_of p M) s w.main w.log.events.items r w.bodies) is_start over.word)
+  thread_at : (r : Run S) → AreGoing p M r → AllThreads (λ t w. HasDone w) r → (t : ℕ) → t < length r.threads.items → (w : Thread S) × HasEndedAt r t w
+  thread_at r going all t low =
+      let any = some_of r.threads.items t low in
+      let w = slice_index_or r.threads.items t any in
+      let d = all t any low in
+      (w, record { result = d.0; low = low; is = same_item r t any w low; number = going.numbers t any low; done = d.1; over = over_of r w d.0 d.1 (going.threads t any low) })
 
-    first : (limits : Limits) → MayGiveUp M limits → IsThreadRun p M start limits 0 main (of_thread 0 report.events) (outcome_by w.why r)
-    first limits gives_up = subst (λ (es : List Event). IsThreadRun p M start limits 0 main es (outcome_by w.why r)) (sym (ap (of_thread 0) events ∙ all_of_zero w.log.events.items zeros)) (record { result = r; end = w.bodies; word = word; outcome = outcome_is limits gives_up r w.why over.reason })
+  word_at : (r : Run S) (t : ℕ) (w : Thread S) (h : HasEndedAt r t w) → ThreadWordOf p t (maker_of p M) w.start.value w.main (of_thread t r.log.events.items) h.result h.over.end
+  word_at r t w h = subst (λ (n : ℕ). ThreadWordOf p n (maker_of p M) w.start.value w.main (of_thread n r.log.events.items) h.result h.over.end) h.number h.over.word
 
-    done : (limits : Limits) → MayGiveUp M limits → AreOutcomes p M (start ∷ []) (main ∷ []) limits report.events report.outcomes
-    done limits gives_up zero m s q v =
-        let same : main ≡ m = cc in
-        let begin : start ≡ s = cc in
-        (outcome_by w.why r, ap (λ (os : List ThreadOutcome). slice_get os 0) outcomes, subst (λ (x : ClassId). IsThreadRun p M s limits 0 x (of_thread 0 report.events) (outcome_by w.why r)) same (subst (λ (x : S). IsThreadRun p M x limits 0 main (of_thread 0 report.events) (outcome_by w.why r)) begin (first limits gives_up)))
-    done limits gives_up (suc t) m s q v = absurd (let z : None ≡ Some m = q in cc)
+  main_at : (r : Run S) (t : ℕ) (w : Thread S) → HasEndedAt r t w → slice_get (mains_of r) t ≡ Some w.main
+  main_at r t w h = slice_get_map (λ v. v.main) r.threads.items t w w h.low h.is
+
+  start_at : (r : Run S) (t : ℕ) (w : Thread S) → HasEndedAt r t w → slice_get (starts_of r) t ≡ Some w.start.value
+  start_at r t w h = slice_get_map (λ v. v.start.value) r.threads.items t w w h.low h.is
+
+  outcome_at : (r : Run S) (t : ℕ) (w : Thread S) (h : HasEndedAt r t w) → slice_get (outcomes_of r) t ≡ Some (outcome_by w.gave_up h.result)
+  outcome_at r t w h = slice_get_map (λ v. outcome_in v.done (outcome_by v.gave_up)) r.threads.items t w w h.low h.is ∙ ap (λ (o : Option Outcome). Some (outcome_in o (outcome_by w.gave_up))) h.done
+
+  pub many_mains : (r : Run S) → length (mains_of r) ≡ length r.threads.items
+  many_mains r = length-map r.threads.items (λ w. w.main)
+
+  module _ (r : Run S) (going : AreGoing p M r) (all : AllThreads (λ t w. HasDone w) r) where
+    events_low : AllByRecursion (λ e. IsProgramEvent p (length (mains_of r)) e) r.log.events.items
+    events_low = subst (λ (n : ℕ). AllByRecursion (λ e. IsProgramEvent p n e) r.log.events.items) (going.count ∙ sym (many_mains r)) going.log.events
+
+    of_threads : (t : ℕ) → MatchOption (slice_get (mains_of r) t) (of_thread t r.log.events.items ≡ []) (λ m. ThreadWord p t m (of_thread t r.log.events.items))
+    of_threads t = ⊎_elim
+        (λ low. let w = thread_at r going all t low in subst (λ (o : Option ClassId). MatchOption o (of_thread t r.log.events.items ≡ []) (λ m. ThreadWord p t m (of_thread t r.log.events.items))) (sym (main_at r t w.0 w.1)) (forget_thread p t (maker_of p M) (word_at r t w.0 w.1)))
+        (λ high. let many = many_mains r in subst (λ (o : Option ClassId). MatchOption o (of_thread t r.log.events.items ≡ []) (λ m. ThreadWord p t m (of_thread t r.log.events.items))) (sym (beyond (mains_of r) t (omega (arith, many, high)))) (none_high (length r.threads.items) t r.log.events.items high (subst (λ (n : ℕ). AllByRecursion (λ e. e.thread < n) r.log.events.items) going.count (all_low p r.log.threads.value r.log.events.items going.log.events))))
+        (below_or t (length r.threads.items))
+
+    legal : IsLegal p (mains_of r) r.log.events.items
+    legal = record { threads = of_threads; classes = λ c. lawful_at p r.log c going.log }
+
+    -- no class is left in progress
+    none_left : (c : ClassId) (t : ℕ) → label_at r.log.events.items c ≢ InProgress t
+    none_left c t q =
+        let events = r.log.events.items in
+        let low : t < length r.threads.items = subst (λ (n : ℕ). t < n) going.count (low_owner r.log.threads.value events c t (all_low p r.log.threads.value events going.log.events) q) in
+        let w = thread_at r going all t low in
+        let counted : AreCounted t c events = lawful_counted p t c events (λ d. (lawful_at p r.log d going.log).labels) in
+        let even : total (begun t c) (of_thread t events) ≡ total (ended t c) (of_thread t events) = thread_even t c p t (word_at r t w.0 w.1) in
+        let part = counted_by_part p t c events in
+        let begun_same : total (begun t c) (of_thread t events) ≡ total (begun t c) events = part.0 in
+        let ended_same : total (ended t c) (of_thread t events) ≡ total (ended t c) events = part.1 in
+        let one : mine t (label_at events c) ≡ 1 = ap (mine t) q ∙ mine_one t in
+        omega (arith, counted, even, begun_same, ended_same, one)
+
+    runs : (limits : Limits) → MayGiveUp M (length (mains_of r)) limits → AreOutcomes p M (starts_of r) (mains_of r) limits r.log.events.items (outcomes_of r)
+    runs limits may t m start is_main is_start =
+        let many = many_mains r in
+        let low = within (mains_of r) t m is_main in
+        let w = thread_at r going all t (omega (arith, many, low)) in
+        let h = w.1 in
+        let main : w.0.main ≡ m = (let same : Some w.0.main ≡ Some m = sym (main_at r t w.0 h) ∙ is_main in cc) in
+        let begin : w.0.start.value ≡ start = (let same : Some w.0.start.value ≡ Some start = sym (start_at r t w.0 h) ∙ is_start in cc) in (
+          outcome_by w.0.gave_up h.result,
+          outcome_at r t w.0 h,
+          subst (λ (c : ClassId). IsThreadRun p M start limits t c (of_thread t r.log.events.items) (outcome_by w.0.gave_up h.result)) main
+              (subst (λ (s : S). IsThreadRun p M s limits t w.0.main (of_thread t r.log.events.items) (outcome_by w.0.gave_up h.result)) begin
+              (record { result = h.result; end = h.over.end; word = word_at r t w.0 h; outcome = outcome_is limits (length (mains_of r)) may h.result w.0.gave_up (λ e q. subst (λ (n : ℕ). IsWhy p M n w.0.gave_up e) (going.count ∙ sym many) (h.over.reason e q)) })),
+        )
+
+    no_memory : (t : ℕ) → slice_get (outcomes_of r) t ≢ Some (outcome.Ended Memory)
+    no_memory t q =
+        let few : length (outcomes_of r) ≡ length r.threads.items = length-map r.threads.items (λ w. outcome_in w.done (outcome_by w.gave_up)) in
+        let low = within (outcomes_of r) t (outcome.Ended Memory) q in
+        let w = thread_at r going all t (omega (arith, few, low)) in
+        not_memory w.0.gave_up w.1.result (let same : Some (outcome_by w.0.gave_up w.1.result) ≡ Some (outcome.Ended Memory) = sym (outcome_at r t w.0 w.1) ∙ q in cc)
+
+    none_to_come : AreToCome (outcomes_of r) r []
+    none_to_come t other low x done = (refl, slice_get_map (λ v. outcome_in v.done (outcome_by v.gave_up)) r.threads.items t other (slice_index_or r.threads.items t other) low refl ∙ ap (λ (o : Option Outcome). Some (outcome_in o (outcome_by (slice_index_or r.threads.items t other).gave_up))) done)
+
+    follows : (order later : List ℕ) (begin : Run S) → AreGone [] begin → begin.log.events.items ≡ [] → Leads p M order [] begin [] later r → Follows p M (starts_of r) (mains_of r) (outcomes_of r) order [] [] r.log.events.items
+    follows order later begin fresh none leads =
+        let gone = leads.have_gone fresh in
+        let f : Follows p M (starts_of r) (mains_of r) (outcomes_of r) [] later r.log.events.items [] = all_ended (λ t low.
+        let many = many_mains r in
+        let inside : t < length r.threads.items = omega (arith, many, low) in
+        let any = some_of r.threads.items t inside in
+        let d = all t any inside in
+        done_ended p M later t r any d.0 (outcomes_of r) [] inside gone d.1 none_to_come) in
+        let events : leads.made ++ [] ≡ r.log.events.items = append-nil leads.made ∙ sym (leads.events ∙ ap (λ (es : List Event). es ++ leads.made) none) in
+        subst (λ (es : List Event). Follows p M (starts_of r) (mains_of r) (outcomes_of r) order [] es r.log.events.items) none
+        (subst (λ (es : List Event). Follows p M (starts_of r) (mains_of r) (outcomes_of r) order [] begin.log.events.items es) events
+        (leads.follows fresh (outcomes_of r) [] none_to_come f))
+
+  pub ordered : (r begin : Run S) (starts : List S) (mains : List ClassId) (order later : List ℕ) (report : Report) → AreGoing p M r → AllThreads (λ t w. HasDone w) r → AreGone [] begin → begin.log.events.items ≡ [] → mains_of begin ≡ mains → starts_of begin ≡ starts → Leads p M order [] begin [] later r →
+      report.outcomes ≡ outcomes_of r → report.events ≡ r.log.events.items → report.labels ≡ labels_of p r.log.events.items → report.output ≡ output_of r.log.events.items → IsOrderedRunOf p M starts mains order report
+  ordered r begin starts mains order later report going all fresh none is_mains is_starts leads outcomes events labels output =
+      subst (λ (ss : List S). IsOrderedRunOf p M ss mains order report) (leads.starts ∙ is_starts)
+      (subst (λ (ms : List ClassId). IsOrderedRunOf p M (starts_of r) ms order report) (leads.mains ∙ is_mains)
+      (record {
+        run = λ limits may. record {
+          legal = subst (λ (es : List Event). IsLegal p (mains_of r) es) (sym events) (legal r going all);
+          events = subst (λ (es : List Event). AllByRecursion (λ e. IsProgramEvent p (length (mains_of r)) e) es) (sym events) (events_low r going all);
+          labels = labels ∙ ap (labels_of p) (sym events);
+          count = ap length outcomes ∙ (length-map r.threads.items (λ w. outcome_in w.done (outcome_by w.gave_up)) ∙ sym (many_mains r));
+          outcomes = subst (λ (os : List ThreadOutcome). AreOutcomes p M (starts_of r) (mains_of r) limits report.events os) (sym outcomes) (subst (λ (es : List Event). AreOutcomes p M (starts_of r) (mains_of r) limits es (outcomes_of r)) (sym events) (runs r going all limits may));
+          finished = λ c t q. none_left r going all c t (ap (λ (es : List Event). label_at es c) (sym events) ∙ q);
+          output = output ∙ ap output_of (sym events);
+        };
+        memory = λ t q. no_memory r going all t (ap (λ (os : List ThreadOutcome). slice_get os t) (sym outcomes) ∙ q);
+        follows = subst (λ (os : List ThreadOutcome). Follows p M (starts_of r) (mains_of r) os order [] [] report.events) (sym outcomes) (subst (λ (es : List Event). Follows p M (starts_of r) (mains_of r) (outcomes_of r) order [] [] es) (sym events) (follows r going all order later begin fresh none leads));
+      }))

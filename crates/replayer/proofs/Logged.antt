@@ -1,4 +1,4 @@
--- What one event more leaves of a log, and what is known of the events of one thread.
+-- What one event more leaves of a log, and what is known of the threads of its events.
 use Rattle.std.proofs.Common.{◌≡◌, ◌≢◌, ◌⊎◌, inl, inr, ℕ, ◌<◌, ◌≤◌, ◌==◌, List, [], ◌∷◌, ◌++◌, Option, Some, None, Bool, true, false, length, slice_get, refl, sym, ap, subst, ◌∙◌, eq-eqb, append-nil, arith}
 use Rattle.std.specs.Prelude.{slice_index_or, slice_set, filter}
 use Rattle.std.specs.List.{AllByRecursion, find}
@@ -19,6 +19,7 @@ use Rattle.init_core.specs.declared.event.Kind.TheVariants as kind
 use Rattle.init_core.specs.declared.event.Label.{Label}
 use Rattle.init_core.specs.declared.event.Label.TheVariants.{InProgress}
 use Rattle.init_core.specs.declared.frames.Ending.TheVariants as ending
+use Rattle.init_core.specs.declared.event.TheConstants.{THREADS}
 use Rattle.init_core.specs.ClassState.{State, IsStateOf, stepped}
 use Rattle.init_core.specs.Decisions.{event}
 use Rattle.init_core.specs.Interleaving.{of_thread, of_class, is_class, label_at}
@@ -39,31 +40,32 @@ pub all_more : (Q : Event → Type 0) (xs : List Event) (e : Event) → AllByRec
 all_more Q [] e a q = (q, tt)
 all_more Q (x ∷ xs) e a q = (a.0, all_more Q xs e a.1 q)
 
--- ---- events of thread 0
+-- ---- the threads of events
 
-abbrev pub AreZero : List Event → Type 0
-AreZero events = AllByRecursion (λ e. e.thread ≡ 0) events
+-- these events are of so many threads
+abbrev pub AreLow : ℕ → List Event → Type 0
+AreLow n events = AllByRecursion (λ e. e.thread < n) events
 
-zero_of : (p : LinkedProgram) (e : Event) → IsProgramEvent p 1 e → e.thread ≡ 0
-zero_of p e (at_class k low within done) = omega (arith, low)
-zero_of p e (prints_text text low is) = omega (arith, low)
+low_of : (p : LinkedProgram) (n : ℕ) (e : Event) → IsProgramEvent p n e → e.thread < n
+low_of p n e (at_class k low within done) = low
+low_of p n e (prints_text text low is) = low
 
-pub all_zero : (p : LinkedProgram) (events : List Event) → AllByRecursion (λ e. IsProgramEvent p 1 e) events → AreZero events
-all_zero p [] a = tt
-all_zero p (e ∷ events) a = (zero_of p e a.0, all_zero p events a.1)
+pub all_low : (p : LinkedProgram) (n : ℕ) (events : List Event) → AllByRecursion (λ e. IsProgramEvent p n e) events → AreLow n events
+all_low p n [] a = tt
+all_low p n (e ∷ events) a = (low_of p n e a.0, all_low p n events a.1)
 
-zero_filtered : (q : Event → Bool) (xs : List Event) → AreZero xs → AreZero (filter q xs)
-zero_filtered q [] a = tt
-zero_filtered q (x ∷ xs) a = at (q x) refl (zero_filtered q xs a.1) where
-  at : (b : Bool) → q x ≡ b → AreZero (filter q xs) → AreZero (filter q (x ∷ xs))
+low_filtered : (n : ℕ) (q : Event → Bool) (xs : List Event) → AreLow n xs → AreLow n (filter q xs)
+low_filtered n q [] a = tt
+low_filtered n q (x ∷ xs) a = at (q x) refl (low_filtered n q xs a.1) where
+  at : (b : Bool) → q x ≡ b → AreLow n (filter q xs) → AreLow n (filter q (x ∷ xs))
   at true e h = rw e (a.0, h)
   at false e h = rw e h
 
-found_zero : (q : Event → Bool) (xs : List Event) (x : Event) → AreZero xs → find q xs ≡ Some x → x.thread ≡ 0
-found_zero q [] x a e = absurd (let z : None ≡ Some x = e in cc)
-found_zero q (y ∷ xs) x a e = at (q y) refl (found_zero q xs x a.1) where
-  at : (b : Bool) → q y ≡ b → (find q xs ≡ Some x → x.thread ≡ 0) → x.thread ≡ 0
-  at true z further = let found : Some y ≡ Some x = rw z at e in let same : y ≡ x = cc in subst (λ (v : Event). v.thread ≡ 0) same a.0
+found_low : (n : ℕ) (q : Event → Bool) (xs : List Event) (x : Event) → AreLow n xs → find q xs ≡ Some x → x.thread < n
+found_low n q [] x a e = absurd (let z : None ≡ Some x = e in cc)
+found_low n q (y ∷ xs) x a e = at (q y) refl (found_low n q xs x a.1) where
+  at : (b : Bool) → q y ≡ b → (find q xs ≡ Some x → x.thread < n) → x.thread < n
+  at true z further = let found : Some y ≡ Some x = rw z at e in let same : y ≡ x = cc in subst (λ (v : Event). v.thread < n) same a.0
   at false z further = further (rw z at e)
 
 owner_of : (f c b : Option Event) (u : ℕ) → label_by f c b ≡ InProgress u → (x : Event) × (b ≡ Some x) × (x.thread ≡ u)
@@ -72,19 +74,23 @@ owner_of None (Some x) b u q = absurd cc
 owner_of None None (Some x) u q = (x, refl, cc)
 owner_of None None None u q = absurd cc
 
--- a class is in progress by that thread alone
-pub lone_owner : (events : List Event) (c : ClassId) (u : ℕ) → AreZero events → label_at events c ≡ InProgress u → u ≡ 0
-lone_owner events c u a q =
+-- a class is in progress by one of these threads
+pub low_owner : (n : ℕ) (events : List Event) (c : ClassId) (u : ℕ) → AreLow n events → label_at events c ≡ InProgress u → u < n
+low_owner n events c u a q =
     let x = owner_of _ _ (find is_beginning (of_class c events)) u q in
-    sym x.2 ∙ found_zero is_beginning (of_class c events) x.0 (zero_filtered (λ e. is_class c e.class) events a) x.1
+    subst (λ (v : ℕ). v < n) x.2 (found_low n is_beginning (of_class c events) x.0 (low_filtered n (λ e. is_class c e.class) events a) x.1)
 
-pub all_of_zero : (events : List Event) → AreZero events → of_thread 0 events ≡ events
-all_of_zero [] a = refl
-all_of_zero (e ∷ events) a = rw (eq-eqb e.thread 0 a.0) (ap (λ (es : List Event). e ∷ es) (all_of_zero events a.1))
+pub none_high : (n t : ℕ) (events : List Event) → n ≤ t → AreLow n events → of_thread t events ≡ []
+none_high n t [] high a = refl
+none_high n t (e ∷ events) high a = let low : e.thread < n = a.0 in rw (ne_eqb e.thread t (λ q. absurd (omega arith))) (none_high n t events high a.1)
 
-pub none_of_others : (t : ℕ) (events : List Event) → t ≢ 0 → AreZero events → of_thread t events ≡ []
-none_of_others t [] n a = refl
-none_of_others t (e ∷ events) n a = rw (ne_eqb e.thread t (λ q. n (sym q ∙ a.0))) (none_of_others t events n a.1)
+-- one event more of a thread
+pub own_more : (t : ℕ) (events : List Event) (e : Event) → e.thread ≡ t → of_thread t (events ++ e ∷ []) ≡ of_thread t events ++ e ∷ []
+own_more t events e q = filter-append (λ x. x.thread == t) events (e ∷ []) ∙ ap (λ (es : List Event). of_thread t events ++ es) (rw (eq-eqb e.thread t q) refl)
+
+-- or of another
+pub own_same : (t : ℕ) (events : List Event) (e : Event) → e.thread ≢ t → of_thread t (events ++ e ∷ []) ≡ of_thread t events
+own_same t events e n = filter-append (λ x. x.thread == t) events (e ∷ []) ∙ (ap (λ (es : List Event). of_thread t events ++ es) (rw (ne_eqb e.thread t n) refl) ∙ append-nil (of_thread t events))
 
 -- ---- what was written
 
@@ -102,15 +108,15 @@ writes_in p c kind.Completes h = tt
 writes_in p c (kind.Fails e) h = tt
 writes_in p c (kind.Prints text) h = absurd h
 
-write_held : (p : LinkedProgram) (c : ClassId) (e : Event) → IsProgramEvent p 1 e → e.class ≡ Some c → WritesHeld (statics_of p c) e
-write_held p c e (at_class {c = d} k low within done) q = let same : d ≡ c = cc in subst (λ (x : ClassId). WritesHeldIn (statics_of p x) k) same (writes_in p d k done)
-write_held p c e (prints_text text low is) q = absurd (let z : None ≡ Some c = q in cc)
+write_held : (p : LinkedProgram) (n : ℕ) (c : ClassId) (e : Event) → IsProgramEvent p n e → e.class ≡ Some c → WritesHeld (statics_of p c) e
+write_held p n c e (at_class {c = d} k low within done) q = let same : d ≡ c = cc in subst (λ (x : ClassId). WritesHeldIn (statics_of p x) k) same (writes_in p d k done)
+write_held p n c e (prints_text text low is) q = absurd (let z : None ≡ Some c = q in cc)
 
-pub writes_held : (p : LinkedProgram) (c : ClassId) (events : List Event) → AllByRecursion (λ e. IsProgramEvent p 1 e) events → AllByRecursion (λ e. WritesHeld (statics_of p c) e) (of_class c events)
-writes_held p c [] a = tt
-writes_held p c (e ∷ events) a = at (is_class c e.class) refl (writes_held p c events a.1) where
+pub writes_held : (p : LinkedProgram) (n : ℕ) (c : ClassId) (events : List Event) → AllByRecursion (λ e. IsProgramEvent p n e) events → AllByRecursion (λ e. WritesHeld (statics_of p c) e) (of_class c events)
+writes_held p n c [] a = tt
+writes_held p n c (e ∷ events) a = at (is_class c e.class) refl (writes_held p n c events a.1) where
   at : (b : Bool) → is_class c e.class ≡ b → AllByRecursion (λ x. WritesHeld (statics_of p c) x) (of_class c events) → AllByRecursion (λ x. WritesHeld (statics_of p c) x) (of_class c (e ∷ events))
-  at true q h = rw q (write_held p c e a.0 (class_is c e.class q), h)
+  at true q h = rw q (write_held p n c e a.0 (class_is c e.class q), h)
   at false q h = rw q h
 
 -- ---- one event more
@@ -119,10 +125,10 @@ same_class : (c d : ClassId) → (c.number == d.number) ≡ true → c ≡ d
 same_class c d e = let q : Some d ≡ Some c = sym (class_is d (Some c) e) in cc
 
 -- it is seen of its class
-pub sees_one : (events : List Event) (c : ClassId) (k : Kind) → Allows (label_at events c) 0 k → SeesMore (histories events) (λ d. of_class d (event 0 c k ∷ [])) (histories (events ++ event 0 c k ∷ []))
-sees_one events c k ok = record { adds = λ d. filter-append (λ e. is_class d e.class) events (event 0 c k ∷ []); agrees = λ d. at d (c.number == d.number) refl } where
-  at : (d : ClassId) (b : Bool) → (c.number == d.number) ≡ b → AgreesAfter (of_class d events) (of_class d (event 0 c k ∷ []))
-  at d true e = rw e (subst (λ (x : ClassId). Allows (label_at events x) 0 k) (same_class c d e) ok, tt)
+pub sees_one : (t : ℕ) (events : List Event) (c : ClassId) (k : Kind) → Allows (label_at events c) t k → SeesMore (histories events) (λ d. of_class d (event t c k ∷ [])) (histories (events ++ event t c k ∷ []))
+sees_one t events c k ok = record { adds = λ d. filter-append (λ e. is_class d e.class) events (event t c k ∷ []); agrees = λ d. at d (c.number == d.number) refl } where
+  at : (d : ClassId) (b : Bool) → (c.number == d.number) ≡ b → AgreesAfter (of_class d events) (of_class d (event t c k ∷ []))
+  at d true e = rw e (subst (λ (x : ClassId). Allows (label_at events x) t k) (same_class c d e) ok, tt)
   at d false e = rw e tt
 
 pub sees_none : (events : List Event) → SeesMore (histories events) (λ d. []) (histories events)
@@ -155,39 +161,40 @@ module _ (p : LinkedProgram) where
   state_of l c r log within at = subst (λ (x : State). IsStateAfter p l.events.items c x) (sym at) (log.states c.number r within)
 
   -- a class has an event more
-  pub added : (l m : EventLog) (c : ClassId) (k : Kind) (r new : State) → IsLog p l → IsOfFiles p c → r ≡ slice_index_or l.states.items c.number r → new ≡ stepped r 0 k → m.states.items ≡ slice_set l.states.items c.number new → m.events.items ≡ l.events.items ++ event 0 c k ∷ [] →
-      Allows (label_at l.events.items c) 0 k → IsDoneAt p c k → IsInRange k → Holds (statics_of p c) (of_class c l.events.items) k → IsLog p m
-  added l m c k r new log within at is states events ok done range holds = record {
+  pub added : (l m : EventLog) (t : ℕ) (c : ClassId) (k : Kind) (r new : State) → m.threads ≡ l.threads → t < l.threads.value → IsLog p l → IsOfFiles p c → r ≡ slice_index_or l.states.items c.number r → new ≡ stepped r t k → m.states.items ≡ slice_set l.states.items c.number new → m.events.items ≡ l.events.items ++ event t c k ∷ [] →
+      Allows (label_at l.events.items c) t k → IsDoneAt p c k → IsInRange k → Holds (statics_of p c) (of_class c l.events.items) k → IsLog p m
+  added l m t c k r new threads low log within at is states events ok done range holds = record {
+    few = subst (λ (n : ℕ). n ≤ THREADS) (sym (ap (λ x. x.value) threads)) log.few;
     count = ap length states ∙ (length-set l.states.items c.number new ∙ log.count);
     states = λ n other below. subst (λ (es : List Event). IsStateAfter p es (id n) (slice_index_or m.states.items n other)) (sym events)
-        (subst (λ (ss : List State). IsStateAfter p (l.events.items ++ event 0 c k ∷ []) (id n) (slice_index_or ss n other)) (sym states) (by_number n other below (eqb_tells n c.number)));
-    events = subst (λ (es : List Event). AllByRecursion (λ e. IsProgramEvent p 1 e) es) (sym events) (all_more (λ e. IsProgramEvent p 1 e) l.events.items (event 0 c k) log.events (at_class k (omega arith) within done));
+        (subst (λ (ss : List State). IsStateAfter p (l.events.items ++ event t c k ∷ []) (id n) (slice_index_or ss n other)) (sym states) (by_number n other below (eqb_tells n c.number)));
+    events = subst (λ (n : ℕ). AllByRecursion (λ e. IsProgramEvent p n e) m.events.items) (sym (ap (λ x. x.value) threads)) (subst (λ (es : List Event). AllByRecursion (λ e. IsProgramEvent p l.threads.value e) es) (sym events) (all_more (λ e. IsProgramEvent p l.threads.value e) l.events.items (event t c k) log.events (at_class k low within done)));
   } where
     old : IsStateAfter p l.events.items c r
     old = state_of l c r log within at
 
-    more : IsStateOf (stepped r 0 k) (of_class c l.events.items ++ event 0 r.class k ∷ [])
-    more = state_after r (of_class c l.events.items) 0 k (omega arith) (subst (λ (x : Label). Allows x 0 k) (sym old.state.label) ok) old.state range (subst (λ (fs : List StaticField). Holds fs (of_class c l.events.items) k) (sym old.fields) holds)
+    more : IsStateOf (stepped r t k) (of_class c l.events.items ++ event t r.class k ∷ [])
+    more = state_after r (of_class c l.events.items) t k (let few = log.few in omega arith) (subst (λ (x : Label). Allows x t k) (sym old.state.label) ok) old.state range (subst (λ (fs : List StaticField). Holds fs (of_class c l.events.items) k) (sym old.fields) holds)
 
-    here : of_class c (l.events.items ++ event 0 c k ∷ []) ≡ of_class c l.events.items ++ event 0 c k ∷ []
-    here = one_more l.events.items (event 0 c k) c (eq-eqb c.number c.number refl)
+    here : of_class c (l.events.items ++ event t c k ∷ []) ≡ of_class c l.events.items ++ event t c k ∷ []
+    here = one_more l.events.items (event t c k) c (eq-eqb c.number c.number refl)
 
-    after : IsStateAfter p (l.events.items ++ event 0 c k ∷ []) c (stepped r 0 k)
+    after : IsStateAfter p (l.events.items ++ event t c k ∷ []) c (stepped r t k)
     after = record {
       class = old.class;
       fields = old.fields;
-      state = subst (IsStateOf (stepped r 0 k)) (sym here) (subst (λ (d : ClassId). IsStateOf (stepped r 0 k) (of_class c l.events.items ++ event 0 d k ∷ [])) old.class more);
+      state = subst (IsStateOf (stepped r t k)) (sym here) (subst (λ (d : ClassId). IsStateOf (stepped r t k) (of_class c l.events.items ++ event t d k ∷ [])) old.class more);
     }
 
     same_length : length l.states.items ≡ length p.classes
     same_length = log.count
 
-    by_number : (n : ℕ) (other : State) → n < length p.classes → ((n == c.number) ≡ true × (n ≡ c.number)) ⊎ (((n == c.number) ≡ false) × (n ≢ c.number)) → IsStateAfter p (l.events.items ++ event 0 c k ∷ []) (id n) (slice_index_or (slice_set l.states.items c.number new) n other)
+    by_number : (n : ℕ) (other : State) → n < length p.classes → ((n == c.number) ≡ true × (n ≡ c.number)) ⊎ (((n == c.number) ≡ false) × (n ≢ c.number)) → IsStateAfter p (l.events.items ++ event t c k ∷ []) (id n) (slice_index_or (slice_set l.states.items c.number new) n other)
     by_number n other below (inl x) =
         let it : slice_index_or (slice_set l.states.items c.number new) c.number other ≡ new = get_or-set_same l.states.items c.number new other (omega (arith, within, same_length)) in
-        rw x.1 (rw it (subst (λ (s : State). IsStateAfter p (l.events.items ++ event 0 c k ∷ []) c s) (sym is) after))
+        rw x.1 (rw it (subst (λ (s : State). IsStateAfter p (l.events.items ++ event t c k ∷ []) c s) (sym is) after))
     by_number n other below (inr x) =
         let it : slice_index_or (slice_set l.states.items c.number new) n other ≡ slice_index_or l.states.items n other = get_or-set_other l.states.items c.number n new other x.1 in
         let o = log.states n other below in
-        let still : of_class (id n) (l.events.items ++ event 0 c k ∷ []) ≡ of_class (id n) l.events.items = no_more l.events.items (event 0 c k) (id n) (ne_eqb c.number n (λ e. x.1 (sym e))) in
+        let still : of_class (id n) (l.events.items ++ event t c k ∷ []) ≡ of_class (id n) l.events.items = no_more l.events.items (event t c k) (id n) (ne_eqb c.number n (λ e. x.1 (sym e))) in
         rw it (record { class = o.class; fields = o.fields; state = subst (IsStateOf (slice_index_or l.states.items n other)) (sym still) o.state })

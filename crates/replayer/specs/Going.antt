@@ -1,84 +1,139 @@
--- Where the run of one thread stands, by its bodies.
-use Rattle.std.specs.Prelude.{◌≡◌, ◌≢◌, [], Some, None, true, false}
+-- Where a thread of a run stands, by its bodies.
+use Rattle.std.specs.Prelude.{◌≡◌, ◌≢◌, ◌⊎◌, ℕ, ◌<◌, [], Some, None, Bool, true, false, Option}
 use Rattle.hierarchy.specs.declared.class.ClassId.{ClassId}
 use Rattle.hierarchy.specs.declared.built_in.BuiltIn.TheVariants.{InternalError}
 use Rattle.hierarchy.specs.LinkedProgram.{LinkedProgram, built_in}
 use Rattle.init_core.specs.declared.frames.Outcome.{Outcome}
 use Rattle.init_core.specs.declared.frames.Outcome.TheVariants.{Normal, Abrupt, Ended}
-use Rattle.init_core.specs.Advance.{MayRequest}
+use Rattle.init_core.specs.declared.procedure.Next.TheVariants as next
+use Rattle.init_core.specs.Advance.{MayRequest, is_waiting, next_of}
+use Rattle.init_core.specs.Decisions.{waits}
+use Rattle.init_core.specs.Interleaving.{of_thread}
 use Rattle.init_core.specs.ProcedureWord.{ThreadWordOf, GoesOn, IsOfFiles}
-use Rattle.init_core.specs.Standing.{Standing}
 use Rattle.init_core.specs.Stands.{ending_error}
 use Rattle.trace.specs.declared.report.Limit.{Limit}
-use Rattle.trace.specs.declared.report.Limit.TheVariants.{Memory}
+use Rattle.trace.specs.declared.report.Limit.TheVariants.{Patience, Steps}
 use Rattle.trace.specs.declared.report.Limits.{Limits}
 use Rattle.trace.specs.declared.report.ThreadOutcome.{ThreadOutcome}
 use Rattle.trace.specs.declared.report.ThreadOutcome.TheVariants as outcome
 use Rattle.bodies.specs.declared.does.Does.{Does}
+use Rattle.bodies.specs.declared.does.Does.TheVariants.{Waits}
 use Rattle.bodies.specs.Doing.{MayDo}
 use Rattle.bodies.specs.Making.{Making, HasCome, maker_of}
 use Rattle.bodies.specs.Runs.{IsEndedAt}
 use Rattle.bodies.specs.ThreadStands.{ThreadStands}
-use Rattle.replayer.specs.declared.run.Run.{Run}
-use Rattle.replayer.specs.Logged.{IsLog, histories}
-use Rattle.replayer.specs.OrderedRun.{MayGiveUp}
+use Rattle.replayer.specs.declared.log.EventLog.{EventLog}
+use Rattle.replayer.specs.declared.thread.Thread.{Thread}
+use Rattle.replayer.specs.declared.thread.Turn.{Turn}
+use Rattle.replayer.specs.declared.thread.Turn.TheVariants as turn
+use Rattle.replayer.specs.Logged.{IsLog, HasMade, histories}
+use Rattle.replayer.specs.OrderedRun.{MayGiveUp, WaitsFor}
 
--- the machine may end the thread at this limit, by this error; for want of memory there is no report
-pub record IsWhy {S : Type 0} (p : LinkedProgram) (M : Making S) (l : Limit) (e : ClassId) : Type 0 where
-  pub ends : (limits : Limits) → MayGiveUp M limits → IsEndedAt p M limits l e
-  pub memory : l ≢ Memory
+-- what the machine ends a thread for: its patience, where it gave up, and else the limit of its steps
+abbrev pub limit_by : Bool → Limit
+limit_by true = Patience
+limit_by false = Steps
 
--- how the thread ended, by the result of what it did, and by what the machine ended it for, if it did
-abbrev pub outcome_by : Limit → Outcome → ThreadOutcome
-outcome_by why Normal = outcome.Normal
-outcome_by why (Abrupt e) = outcome.Abrupt e
-outcome_by why (Ended e) = outcome.Ended why
+-- one of so many threads may be ended so, by this error
+abbrev pub IsWhy : {S : Type 0} → LinkedProgram → Making S → ℕ → Bool → ClassId → Type 0
+IsWhy p M threads gave_up e = (limits : Limits) → MayGiveUp M threads limits → IsEndedAt p M limits (limit_by gave_up) e
 
--- its procedures and bodies stand so
-abbrev pub RunStands : {S : Type 0} → LinkedProgram → Making S → Run S → Standing → S → Type 0
-RunStands p M w s z = ThreadStands p 0 M w.start.value w.main w.in_main s w.log.events.items (histories w.log.events.items) z
+-- how a thread ended, by the result of what it did
+abbrev pub outcome_by : Bool → Outcome → ThreadOutcome
+outcome_by gave_up Normal = outcome.Normal
+outcome_by gave_up (Abrupt e) = outcome.Abrupt e
+outcome_by gave_up (Ended e) = outcome.Ended (limit_by gave_up)
 
--- where the run stands
-pub record Going {S : Type 0} (p : LinkedProgram) (M : Making S) (w : Run S) : Type 0 where
+-- where a thread stands that hasn't ended
+pub record Going {S : Type 0} (p : LinkedProgram) (M : Making S) (l : EventLog) (w : Thread S) : Type 0 where
+  pub number : w.number < l.threads.value
   pub main : IsOfFiles p w.main
-  pub log : IsLog p w.log
-  pub stands : RunStands p M w w.procedure w.bodies
+  pub log : IsLog p l
+  pub stands : ThreadStands p w.number M w.start.value w.main w.in_main w.procedure (of_thread w.number l.events.items) (histories l.events.items) w.bodies
   -- its first request was made
   pub begun : w.in_main ≡ false → w.procedure.frames ≡ [] → w.procedure.last ≢ None
-  pub reason : (e : ClassId) → ending_error w.procedure ≡ Some e → IsWhy p M w.why e
+  pub reason : (e : ClassId) → ending_error w.procedure ≡ Some e → IsWhy p M l.threads.value w.gave_up e
+  -- until it gives up, its last event at a class is a step 2 only where it waits there
+  pub calm : w.gave_up ≡ false → (c : ClassId) → waits w.number (histories l.events.items c) ≡ true → is_waiting c w.procedure.frames ≡ true
+  -- and then the machine is ending it
+  pub gone : w.gave_up ≡ true → ending_error w.procedure ≢ None
 
--- the same main class, and the same start
-pub record IsSameRun {S : Type 0} (before after : Run S) : Type 0 where
+-- the same thread, which gave up before or didn't
+pub record IsSameThread {S : Type 0} (before after : Thread S) : Type 0 where
+  pub number : after.number ≡ before.number
   pub main : after.main ≡ before.main
   pub start : after.start ≡ before.start
+  pub gave_up : after.gave_up ≡ before.gave_up
+  pub done : after.done ≡ before.done
 
 -- it is in a body: of an initializer behind step 9, or of main
-pub record IsInBody {S : Type 0} (w : Run S) : Type 0 where
+pub record IsInBody {S : Type 0} (w : Thread S) : Type 0 where
   pub requests : MayRequest w.procedure.frames
   pub main : w.procedure.frames ≡ [] → w.in_main ≡ true
 
 -- what runs its bodies has come from where they stand to where the machine may end the innermost
-pub record HasComeTo {S : Type 0} (p : LinkedProgram) (M : Making S) (w : Run S) : Type 0 where
+pub record HasComeTo {S : Type 0} (p : LinkedProgram) (M : Making S) (l : EventLog) (w : Thread S) : Type 0 where
   pub from : S
-  pub going : Going p M (record w { bodies = from })
+  pub going : Going p M l (record w { bodies = from })
   pub body : IsInBody w
   pub come : HasCome M from w.procedure.last w.bodies
 
 -- what runs its bodies has come to what the innermost does next
-pub record IsDoing {S : Type 0} (p : LinkedProgram) (M : Making S) (d : Does) (w : Run S) : Type 0 where
+pub record IsDoing {S : Type 0} (p : LinkedProgram) (M : Making S) (l : EventLog) (d : Does) (w : Thread S) : Type 0 where
   pub from : S
-  pub going : Going p M (record w { bodies = from })
+  pub going : Going p M l (record w { bodies = from })
   pub body : IsInBody w
   pub goes_on : GoesOn w.procedure.last
   pub does : M.does from w.procedure.last d w.bodies
   pub fits : MayDo p M w.procedure.last d
 
--- the thread has ended with this result
-pub record IsOver {S : Type 0} (p : LinkedProgram) (M : Making S) (r : Outcome) (w : Run S) : Type 0 where
-  pub log : IsLog p w.log
-  pub word : ThreadWordOf p 0 (maker_of p M) w.start.value w.main w.log.events.items r w.bodies
-  pub reason : (e : ClassId) → r ≡ Ended e → IsWhy p M w.why e
+-- where a thread stands, in a body maybe after it has come to something that another thread holds
+abbrev pub Resting : {S : Type 0} → LinkedProgram → Making S → EventLog → Thread S → Type 0
+Resting p M l w = Going p M l w ⊎ IsDoing p M l Waits w
 
--- the error by which the machine ends the thread at a limit other than memory
+-- the thread has ended with this result
+pub record IsOver {S : Type 0} (p : LinkedProgram) (M : Making S) (l : EventLog) (r : Outcome) (w : Thread S) : Type 0 where
+  pub number : w.number < l.threads.value
+  pub end : S
+  pub word : ThreadWordOf p w.number (maker_of p M) w.start.value w.main (of_thread w.number l.events.items) r end
+  pub reason : (e : ClassId) → r ≡ Ended e → IsWhy p M l.threads.value w.gave_up e
+
+-- it stands in a body at something that another thread holds
+pub record IsKeptOut {S : Type 0} (p : LinkedProgram) (M : Making S) (l : EventLog) (w : Thread S) : Type 0 where
+  pub resting : Resting p M l w
+  pub body : IsInBody w
+  pub goes_on : GoesOn w.procedure.last
+  pub waits : M.waits w.bodies
+
+-- it waits for a class, or in a body
+pub data IsPaused {S : Type 0} (p : LinkedProgram) (M : Making S) (l : EventLog) (w : Thread S) : Type 0 where
+  at_class : (c : ClassId) → Going p M l w → next_of w.procedure.frames ≡ next.Look c → WaitsFor w.number l.events.items c → IsPaused p M l w
+  in_body : IsKeptOut p M l w → IsPaused p M l w
+
+-- it has made an event, and didn't wait before unless it gave up
+pub record HasStepped {S : Type 0} (p : LinkedProgram) (M : Making S) (l : EventLog) (w : Thread S) (m : EventLog) (x : Thread S) : Type 0 where
+  pub going : Going p M m x
+  pub made : HasMade w.number l m
+  pub free : w.gave_up ≡ false → (c : ClassId) → WaitsFor w.number l.events.items c → ⊥
+
+-- it goes on, or has ended with this result
+abbrev pub GoesOrEnds : {S : Type 0} → LinkedProgram → Making S → EventLog → Thread S → Option Outcome → Type 0
+GoesOrEnds p M l x None = Going p M l x
+GoesOrEnds p M l x (Some r) = IsOver p M l r x
+
+-- a turn without an event, by how the thread ended, if it did
+abbrev pub turn_by : Option Outcome → Turn
+turn_by None = turn.Silent
+turn_by (Some r) = turn.Ended r
+
+-- what a turn of a thread comes to, from w and the log l to x and the log m
+abbrev pub TurnsTo : {S : Type 0} → LinkedProgram → Making S → EventLog → Thread S → EventLog → Thread S → Turn → Type 0
+TurnsTo p M l w m x turn.Event = HasStepped p M l w m x
+TurnsTo p M l w m x turn.Silent = Going p M m x × (m ≡ l)
+TurnsTo p M l w m x turn.Comes = IsDoing p M m Waits x × (m ≡ l)
+TurnsTo p M l w m x turn.Waits = IsPaused p M m x × (m ≡ l)
+TurnsTo p M l w m x (turn.Ended r) = IsOver p M m r x × (m ≡ l)
+
+-- the error by which the machine ends the thread
 abbrev pub limit_error : LinkedProgram → ClassId
 limit_error p = built_in p InternalError

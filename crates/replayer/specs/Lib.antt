@@ -1,3 +1,4 @@
 pub mod OrderedRun
 pub mod Logged
 pub mod Going
+pub mod AllGoing

@@ -1,13 +1,14 @@
 //! What a body does, of an initializer behind step 9 or of `main`.
 
-ghost use Rattle.std.specs.Prelude.{◌≡◌, ◌≢◌, IfOk, OnOk, MatchOption};
+ghost use Rattle.std.specs.Prelude.{◌≡◌, ◌⊎◌, IfOk, OnOk, false};
 ghost use Rattle.init_core.specs.declared.frames.Outcome.TheVariants.{Ended};
 ghost use Rattle.init_core.specs.Advance.{FitsBody};
 ghost use Rattle.init_core.specs.ProcedureWord.{GoesOn, given_up};
 ghost use Rattle.bodies.specs.declared.does.Does.TheVariants as does;
-ghost use Rattle.replayer.specs.Going.{Going, IsDoing, IsInBody, HasComeTo, IsOver, IsSameRun, IsWhy, limit_error};
+ghost use Rattle.replayer.specs.Going.{Going, GoesOrEnds, HasStepped, IsDoing, IsInBody, HasComeTo, IsSameThread, IsWhy, Resting, TurnsTo};
 
-use crate::run::Run;
+use crate::log::EventLog;
+use crate::thread::{Thread, Turn, turn_of};
 use bodies::{Bodies, Does};
 use hierarchy::{BuiltIn, ClassId, Program, Value};
 use init_core::{Kind, Outcome};
@@ -15,15 +16,24 @@ use sequence::Text;
 use std::alloc::{AllocError, Global};
 use trace::Limit;
 
-impl<B: Bodies> Run<B> {
-    /// The body is ended by this error of the machine. In `main` that is how the thread ends.
-    fn leave(&mut self, program: &Program, error: ClassId) -> Option<Outcome>
-        requires come { HasComeTo program.now (B.making program.now) self.old }
+impl<B: Bodies> Thread<B> {
+    /// The body is ended by this error of the machine, for patience or not. In `main` that is how the thread ends.
+    pub(crate) fn leave(
+        &mut self,
+        program: &Program,
+        log: &EventLog,
+        error: ClassId,
+        gave_up: bool,
+    ) -> Option<Outcome>
+        requires come { HasComeTo program.now (B.making program.now) log.now self.old }
         requires fits { FitsBody program.now (given_up self.old.procedure.last) (Ended error) }
-        requires why { IsWhy program.now (B.making program.now) self.old.why error }
-        ensures going { MatchOption result (Going program.now (B.making program.now) self.new) (λ r. IsOver program.now (B.making program.now) r self.new) }
-        ensures same { IsSameRun self.old self.new }
+        requires why { IsWhy program.now (B.making program.now) log.now.threads.value gave_up error }
+        requires was { (self.old.gave_up ≡ false) ⊎ (gave_up ≡ self.old.gave_up) }
+        ensures going { GoesOrEnds program.now (B.making program.now) log.now self.new result }
+        ensures same { IsSameThread (record self.old { gave_up = gave_up }) self.new }
     {
+        let _ = &log.events;
+        self.gave_up = gave_up;
         self.bodies.leave(program);
         if self.procedure.is_running() {
             self.procedure.end_body(Outcome::Ended(error));
@@ -32,36 +42,36 @@ impl<B: Bodies> Run<B> {
         Some(Outcome::Ended(error))
     }
 
-    /// The machine ends the thread at this limit, in a body.
-    fn leave_at(&mut self, program: &Program, limit: Limit) -> Option<Outcome>
-        requires come { HasComeTo program.now (B.making program.now) self.old }
-        requires goes_on { GoesOn self.old.procedure.last }
-        requires limit { IsWhy program.now (B.making program.now) limit (limit_error program.now) }
-        ensures going { MatchOption result (Going program.now (B.making program.now) self.new) (λ r. IsOver program.now (B.making program.now) r self.new) }
-        ensures same { IsSameRun self.old self.new }
-    {
-        self.why = limit;
-        self.leave(program, program.built_in(BuiltIn::InternalError))
-    }
-
     /// An active use of a class. An `Err` is out of memory.
-    fn use_class(&mut self, program: &Program, class: ClassId) -> Result<(), AllocError>
-        requires { IsDoing program.now (B.making program.now) (does.Asks class) self.old }
-        ensures going { OnOk result (Going program.now (B.making program.now) self.new) }
-        ensures same { IsSameRun self.old self.new }
+    fn use_class(
+        &mut self,
+        program: &Program,
+        log: &EventLog,
+        class: ClassId,
+    ) -> Result<(), AllocError>
+        requires { IsDoing program.now (B.making program.now) log.now (does.Asks class) self.old }
+        ensures going { OnOk result (Going program.now (B.making program.now) log.now self.new) }
+        ensures same { IsSameThread self.old self.new }
     {
+        let _ = &log.events;
         self.procedure.request(class)?;
         Ok(())
     }
 
     /// A read of a static field. An `Err` is out of memory.
-    fn read(&mut self, program: &Program, class: ClassId, field: usize) -> Result<(), AllocError>
-        requires { IsDoing program.now (B.making program.now) (does.Gets class field) self.old }
-        ensures going { OnOk result (Going program.now (B.making program.now) self.new) }
-        ensures same { IsSameRun self.old self.new }
+    fn read(
+        &mut self,
+        program: &Program,
+        log: &mut EventLog,
+        class: ClassId,
+        field: usize,
+    ) -> Result<(), AllocError>
+        requires { IsDoing program.now (B.making program.now) log.old (does.Gets class field) self.old }
+        ensures stepped { OnOk result (HasStepped program.now (B.making program.now) log.old self.old log.new self.new) }
+        ensures same { IsSameThread self.old self.new }
     {
-        let value = self.log.state(class).value(field);
-        self.log.add(program, class, Kind::Gets { field, value })?;
+        let value = log.state(class).value(field);
+        log.add(program, self.number, class, Kind::Gets { field, value })?;
         self.procedure.forget_last();
         self.bodies.get(program, value);
         Ok(())
@@ -71,27 +81,34 @@ impl<B: Bodies> Run<B> {
     fn write(
         &mut self,
         program: &Program,
+        log: &mut EventLog,
         class: ClassId,
         field: usize,
         given: Value,
     ) -> Result<(), AllocError>
-        requires { IsDoing program.now (B.making program.now) (does.Puts class field given) self.old }
-        ensures going { OnOk result (Going program.now (B.making program.now) self.new) }
-        ensures same { IsSameRun self.old self.new }
+        requires { IsDoing program.now (B.making program.now) log.old (does.Puts class field given) self.old }
+        ensures stepped { OnOk result (HasStepped program.now (B.making program.now) log.old self.old log.new self.new) }
+        ensures same { IsSameThread self.old self.new }
     {
-        let value = self.log.state(class).kept(field, given);
-        self.log.add(program, class, Kind::Puts { field, value })?;
+        let value = log.state(class).kept(field, given);
+        log.add(program, self.number, class, Kind::Puts { field, value })?;
         self.procedure.forget_last();
         Ok(())
     }
 
     /// A print. An `Err` is out of memory.
-    fn print(&mut self, alloc: Global, program: &Program, text: Text) -> Result<(), AllocError>
-        requires { IsDoing program.now (B.making program.now) (does.Prints text) self.old }
-        ensures going { OnOk result (Going program.now (B.making program.now) self.new) }
-        ensures same { IsSameRun self.old self.new }
+    fn print(
+        &mut self,
+        alloc: Global,
+        program: &Program,
+        log: &mut EventLog,
+        text: Text,
+    ) -> Result<(), AllocError>
+        requires { IsDoing program.now (B.making program.now) log.old (does.Prints text) self.old }
+        ensures stepped { OnOk result (HasStepped program.now (B.making program.now) log.old self.old log.new self.new) }
+        ensures same { IsSameThread self.old self.new }
     {
-        self.log.print(alloc, text)?;
+        log.print(alloc, self.number, text)?;
         self.procedure.forget_last();
         Ok(())
     }
@@ -101,12 +118,14 @@ impl<B: Bodies> Run<B> {
         &mut self,
         alloc: Global,
         program: &Program,
+        log: &EventLog,
         thrown: Option<ClassId>,
     ) -> Option<Outcome>
-        requires { IsDoing program.now (B.making program.now) (does.Over thrown) self.old }
-        ensures going { MatchOption result (Going program.now (B.making program.now) self.new) (λ r. IsOver program.now (B.making program.now) r self.new) }
-        ensures same { IsSameRun self.old self.new }
+        requires { IsDoing program.now (B.making program.now) log.now (does.Over thrown) self.old }
+        ensures going { GoesOrEnds program.now (B.making program.now) log.now self.new result }
+        ensures same { IsSameThread self.old self.new }
     {
+        let _ = &log.events;
         if !self.procedure.is_running() {
             return Some(match thrown {
                 None => Outcome::Normal,
@@ -122,38 +141,59 @@ impl<B: Bodies> Run<B> {
         None
     }
 
-    /// What the innermost body does next, and how the thread ended where that was its end. Nobody can let a body go on that
-    /// waits: it gives up. An `Err` is out of memory, of the machine or of what runs the bodies.
-    #[tactic(auto, using(crate::proofs::Acting::gives_up_waiting))]
+    /// What the innermost body does next, which goes on.
+    fn next(&mut self, alloc: Global, program: &Program, log: &EventLog) -> Does
+        requires resting { Resting program.now (B.making program.now) log.now self.old }
+        requires body { IsInBody self.old }
+        requires goes_on { GoesOn self.old.procedure.last }
+        ensures doing { IsDoing program.now (B.making program.now) log.now result self.new }
+        ensures same { IsSameThread self.old self.new }
+    {
+        let _ = &log.events;
+        let last = self.procedure.last();
+        self.bodies.next(alloc, program, last)
+    }
+
+    /// What the innermost body does next. An `Err` is out of memory, of the machine or of what runs the bodies.
     pub(crate) fn go_on(
         &mut self,
         alloc: Global,
         program: &Program,
-    ) -> Result<Option<Outcome>, AllocError>
-        requires going { Going program.now (B.making program.now) self.old }
+        log: &mut EventLog,
+    ) -> Result<Turn, AllocError>
+        requires resting { Resting program.now (B.making program.now) log.old self.old }
         requires body { IsInBody self.old }
-        ensures going { IfOk result (λ o. MatchOption o (Going program.now (B.making program.now) self.new) (λ r. IsOver program.now (B.making program.now) r self.new)) }
-        ensures same { IsSameRun self.old self.new }
+        ensures turn { IfOk result (TurnsTo program.now (B.making program.now) log.old self.old log.new self.new) }
+        ensures same { IsSameThread self.old self.new }
     {
         if let Some(error) = self.procedure.ending_error() {
-            return Ok(self.leave(program, error));
+            let gave_up = self.gave_up;
+            return Ok(turn_of(self.leave(program, log, error, gave_up)));
         }
-        let last = self.procedure.last();
-        match self.bodies.next(alloc, program, last) {
-            Does::Asks(class) => self.use_class(program, class)?,
-            Does::Gets { class, field } => self.read(program, class, field)?,
+        if self.bodies.waits(program) {
+            return Ok(Turn::Waits);
+        }
+        match self.next(alloc, program, log) {
+            Does::Asks(class) => {
+                self.use_class(program, log, class)?;
+                return Ok(Turn::Silent);
+            }
+            Does::Gets { class, field } => self.read(program, log, class, field)?,
             Does::Puts {
                 class,
                 field,
                 value,
-            } => self.write(program, class, field, value)?,
-            Does::Prints(text) => self.print(alloc, program, text)?,
-            Does::Waits => return Ok(self.leave_at(program, Limit::Patience)),
-            Does::Over(thrown) => return Ok(self.end_body(alloc, program, thrown)),
+            } => self.write(program, log, class, field, value)?,
+            Does::Prints(text) => self.print(alloc, program, log, text)?,
+            Does::Waits => return Ok(Turn::Comes),
+            Does::Over(thrown) => return Ok(turn_of(self.end_body(alloc, program, log, thrown))),
             Does::Ended(Limit::Memory) => return Err(AllocError),
-            Does::Ended(Limit::Steps) => return Ok(self.leave_at(program, Limit::Steps)),
+            Does::Ended(Limit::Steps) => {
+                let error = program.built_in(BuiltIn::InternalError);
+                return Ok(turn_of(self.leave(program, log, error, false)));
+            }
             Does::Ended(Limit::Patience) => unreachable!(),
         }
-        Ok(None)
+        Ok(Turn::Event)
     }
 }

@@ -1,14 +1,15 @@
-//! The ordered run of one main class, on one host thread.
+//! The ordered run of main classes, on one host thread.
 //!
-//! Enter by [`run_ordered`]: it requests the main class, does what the thread's procedure asks for next, one step after the
-//! other (JLS SE 8 12.4.2), and asks what runs the bodies ([`bodies::Bodies`]) what they do. Nobody else is there, so each look
-//! at a class is answered at once, and a body that waits gives up. The definition of what such a run is stands in
-//! `specs/OrderedRun.antt`.
+//! Enter by [`run_ordered`]: it requests each main class by a thread of its own and lets the threads go on in the order that is
+//! asked for. A thread does what its procedure asks for next, one step after the other (JLS SE 8 12.4.2), and asks what runs
+//! its bodies ([`bodies::Bodies`]) what they do; it goes on from one event to the next, or up to a wait. The definition of
+//! what such a run is stands in `specs/OrderedRun.antt`.
 #![tactic(auto)]
 
 mod body;
 mod log;
 mod ordered;
 mod run;
+mod thread;
 
 pub use ordered::run_ordered;

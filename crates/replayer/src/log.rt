@@ -1,9 +1,10 @@
-//! The events of a run by one thread, and what stands of each class after them.
+//! The events of a run, and what stands of each class after them.
 
-ghost use Rattle.std.specs.Prelude.{◌≡◌, ◌<◌, ◌++◌, ◌∷◌, [], IfOk, OnOk, length};
+ghost use Rattle.std.specs.Prelude.{◌≡◌, ◌<◌, ◌≤◌, ◌++◌, ◌∷◌, [], IfOk, OnOk, length};
 ghost use Rattle.hierarchy.specs.LinkedProgram.{LinkedProgram};
 ghost use Rattle.statics.specs.Statics.{statics_of};
 ghost use Rattle.init_core.specs.Decisions.{event};
+ghost use Rattle.init_core.specs.declared.event.TheConstants.{THREADS};
 ghost use Rattle.init_core.specs.Interleaving.{of_class, label_at, labels_of as all_labels};
 ghost use Rattle.init_core.specs.Lawful.{Allows, Holds};
 ghost use Rattle.init_core.specs.ProcedureWord.{IsOfFiles, printed};
@@ -11,24 +12,30 @@ ghost use Rattle.init_core.specs.ProgramEvents.{IsDoneAt};
 ghost use Rattle.replayer.specs.Logged.{IsLog, IsStateAfter};
 
 use hierarchy::{ClassId, Program};
-use init_core::{ClassState, Event, Kind, Label};
+use init_core::{ClassState, Event, Kind, Label, THREADS};
 use sequence::{Sequence, Text};
 use std::alloc::{AllocError, Global};
+use std::snapshot::Snapshot;
 
-/// The events of thread 0 so far, and what stands of each class of the files after them, by the classes' numbers.
+/// The events of all threads so far, and what stands of each class of the files after them, by the classes' numbers.
 #[derive(Drop)]
 pub(crate) struct EventLog {
+    /// How many threads there are.
+    pub threads: Snapshot<usize>,
     pub states: Vec<ClassState>,
     pub events: Vec<Event>,
 }
 
 impl EventLog {
     /// No events: each class is prepared. An `Err` is out of memory.
-    pub(crate) fn new(alloc: Global, program: &Program) -> Result<Self, AllocError>
+    pub(crate) fn new(alloc: Global, program: &Program, threads: usize) -> Result<Self, AllocError>
+        requires { threads ≤ THREADS }
+        ensures threads { IfOk result (λ log. log.threads.value ≡ threads) }
         ensures log { IfOk result (λ log. IsLog program.now log) }
         ensures events { IfOk result (λ log. log.events.items ≡ []) }
     {
         Ok(EventLog {
+            threads: Snapshot::of(&threads),
             states: ClassState::all_prepared(alloc, program)?,
             events: Vec::new(alloc),
         })
@@ -42,35 +49,45 @@ impl EventLog {
         &self.states[class.number]
     }
 
-    /// The thread does this at a class. An `Err` is out of memory.
+    /// A thread does this at a class. An `Err` is out of memory.
     pub(crate) fn add(
         &mut self,
         program: &Program,
+        thread: usize,
         class: ClassId,
         kind: Kind,
     ) -> Result<(), AllocError>
+        requires thread { thread < self.old.threads.value }
         requires log { IsLog program.now self.old }
         requires class { IsOfFiles program.now class }
-        requires allowed { Allows (label_at self.old.events.items class) 0 kind }
+        requires allowed { Allows (label_at self.old.events.items class) thread kind }
         requires done { IsDoneAt program.now class kind }
         requires holds { Holds (statics_of program.now class) (of_class class self.old.events.items) kind }
         ensures log { OnOk result (IsLog program.now self.new) }
-        ensures events { OnOk result (self.new.events.items ≡ self.old.events.items ++ event 0 class kind ∷ []) }
+        ensures events { OnOk result (self.new.events.items ≡ self.old.events.items ++ event thread class kind ∷ []) }
+        ensures threads { self.new.threads ≡ self.old.threads }
     {
         program.is_linked();
         self.events.reserve(1)?;
         let state = &mut self.states[class.number];
-        state.add(0, &kind);
-        self.events.push_reserved(Event::new(0, class, kind));
+        state.add(thread, &kind);
+        self.events.push_reserved(Event::new(thread, class, kind));
         Ok(())
     }
 
-    /// The thread prints a text. An `Err` is out of memory.
-    pub(crate) fn print(&mut self, alloc: Global, text: Text) -> Result<(), AllocError>
+    /// A thread prints a text. An `Err` is out of memory.
+    pub(crate) fn print(
+        &mut self,
+        alloc: Global,
+        thread: usize,
+        text: Text,
+    ) -> Result<(), AllocError>
+        requires { thread < THREADS }
         ensures states { self.new.states ≡ self.old.states }
-        ensures events { OnOk result (self.new.events.items ≡ self.old.events.items ++ printed 0 text ∷ []) }
+        ensures events { OnOk result (self.new.events.items ≡ self.old.events.items ++ printed thread text ∷ []) }
+        ensures threads { self.new.threads ≡ self.old.threads }
     {
-        let event = Event::print(alloc, 0, text)?;
+        let event = Event::print(alloc, thread, text)?;
         self.events.push(event)?;
         Ok(())
     }

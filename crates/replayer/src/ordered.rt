@@ -1,78 +1,103 @@
-//! The ordered run of one main class.
+//! The ordered run of main classes.
 
-ghost use Rattle.std.specs.Prelude.{◌≡◌, IfOk};
+ghost use Rattle.std.specs.Prelude.{◌≡◌, ◌<◌, ◌≤◌, IfOk, length, vec_len};
+ghost use Rattle.std.specs.List.{AllByRecursion};
+ghost use Rattle.init_core.specs.declared.event.TheConstants.{THREADS};
 ghost use Rattle.init_core.specs.declared.frames.Outcome.{Outcome as OutcomeFacts};
-ghost use Rattle.init_core.specs.ProcedureWord.{IsOfFiles};
-ghost use Rattle.replayer.specs.Going.{Going, IsOver, outcome_by};
+ghost use Rattle.init_core.specs.Interleaving.{labels_of};
+ghost use Rattle.trace.specs.Output.{output_of};
+ghost use Rattle.bodies.specs.Runs.{AreMains};
+ghost use Rattle.replayer.specs.AllGoing.{AllThreads, AreGoing, HasDone, outcomes_of};
+ghost use Rattle.replayer.specs.Going.{outcome_by};
 ghost use Rattle.replayer.specs.OrderedRun.{IsOrderedRunOf};
 
 use crate::run::Run;
+use crate::thread::Thread;
 use bodies::Bodies;
 use hierarchy::{ClassId, Program};
-use init_core::Outcome;
+use init_core::{Outcome, THREADS};
 use sequence::Sequence;
 use std::alloc::{AllocError, Global};
 use trace::{Limit, Report, ThreadOutcome, printed_by};
 
-/// How a thread ended, by the result of what it did, and by what the machine ended it for, if it did.
-fn outcome_of(done: Outcome, why: Limit) -> ThreadOutcome
-    ensures { result ≡ outcome_by why done }
+/// How a thread ended, by the result of what it did, and by whether it gave up.
+fn outcome_of(done: Outcome, gave_up: bool) -> ThreadOutcome
+    ensures { result ≡ outcome_by gave_up done }
 {
     match done {
         Outcome::Normal => ThreadOutcome::Normal,
         Outcome::Abrupt(throwable) => ThreadOutcome::Abrupt(throwable),
-        Outcome::Ended(_) => ThreadOutcome::Ended(why),
+        Outcome::Ended(_) => ThreadOutcome::Ended(if gave_up {
+            Limit::Patience
+        } else {
+            Limit::Steps
+        }),
     }
 }
 
-/// All that the thread does: the procedure for the main class, and then the method `main`, and how it ended. An `Err` is out of
-/// memory; so is a run of more turns than there are numbers, since its events need more room than there is.
-fn run_alone<B: Bodies>(
-    alloc: Global,
-    program: &Program,
-    main: ClassId,
-    bodies: B,
-) -> Result<(Run<B>, Outcome), AllocError>
-    requires { IsOfFiles program.now main }
-    ensures over { IfOk result (λ r. IsOver program.now (B.making program.now) r.1 r.0) }
-    ensures main { IfOk result (λ r. r.0.main ≡ main) }
-    ensures start { IfOk result (λ r. r.0.start.value ≡ bodies) }
+/// How each thread ended. An `Err` is out of memory.
+fn outcomes<B: Bodies>(alloc: Global, run: &Run<B>) -> Result<Sequence<ThreadOutcome>, AllocError>
+    requires { AllThreads (λ t w. HasDone w) run.now }
+    ensures { IfOk result (λ outcomes. outcomes ≡ outcomes_of run.now) }
 {
-    let mut run = Run::begin(alloc, program, main, bodies)?;
-    'turns: for _ in 0..u64::MAX {
-        if let Some(done) = run.turn(alloc, program)? {
-            return Ok((run, done));
-        }
+    let mut outcomes = Sequence::new(alloc);
+    'threads: for thread in &run.threads {
+        let Thread { done, gave_up, .. } = thread;
+        let Some(done) = done else { unreachable!() };
+        outcomes.push(outcome_of(*done, *gave_up))?;
     }
-    Err(AllocError)
+    Ok(outcomes)
 }
 
-/// Runs a main class of a program on one thread, thread 0: the procedure for that class, with all that it needs, and then the
-/// method `main` (JLS SE 8 12.4.2).
-///
-/// What its initializers and `main` do is what `bodies` says that they do. Where a body waits it gives up, since nobody can let
-/// it go on; at this and at other limits of its bodies the thread ends by InternalError, and ends the classes that it has
-/// begun, the innermost first. An `Err` is out of memory: that of the run, or where the bodies end for want of theirs
-/// ([`Limit::Memory`]).
-pub fn run_ordered<B: Bodies>(
-    alloc: Global,
-    program: &Program,
-    main: ClassId,
-    bodies: B,
-) -> Result<Report, AllocError>
-    requires main { IsOfFiles program.now main }
-    ensures { IfOk result (λ r. IsOrderedRunOf program.now (B.making program.now) bodies main r) }
+/// The report of a run that is over. An `Err` is out of memory.
+fn report<B: Bodies>(alloc: Global, program: &Program, run: Run<B>) -> Result<Report, AllocError>
+    requires going { AreGoing program.now (B.making program.now) run }
+    requires ended { AllThreads (λ t w. HasDone w) run }
+    ensures outcomes { IfOk result (λ r. r.outcomes ≡ outcomes_of run) }
+    ensures events { IfOk result (λ r. r.events ≡ run.log.events.items) }
+    ensures labels { IfOk result (λ r. r.labels ≡ labels_of program.now run.log.events.items) }
+    ensures output { IfOk result (λ r. r.output ≡ output_of run.log.events.items) }
 {
-    let (run, done) = run_alone(alloc, program, main, bodies)?;
-    let Run { log, why, .. } = run;
+    let outcomes = outcomes(alloc, &run)?;
+    let Run { log, .. } = run;
     let labels = log.labels(alloc, program)?;
     let output = printed_by(alloc, log.events.as_slice())?;
-    let mut outcomes = Sequence::new(alloc);
-    outcomes.push(outcome_of(done, why))?;
     Ok(Report {
         outcomes,
         events: Sequence::from_vec(log.events),
         labels,
         output,
     })
+}
+
+/// Runs 1 to 16 main classes of a program in this order, on the calling thread. Thread t is that of the t-th main class: the
+/// procedure for that class, with all that it needs, and then the method `main` (JLS SE 8 12.4.2). What its initializers and
+/// `main` do is what the t-th of `bodies` says that they do.
+///
+/// Each number of the order lets that thread go on until it has made one event, has ended or can't go on; it can't go on while it
+/// waits for a class that another thread initializes, or in a body. Then the number is used up. After the order the lowest
+/// thread that can goes on in the same way, from one event to the next. Where none can, the lowest that waits gives up: it is
+/// ended by InternalError, at the limit of its patience, and ends the classes that it has begun, the innermost first. At other
+/// limits of its bodies a thread is ended so too.
+///
+/// An `Err` is out of memory: that of the run, or where the bodies end for want of theirs ([`Limit::Memory`]).
+pub fn run_ordered<B: Bodies>(
+    alloc: Global,
+    program: &Program,
+    mains: &[ClassId],
+    order: &[usize],
+    bodies: Vec<B>,
+) -> Result<Report, AllocError>
+    requires mains { AreMains program.now mains.now }
+    requires some { 1 ≤ length mains.now }
+    requires few { length mains.now ≤ THREADS }
+    requires count { vec_len bodies ≡ length mains.now }
+    requires order { AllByRecursion (λ t. t < length mains.now) order.now }
+    ensures { IfOk result (IsOrderedRunOf program.now (B.making program.now) bodies.items mains.now order.now) }
+{
+    let mut run = Run::begin(alloc, program, mains, bodies)?;
+    run.follow(alloc, program, order)?;
+    run.finish(alloc, program)?;
+    let report = report(alloc, program, run)?;
+    Ok(report)
 }

@@ -1,158 +1,157 @@
-//! Where the run of one thread stands, and the steps of its procedures.
+//! All threads of an ordered run.
 
-ghost use Rattle.std.specs.Prelude.{◌≡◌, IfOk, OnOk, MatchOption, true, false};
-ghost use Rattle.init_core.specs.declared.procedure.Next.TheVariants as nexts;
-ghost use Rattle.init_core.specs.Advance.{next_of, is_running};
-ghost use Rattle.init_core.specs.ProcedureWord.{IsOfFiles};
-ghost use Rattle.replayer.specs.Going.{Going, IsOver, IsSameRun};
+ghost use Rattle.std.specs.Prelude.{◌≡◌, ℕ, ◌<◌, ◌≤◌, List, [], IfOk, OnOk, true, length, vec_len};
+ghost use Rattle.init_core.specs.declared.event.TheConstants.{THREADS};
+ghost use Rattle.bodies.specs.Runs.{AreMains};
+ghost use Rattle.replayer.specs.AllGoing.{AllThreads, AreGoing, AreGone, HasDone, HasGone, IsFound, IsHeld, IsSameBut, IsSameThere, Leads, ThreadAt, mains_of, starts_of};
+ghost use Rattle.std.specs.List.{AllByRecursion};
 
 use crate::log::EventLog;
+use crate::thread::{Thread, Turn};
 use bodies::Bodies;
 use hierarchy::{ClassId, Program};
-use init_core::{Answer, Completed, Ending, Kind, Next, Outcome, Procedure};
+use init_core::THREADS;
 use std::alloc::{AllocError, Global};
-use std::snapshot::Snapshot;
-use trace::Limit;
 
-/// Where the run of one thread stands.
+/// The threads of a run, by their numbers, and what they have done.
 #[derive(Drop)]
 pub(crate) struct Run<B> {
     pub log: EventLog,
-    pub procedure: Procedure,
-    pub bodies: B,
-    pub main: ClassId,
-    /// What runs its bodies, as it was when the run began.
-    pub start: Snapshot<B>,
-    /// It is in the body of `main`.
-    pub in_main: bool,
-    /// What the machine ends the thread for, once it does.
-    pub why: Limit,
+    pub threads: Vec<Thread<B>>,
+}
+
+/// Which thread goes on next, once the order is used up.
+#[derive(Clone, Copy, Debug, PartialEq, Eq)]
+pub(crate) enum Found {
+    /// The lowest that can has gone on.
+    GoesOn,
+    /// None can; this is the lowest that waits.
+    Held(usize),
+    /// None can: all have ended.
+    Ended,
 }
 
 impl<B: Bodies> Run<B> {
-    /// The main class is requested. An `Err` is out of memory.
+    /// Each main class is requested, by a thread of its own. An `Err` is out of memory.
     pub(crate) fn begin(
         alloc: Global,
         program: &Program,
-        main: ClassId,
-        bodies: B,
+        mains: &[ClassId],
+        bodies: Vec<B>,
     ) -> Result<Self, AllocError>
-        requires { IsOfFiles program.now main }
-        ensures going { IfOk result (λ run. Going program.now (B.making program.now) run) }
-        ensures main { IfOk result (λ run. run.main ≡ main) }
-        ensures start { IfOk result (λ run. run.start.value ≡ bodies) }
+        requires mains { AreMains program.now mains.now }
+        requires few { length mains.now ≤ THREADS }
+        requires count { vec_len bodies ≡ length mains.now }
+        ensures going { IfOk result (λ run. AreGoing program.now (B.making program.now) run) }
+        ensures fresh { IfOk result (λ run. AreGone [] run) }
+        ensures events { IfOk result (λ run. run.log.events.items ≡ []) }
+        ensures mains { IfOk result (λ run. mains_of run ≡ mains.now) }
+        ensures starts { IfOk result (λ run. starts_of run ≡ bodies.items) }
     {
-        let log = EventLog::new(alloc, program)?;
-        let mut procedure = Procedure::new(alloc);
-        procedure.request(main)?;
-        Ok(Run {
-            log,
-            procedure,
-            start: Snapshot::of(&bodies),
-            bodies,
-            main,
-            in_main: false,
-            why: Limit::Patience,
+        let log = EventLog::new(alloc, program, mains.len())?;
+        let mut threads = Vec::new(alloc);
+        'threads: for bodies in bodies {
+            let number = threads.len();
+            let thread = Thread::begin(alloc, program, &log, number, mains[number], bodies)?;
+            threads.push(thread)?;
+        }
+        Ok(Run { log, threads })
+    }
+
+    /// A thread goes on until it has made one event, has ended or can't go on; `Ended` where it had ended before. An `Err` is out of
+    /// memory.
+    fn go(&mut self, alloc: Global, program: &Program, number: usize) -> Result<Turn, AllocError>
+        requires going { AreGoing program.now (B.making program.now) self.old }
+        requires number { number < length self.old.threads.items }
+        ensures going { IfOk result (λ turn. AreGoing program.now (B.making program.now) self.new) }
+        ensures gone { IfOk result (HasGone program.now (B.making program.now) number self.old self.new) }
+        ensures others { IfOk result (λ turn. IsSameBut number self.old self.new) }
+        ensures there { IfOk result (λ turn. IsSameThere number self.old self.new) }
+    {
+        let thread = &mut self.threads[number];
+        if let Some(done) = thread.done {
+            return Ok(Turn::Ended(done));
+        }
+        match thread.advance(alloc, program, &mut self.log)? {
+            Turn::Ended(done) => {
+                thread.end(program, done);
+                Ok(Turn::Silent)
+            }
+            Turn::Comes => Ok(Turn::Silent),
+            turn => Ok(turn),
+        }
+    }
+
+    /// The threads go on in this order; the number of one that can't is used up. An `Err` is out of memory.
+    pub(crate) fn follow(
+        &mut self,
+        alloc: Global,
+        program: &Program,
+        order: &[usize],
+    ) -> Result<(), AllocError>
+        requires going { AreGoing program.now (B.making program.now) self.old }
+        requires order { AllByRecursion (λ t. t < length self.old.threads.items) order.now }
+        ensures going { OnOk result (AreGoing program.now (B.making program.now) self.new) }
+        ensures follows { OnOk result (Leads program.now (B.making program.now) order.now [] self.old [] [] self.new) }
+    {
+        'order: for number in order {
+            self.go(alloc, program, *number)?;
+        }
+        Ok(())
+    }
+
+    /// The lowest thread that can goes on: each lower one had ended or waits, and stays so. An `Err` is out of memory.
+    fn go_lowest(&mut self, alloc: Global, program: &Program) -> Result<Found, AllocError>
+        requires going { AreGoing program.now (B.making program.now) self.old }
+        ensures going { IfOk result (λ found. AreGoing program.now (B.making program.now) self.new) }
+        ensures found { IfOk result (IsFound program.now (B.making program.now) self.old self.new) }
+    {
+        let mut held = None;
+        'threads: for number in 0..self.threads.len() {
+            match self.go(alloc, program, number)? {
+                Turn::Event | Turn::Silent => return Ok(Found::GoesOn),
+                Turn::Waits => held = held.or(Some(number)),
+                Turn::Ended(_) => (),
+                Turn::Comes => unreachable!(),
+            }
+        }
+        Ok(match held {
+            Some(number) => Found::Held(number),
+            None => Found::Ended,
         })
     }
 
-    /// Steps 1 to 6: a look at a class.
-    fn look(&mut self, alloc: Global, program: &Program, class: ClassId) -> Result<(), AllocError>
-        requires going { Going program.now (B.making program.now) self.old }
-        requires next { next_of self.old.procedure.frames ≡ nexts.Look class }
-        ensures going { OnOk result (Going program.now (B.making program.now) self.new) }
-        ensures same { IsSameRun self.old self.new }
+    /// A thread that waits gives up.
+    fn give_up(&mut self, program: &Program, number: usize)
+        requires going { AreGoing program.now (B.making program.now) self.old }
+        requires number { number < length self.old.threads.items }
+        requires held { ThreadAt self.old number (IsHeld program.now (B.making program.now) self.old.log) }
+        ensures going { AreGoing program.now (B.making program.now) self.new }
+        ensures log { self.new.log ≡ self.old.log }
+        ensures others { IsSameBut number self.old self.new }
+        ensures gave_up { ThreadAt self.new number (λ w. w.gave_up ≡ true) }
     {
-        let decision = self.log.state(class).decision(0);
-        self.procedure
-            .advance(alloc, program, Answer::Decided(decision))?;
-        self.log.add(program, class, decision.kind())?;
-        Ok(())
-    }
-
-    /// Step 9: the initializer begins.
-    fn run_body(
-        &mut self,
-        alloc: Global,
-        program: &Program,
-        class: ClassId,
-    ) -> Result<(), AllocError>
-        requires going { Going program.now (B.making program.now) self.old }
-        requires next { next_of self.old.procedure.frames ≡ nexts.Body class }
-        requires before { is_running self.old.procedure.frames ≡ false }
-        ensures going { OnOk result (Going program.now (B.making program.now) self.new) }
-        ensures same { IsSameRun self.old self.new }
-    {
-        self.log.add(program, class, Kind::Runs)?;
-        self.procedure.run_body();
-        self.bodies.start(alloc, program, class);
-        Ok(())
-    }
-
-    /// Step 7, 10 or 12.
-    fn end_class(
-        &mut self,
-        program: &Program,
-        class: ClassId,
-        ending: Ending,
-    ) -> Result<(), AllocError>
-        requires going { Going program.now (B.making program.now) self.old }
-        requires next { next_of self.old.procedure.frames ≡ nexts.End class ending }
-        ensures going { OnOk result (Going program.now (B.making program.now) self.new) }
-        ensures same { IsSameRun self.old self.new }
-    {
-        self.log.add(program, class, ending.kind())?;
-        self.procedure.end_class();
-        Ok(())
-    }
-
-    /// The procedure for the main class is completed: if normally the method `main` begins, and else that is how the
-    /// thread ended.
-    fn enter_main(&mut self, alloc: Global, program: &Program) -> Option<Outcome>
-        requires going { Going program.now (B.making program.now) self.old }
-        requires idle { next_of self.old.procedure.frames ≡ nexts.Idle }
-        requires before { self.old.in_main ≡ false }
-        ensures going { MatchOption result (Going program.now (B.making program.now) self.new) (λ r. IsOver program.now (B.making program.now) r self.new) }
-        ensures same { IsSameRun self.old self.new }
-    {
-        let Some(Completed { outcome, .. }) = self.procedure.last() else {
-            unreachable!();
-        };
-        let Outcome::Normal = outcome else {
-            return Some(outcome);
-        };
-        self.bodies.enter(alloc, program, self.main);
-        self.procedure.forget_last();
-        self.in_main = true;
-        None
-    }
-
-    /// Does what comes next, and answers how the thread ended where that was its end. An `Err` is out of memory.
-    pub(crate) fn turn(
-        &mut self,
-        alloc: Global,
-        program: &Program,
-    ) -> Result<Option<Outcome>, AllocError>
-        requires { Going program.now (B.making program.now) self.old }
-        ensures going { IfOk result (λ o. MatchOption o (Going program.now (B.making program.now) self.new) (λ r. IsOver program.now (B.making program.now) r self.new)) }
-        ensures same { IsSameRun self.old self.new }
-    {
-        match self.procedure.next() {
-            Next::Idle => {
-                if self.in_main {
-                    return self.go_on(alloc, program);
-                }
-                return Ok(self.enter_main(alloc, program));
-            }
-            Next::Look(class) => self.look(alloc, program, class)?,
-            Next::Body(class) => {
-                if self.procedure.is_running() {
-                    return self.go_on(alloc, program);
-                }
-                self.run_body(alloc, program, class)?;
-            }
-            Next::End(class, ending) => self.end_class(program, class, ending)?,
+        let thread = &mut self.threads[number];
+        if let Some(done) = thread.give_up(program, &self.log) {
+            thread.end(program, done);
         }
-        Ok(None)
+    }
+
+    /// All threads go on to their end: the lowest that can, and where none can the lowest that waits gives up. An `Err` is out
+    /// of memory; so are more events than there are numbers.
+    pub(crate) fn finish(&mut self, alloc: Global, program: &Program) -> Result<(), AllocError>
+        requires going { AreGoing program.now (B.making program.now) self.old }
+        ensures going { OnOk result (AreGoing program.now (B.making program.now) self.new) }
+        ensures follows { OnOk result ((later : List ℕ) × Leads program.now (B.making program.now) [] [] self.old [] later self.new) }
+        ensures ended { OnOk result (AllThreads (λ t w. HasDone w) self.new) }
+    {
+        'rounds: for _ in 0..u64::MAX {
+            match self.go_lowest(alloc, program)? {
+                Found::GoesOn => (),
+                Found::Held(number) => self.give_up(program, number),
+                Found::Ended => return Ok(()),
+            }
+        }
+        Err(AllocError)
     }
 }

@@ -11,9 +11,11 @@ any_bodies = record {
   starts = λ s c z. Unit {0};
   enters = λ s c z. Unit {0};
   does = λ s last d z. Unit {0};
+  waits = λ s. Unit {0};
   gets = λ s v z. Unit {0};
   is_ended = λ s z. Unit {0};
   replaces = λ s thrown e z. Unit {0};
+  ends = λ s z. Unit {0};
   limits = λ l. Unit {0};
 }
 

@@ -1,5 +1,8 @@
 //! Runs in order of classes some of whose methods have code, with no bodies that are run.
 
+ghost use Rattle.std.specs.Prelude.{◌<◌};
+ghost use Rattle.std.specs.List.{AllByRecursion};
+
 use crate::runs::linked;
 use bodies::NoCode;
 use hierarchy::{ClassId, Program};
@@ -30,7 +33,11 @@ fn has_text(alloc: Global, program: &Program, main: usize, expected: &[u8]) -> b
     if main >= program.len() {
         return false;
     }
-    match run_ordered(alloc, program, ClassId { number: main }, NoCode) {
+    let mut bodies = Vec::new(alloc);
+    if bodies.push(NoCode).is_err() {
+        return false;
+    }
+    match run_ordered(alloc, program, &[ClassId { number: main }], &[], bodies) {
         Ok(report) => text_of(alloc, program, &report).is_ok_and(|text| text.as_slice()
             == expected),
         Err(_) => false,
@@ -93,4 +100,42 @@ const OF_J: &[u8] =
 fn what_nothing_needs_stays_prepared(rt: HostRuntime) {
     assert!(rt; runs_as(rt.alloc(), &APART, 1, OF_A));
     assert!(rt; runs_as(rt.alloc(), &APART, 3, OF_J));
+}
+
+const ONE_CLASS: [&[u8]; 1] = [b".class A"];
+
+const ONE_CLASS_TEXT: &[u8] = b"0 t0 step6 A
+1 t0 step9 A
+2 t1 step2 A
+3 t0 step10 A
+4 t1 step4 A
+initialized
+";
+
+/// The text of the run of two threads with one main class, in this order.
+fn text_in_order(alloc: Global, order: &[usize]) -> Option<Vec<u8>>
+    requires { AllByRecursion (λ t. t < 2) order.now }
+{
+    let program = linked(alloc, &ONE_CLASS)?;
+    if program.len() == 0 {
+        return None;
+    }
+    let main = ClassId { number: 0 };
+    let mut bodies = Vec::new(alloc);
+    bodies.push(NoCode).ok()?;
+    bodies.push(NoCode).ok()?;
+    let report = run_ordered(alloc, &program, &[main, main], order, bodies).ok()?;
+    text_of(alloc, &program, &report).ok()
+}
+
+#[test]
+fn two_threads_go_on_in_order(rt: HostRuntime) {
+    let text = text_in_order(rt.alloc(), &[0, 0, 1, 0, 1]).expect(&rt, "there is a run");
+    assert!(rt; text.as_slice() == ONE_CLASS_TEXT);
+}
+
+#[test]
+fn after_the_order_the_lowest_goes_on(rt: HostRuntime) {
+    let text = text_in_order(rt.alloc(), &[0, 0, 1]).expect(&rt, "there is a run");
+    assert!(rt; text.as_slice() == ONE_CLASS_TEXT);
 }

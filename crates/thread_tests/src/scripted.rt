@@ -172,6 +172,10 @@ impl Bodies for Scripted {
         }
     }
 
+    fn waits(&self, _program: &Program) -> bool {
+        self.done == 5
+    }
+
     fn get(&mut self, _program: &Program, value: Value) {
         self.read = Some(value);
     }
@@ -183,6 +187,8 @@ impl Bodies for Scripted {
     fn replace(&mut self, _alloc: Global, program: &Program, thrown: ClassId) -> ClassId {
         replacement(program, thrown)
     }
+
+    fn end(&mut self, _program: &Program) {}
 
     ghost waits_on = { may_wait };
 }
@@ -235,7 +241,9 @@ fn ordered_run_of(alloc: Global, throws: bool) -> Option<Report> {
     if main.number >= program.len() {
         return None;
     }
-    run_ordered(alloc, &program, main, Scripted::new(throws)).ok()
+    let mut bodies = Vec::new(alloc);
+    bodies.push(Scripted::new(throws)).ok()?;
+    run_ordered(alloc, &program, &[main], &[], bodies).ok()
 }
 
 #[test]

@@ -1,13 +1,19 @@
-use Rattle.std.proofs.Common.{rules, ◌≡◌, ◌∷◌, []}
-use Rattle.trace.specs.Output.{output_of}
-use Rattle.replayer.specs.Going.{outcome_by}
-use Rattle.replayer.proofs.Finished.{ordered}
+use Rattle.std.proofs.Common.{◌≡◌, ◌<◌, ℕ, length, sym, subst, ap, ◌∙◌}
+use Rattle.std.specs.List.{AllByRecursion}
+use Rattle.replayer.proofs.Finished.{many_mains, ordered}
+use Rattle.replayer.proofs.Followed.{leads_on}
 use Rattle.replayer.proofs.ordered.run_ordered.Goals as goal
+
+pub follow-requires-clause-order : goal.follow-requires-clause-order
+follow-requires-clause-order g c =
+    let many : length c.args.mains.now ≡ length c.in_ok-run.run'.threads.items = sym (ap length c.in_ok-run.ensures.mains) ∙ many_mains c.args.program.now (g.B.Bodies.making c.args.program.now) c.in_ok-run.run' in
+    subst (λ (n : ℕ). AllByRecursion (λ t. t < n) c.args.order.now) many c.requires.order
 
 pub returns : goal.returns
 returns g c =
-    let run = c.in_ok-run.run' in
-    let events : c.from_vec.result ≡ run.log.events.items = search rules in
-    let outcomes : c.push.new.self ≡ outcome_by run.why c.in_ok-run.done ∷ [] = search rules in
-    let output : c.in_ok-output.output ≡ output_of run.log.events.items = search rules in
-    ordered c.args.program.now (g.B.Bodies.making c.args.program.now) run c.in_ok-run.done c.args.bodies c.args.main c.in_ok-run.ensures.over c.in_ok-run.ensures.main c.in_ok-run.ensures.start _ events c.in_ok-labels.ensures outcomes output
+    let p = c.args.program.now in
+    let M = g.B.Bodies.making p in
+    ordered p M c.finish.new.self c.in_ok-run.run' c.args.bodies.items c.args.mains.now c.args.order.now c.in_ok-finish.ensures.follows.0 c.in_ok-report.report
+    c.in_ok-finish.ensures.going c.in_ok-finish.ensures.ended c.in_ok-run.ensures.fresh c.in_ok-run.ensures.events c.in_ok-run.ensures.mains c.in_ok-run.ensures.starts
+    (leads_on p M c.in_ok-follow.ensures.follows c.in_ok-finish.ensures.follows.1)
+    c.in_ok-report.ensures.outcomes c.in_ok-report.ensures.events c.in_ok-report.ensures.labels c.in_ok-report.ensures.output

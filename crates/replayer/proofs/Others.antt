@@ -1,0 +1,96 @@
+-- What an event of one thread leaves of where another stands.
+use Rattle.std.proofs.Common.{◌≡◌, ◌≢◌, inl, inr, ℕ, ◌<◌, List, [], ◌∷◌, Option, Some, None, Bool, true, false, refl, sym, ap, subst, ◌∙◌}
+use Rattle.std.specs.Prelude.{MatchOption}
+use Rattle.hierarchy.specs.declared.class.ClassId.{ClassId}
+use Rattle.hierarchy.specs.LinkedProgram.{LinkedProgram}
+use Rattle.init_core.specs.declared.event.Event.{Event}
+use Rattle.init_core.specs.declared.frames.Outcome.{Outcome}
+use Rattle.init_core.specs.Decisions.{waits}
+use Rattle.init_core.specs.Interleaving.{of_thread, of_class, is_class}
+use Rattle.init_core.specs.ProcedureWord.{ThreadWordOf}
+use Rattle.init_core.specs.Stands.{AreOfOthers}
+use Rattle.init_core.proofs.Knowing.{others_go_on}
+use Rattle.init_core.proofs.Seeing.{waits_others_from}
+use Rattle.bodies.specs.Making.{Making, maker_of}
+use Rattle.bodies.specs.ThreadStands.{OutsideOf, NoneOpenOf, ThreadStands}
+use Rattle.bodies.proofs.ThreadSteps.{goes_of}
+use Rattle.replayer.specs.declared.log.EventLog.{EventLog}
+use Rattle.replayer.specs.declared.thread.Thread.{Thread}
+use Rattle.replayer.specs.AllGoing.{IsThere}
+use Rattle.replayer.specs.Going.{Going, IsOver, IsPaused, IsSameThread, IsWhy, Resting, at_class, in_body}
+use Rattle.replayer.specs.Logged.{IsLog, HasMade, histories}
+use Rattle.replayer.proofs.Acting.{kept_calm, not_gone}
+use Rattle.replayer.proofs.Logged.{own_same}
+use Rattle.replayer.proofs.Stepping.{look_goes_on}
+
+-- it is none of t's
+of_others : (t : ℕ) (e : Event) → e.thread ≢ t → (c : ClassId) → AreOfOthers t (of_class c (e ∷ []))
+of_others t e other c = at (is_class c e.class) refl where
+  at : (b : Bool) → is_class c e.class ≡ b → AreOfOthers t (of_class c (e ∷ []))
+  at true q = rw q (other, tt)
+  at false q = rw q tt
+
+-- what t has done is the same
+pub own_as_was : (t u : ℕ) (l m : EventLog) → HasMade t l m → u ≢ t → of_thread u m.events.items ≡ of_thread u l.events.items
+own_as_was t u l m made other = ap (of_thread u) made.events ∙ own_same u l.events.items made.event (λ q. other (sym q ∙ made.thread))
+
+module _ {S : Type 0} (p : LinkedProgram) (M : Making S) where
+  others_going : (t : ℕ) (l m : EventLog) (w : Thread S) → HasMade t l m → IsLog p m → w.number ≢ t → Going p M l w → Going p M m w
+  others_going t l m w made log other g = record {
+    number = subst (λ x. w.number < x.value) (sym made.threads) g.number;
+    main = g.main;
+    log = log;
+    stands = others_go_on p w.number (maker_of p M) (OutsideOf p w.number M w.start.value w.main w.in_main) (NoneOpenOf p w.number M w.start.value w.main w.in_main) (goes_of M p w.number w.start.value w.main w.in_main) made.sees apart
+        (subst (λ (es : List Event). ThreadStands p w.number M w.start.value w.main w.in_main w.procedure es (histories l.events.items) w.bodies) (sym (own_as_was t w.number l m made other)) g.stands);
+    begun = g.begun;
+    reason = λ e q. subst (λ x. IsWhy p M x.value w.gave_up e) (sym made.threads) (g.reason e q);
+    calm = λ n c q. g.calm n c (sym (ap (waits w.number) (made.sees.adds c) ∙ waits_others_from false w.number (histories l.events.items c) (of_class c (made.event ∷ [])) (apart c)) ∙ q);
+    gone = g.gone;
+  } where
+    apart : (c : ClassId) → AreOfOthers w.number (of_class c (made.event ∷ []))
+    apart c = of_others w.number made.event (λ q. other (sym q ∙ made.thread)) c
+
+  others_rest : (t : ℕ) (l m : EventLog) (w : Thread S) → HasMade t l m → IsLog p m → w.number ≢ t → Resting p M l w → Resting p M m w
+  others_rest t l m w made log other (inl g) = inl (others_going t l m w made log other g)
+  others_rest t l m w made log other (inr d) = inr (record { from = d.from; going = others_going t l m (record w { bodies = d.from }) made log other d.going; body = d.body; goes_on = d.goes_on; does = d.does; fits = d.fits })
+
+  others_over : (t : ℕ) (l m : EventLog) (r : Outcome) (w : Thread S) → HasMade t l m → w.number ≢ t → IsOver p M l r w → IsOver p M m r w
+  others_over t l m r w made other o = record {
+    number = subst (λ x. w.number < x.value) (sym made.threads) o.number;
+    end = o.end;
+    word = subst (λ (es : List Event). ThreadWordOf p w.number (maker_of p M) w.start.value w.main es r o.end) (sym (own_as_was t w.number l m made other)) o.word;
+    reason = λ e q. subst (λ x. IsWhy p M x.value w.gave_up e) (sym made.threads) (o.reason e q);
+  }
+
+  pub others_there : (t : ℕ) (l m : EventLog) (w : Thread S) → HasMade t l m → IsLog p m → w.number ≢ t → IsThere p M l w → IsThere p M m w
+  others_there t l m w made log other there = at w.done there where
+    at : (o : Option Outcome) → MatchOption o (Resting p M l w) (λ r. IsOver p M l r w) → MatchOption o (Resting p M m w) (λ r. IsOver p M m r w)
+    at None x = others_rest t l m w made log other x
+    at (Some r) x = others_over t l m r w made other x
+
+  -- it has ended
+  pub ended_over : (l : EventLog) (w x : Thread S) (r : Outcome) → IsSameThread (record w { done = Some r }) x → IsOver p M l r w → IsThere p M l x
+  ended_over l w x r same h = subst (λ (o : Option Outcome). MatchOption o (Resting p M l x) (λ r. IsOver p M l r x)) (sym same.done) (record {
+    number = subst (λ (t : ℕ). t < l.threads.value) (sym same.number) h.number;
+    end = h.end;
+    word = subst (λ (t : ℕ). ThreadWordOf p t (maker_of p M) x.start.value x.main (of_thread t l.events.items) r h.end) (sym same.number)
+        (subst (λ (s : S). ThreadWordOf p w.number (maker_of p M) s x.main (of_thread w.number l.events.items) r h.end) (sym (ap (λ s. s.value) same.start))
+        (subst (λ (m : ClassId). ThreadWordOf p w.number (maker_of p M) w.start.value m (of_thread w.number l.events.items) r h.end) (sym same.main) h.word));
+    reason = λ e q. subst (λ (b : Bool). IsWhy p M l.threads.value b e) (sym same.gave_up) (h.reason e q);
+  })
+
+  -- a thread that can't go on, or does
+  pub there_of : (l : EventLog) (w : Thread S) → w.done ≡ None → Resting p M l w → IsThere p M l w
+  there_of l w none x = subst (λ (o : Option Outcome). MatchOption o (Resting p M l w) (λ r. IsOver p M l r w)) (sym none) x
+
+  pub rests_of : (l : EventLog) (w : Thread S) → w.done ≡ None → IsThere p M l w → Resting p M l w
+  rests_of l w none x = subst (λ (o : Option Outcome). MatchOption o (Resting p M l w) (λ r. IsOver p M l r w)) none x
+
+  pub paused_rests : (l : EventLog) (w : Thread S) → IsPaused p M l w → Resting p M l w
+  paused_rests l w (at_class c g q f) = inl g
+  paused_rests l w (in_body x) = x.resting
+
+  -- one that waits hasn't given up
+  pub paused_calm : (l : EventLog) (w : Thread S) → IsPaused p M l w → w.gave_up ≡ false
+  paused_calm l w (at_class c g q f) = not_gone p M w.gave_up (λ y. g.gone y (look_goes_on p M l w c q g))
+  paused_calm l w (in_body x) = kept_calm p M l w x

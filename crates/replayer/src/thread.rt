@@ -1,0 +1,258 @@
+//! Where one thread of a run stands, and the steps of its procedures.
+
+ghost use Rattle.std.specs.Prelude.{◌≡◌, ◌≢◌, ◌<◌, [], IfOk, OnOk, None, Some, true, false};
+ghost use Rattle.init_core.specs.declared.procedure.Next.TheVariants as nexts;
+ghost use Rattle.init_core.specs.Advance.{next_of, is_running};
+ghost use Rattle.init_core.specs.ProcedureWord.{IsOfFiles};
+ghost use Rattle.replayer.specs.Going.{Going, GoesOrEnds, HasStepped, IsPaused, IsSameThread, Resting, TurnsTo, turn_by};
+ghost use Rattle.replayer.specs.declared.thread.Turn.TheVariants as turns;
+ghost use Rattle.replayer.specs.Logged.{IsLog};
+
+use crate::log::EventLog;
+use bodies::Bodies;
+use hierarchy::{BuiltIn, ClassId, Program};
+use init_core::{Answer, Completed, Ending, Kind, Next, Outcome, Procedure};
+use std::alloc::{AllocError, Global};
+use std::snapshot::Snapshot;
+
+/// What a turn of a thread comes to.
+#[derive(Clone, Copy, Debug, PartialEq, Eq)]
+pub(crate) enum Turn {
+    /// One event was made.
+    Event,
+    /// The thread went on without an event.
+    Silent,
+    /// It went on so in a body, up to something that another thread holds.
+    Comes,
+    /// It waits for a class that another thread initializes, or stands in a body at something that another thread holds.
+    Waits,
+    /// It has ended, with this result.
+    Ended(Outcome),
+}
+
+/// A turn without an event, by how the thread ended, if it did.
+pub(crate) fn turn_of(done: Option<Outcome>) -> Turn
+    ensures { result ≡ turn_by done }
+{
+    match done {
+        None => Turn::Silent,
+        Some(result) => Turn::Ended(result),
+    }
+}
+
+/// Where a thread of a run stands.
+#[derive(Drop)]
+pub(crate) struct Thread<B> {
+    pub number: usize,
+    pub procedure: Procedure,
+    pub bodies: B,
+    pub main: ClassId,
+    /// What runs its bodies, as it was when the run began.
+    pub start: Snapshot<B>,
+    /// It is in the body of `main`.
+    pub in_main: bool,
+    /// It waited and none could go on, so the machine ends it.
+    pub gave_up: bool,
+    /// The result of what it did, once it has ended.
+    pub done: Option<Outcome>,
+}
+
+impl<B: Bodies> Thread<B> {
+    /// Its main class is requested. An `Err` is out of memory.
+    pub(crate) fn begin(
+        alloc: Global,
+        program: &Program,
+        log: &EventLog,
+        number: usize,
+        main: ClassId,
+        bodies: B,
+    ) -> Result<Self, AllocError>
+        requires main { IsOfFiles program.now main }
+        requires number { number < log.now.threads.value }
+        requires log { IsLog program.now log.now }
+        requires none { log.now.events.items ≡ [] }
+        ensures going { IfOk result (λ thread. Going program.now (B.making program.now) log.now thread) }
+        ensures number { IfOk result (λ thread. thread.number ≡ number) }
+        ensures main { IfOk result (λ thread. thread.main ≡ main) }
+        ensures start { IfOk result (λ thread. thread.start.value ≡ bodies) }
+        ensures done { IfOk result (λ thread. thread.done ≡ None) }
+        ensures gave_up { IfOk result (λ thread. thread.gave_up ≡ false) }
+    {
+        let _ = &log.events;
+        let mut procedure = Procedure::new(alloc);
+        procedure.request(main)?;
+        Ok(Thread {
+            number,
+            procedure,
+            start: Snapshot::of(&bodies),
+            bodies,
+            main,
+            in_main: false,
+            gave_up: false,
+            done: None,
+        })
+    }
+
+    /// Steps 1 to 6: a look at a class, which another thread may be initializing. An `Err` is out of memory.
+    fn look(
+        &mut self,
+        alloc: Global,
+        program: &Program,
+        log: &mut EventLog,
+        class: ClassId,
+    ) -> Result<Turn, AllocError>
+        requires going { Going program.now (B.making program.now) log.old self.old }
+        requires next { next_of self.old.procedure.frames ≡ nexts.Look class }
+        ensures turn { IfOk result (TurnsTo program.now (B.making program.now) log.old self.old log.new self.new) }
+        ensures same { IsSameThread self.old self.new }
+    {
+        let decision = log.state(class).decision(self.number);
+        if decision.waits_again() {
+            return Ok(Turn::Waits);
+        }
+        self.procedure
+            .advance(alloc, program, Answer::Decided(decision))?;
+        log.add(program, self.number, class, decision.kind())?;
+        Ok(Turn::Event)
+    }
+
+    /// Step 9: the initializer begins. An `Err` is out of memory.
+    fn run_body(
+        &mut self,
+        alloc: Global,
+        program: &Program,
+        log: &mut EventLog,
+        class: ClassId,
+    ) -> Result<(), AllocError>
+        requires going { Going program.now (B.making program.now) log.old self.old }
+        requires next { next_of self.old.procedure.frames ≡ nexts.Body class }
+        requires before { is_running self.old.procedure.frames ≡ false }
+        ensures stepped { OnOk result (HasStepped program.now (B.making program.now) log.old self.old log.new self.new) }
+        ensures same { IsSameThread self.old self.new }
+    {
+        log.add(program, self.number, class, Kind::Runs)?;
+        self.procedure.run_body();
+        self.bodies.start(alloc, program, class);
+        Ok(())
+    }
+
+    /// Step 7, 10 or 12. An `Err` is out of memory.
+    fn end_class(
+        &mut self,
+        program: &Program,
+        log: &mut EventLog,
+        class: ClassId,
+        ending: Ending,
+    ) -> Result<(), AllocError>
+        requires going { Going program.now (B.making program.now) log.old self.old }
+        requires next { next_of self.old.procedure.frames ≡ nexts.End class ending }
+        ensures stepped { OnOk result (HasStepped program.now (B.making program.now) log.old self.old log.new self.new) }
+        ensures same { IsSameThread self.old self.new }
+    {
+        log.add(program, self.number, class, ending.kind())?;
+        self.procedure.end_class();
+        Ok(())
+    }
+
+    /// The procedure for the main class is completed: if normally the method `main` begins, and else that is how the
+    /// thread ended.
+    fn enter_main(&mut self, alloc: Global, program: &Program, log: &EventLog) -> Option<Outcome>
+        requires going { Going program.now (B.making program.now) log.now self.old }
+        requires idle { next_of self.old.procedure.frames ≡ nexts.Idle }
+        requires before { self.old.in_main ≡ false }
+        ensures going { GoesOrEnds program.now (B.making program.now) log.now self.new result }
+        ensures same { IsSameThread self.old self.new }
+    {
+        let _ = &log.events;
+        let Some(Completed { outcome, .. }) = self.procedure.last() else {
+            unreachable!();
+        };
+        let Outcome::Normal = outcome else {
+            return Some(outcome);
+        };
+        self.bodies.enter(alloc, program, self.main);
+        self.procedure.forget_last();
+        self.in_main = true;
+        None
+    }
+
+    /// Does what comes next. An `Err` is out of memory.
+    fn turn(
+        &mut self,
+        alloc: Global,
+        program: &Program,
+        log: &mut EventLog,
+    ) -> Result<Turn, AllocError>
+        requires { Resting program.now (B.making program.now) log.old self.old }
+        ensures turn { IfOk result (TurnsTo program.now (B.making program.now) log.old self.old log.new self.new) }
+        ensures same { IsSameThread self.old self.new }
+    {
+        match self.procedure.next() {
+            Next::Idle => {
+                if self.in_main {
+                    return self.go_on(alloc, program, log);
+                }
+                Ok(turn_of(self.enter_main(alloc, program, log)))
+            }
+            Next::Look(class) => self.look(alloc, program, log, class),
+            Next::Body(class) => {
+                if self.procedure.is_running() {
+                    return self.go_on(alloc, program, log);
+                }
+                self.run_body(alloc, program, log, class)?;
+                Ok(Turn::Event)
+            }
+            Next::End(class, ending) => {
+                self.end_class(program, log, class, ending)?;
+                Ok(Turn::Event)
+            }
+        }
+    }
+
+    /// Goes on until it has made one event, has ended or can't go on. An `Err` is out of memory; so are more turns than there
+    /// are numbers.
+    pub(crate) fn advance(
+        &mut self,
+        alloc: Global,
+        program: &Program,
+        log: &mut EventLog,
+    ) -> Result<Turn, AllocError>
+        requires { Resting program.now (B.making program.now) log.old self.old }
+        ensures turn { IfOk result (TurnsTo program.now (B.making program.now) log.old self.old log.new self.new) }
+        ensures moves { IfOk result (λ turn. turn ≢ turns.Silent) }
+        ensures same { IsSameThread self.old self.new }
+    {
+        'turns: for _ in 0..u64::MAX {
+            let turn = self.turn(alloc, program, log)?;
+            if turn != Turn::Silent {
+                return Ok(turn);
+            }
+        }
+        Err(AllocError)
+    }
+
+    /// The thread has ended with this result.
+    pub(crate) fn end(&mut self, program: &Program, outcome: Outcome)
+        ensures { IsSameThread (record self.old { done = Some outcome }) self.new }
+    {
+        self.bodies.end(program);
+        self.done = Some(outcome);
+    }
+
+    /// The request that waits is given up, or the body that waits is ended: the machine ends the thread by InternalError.
+    pub(crate) fn give_up(&mut self, program: &Program, log: &EventLog) -> Option<Outcome>
+        requires paused { IsPaused program.now (B.making program.now) log.now self.old }
+        ensures going { GoesOrEnds program.now (B.making program.now) log.now self.new result }
+        ensures same { IsSameThread (record self.old { gave_up = true }) self.new }
+    {
+        let error = program.built_in(BuiltIn::InternalError);
+        match self.procedure.next() {
+            Next::Look(_) => {
+                self.procedure.end_thread(error);
+                self.gave_up = true;
+                None
+            }
+            _ => self.leave(program, log, error, true),
+        }
+    }
+}
