@@ -1,13 +1,13 @@
 -- Numbers that are written are read again, and what is read as a number is its decimal.
-use Rattle.std.proofs.Common.{◌≡◌, ℕ, zero, suc, ◌<◌, ◌≤◌, ◌^◌, true, eqb, nat_lt, List, [], ◌∷◌, length, Option, Some, None, Ok, refl, ap, arith}
+use Rattle.std.proofs.Common.{◌≡◌, ℕ, zero, suc, ◌+◌, ◌-◌, ◌<◌, ◌≤◌, ◌^◌, true, eqb, nat_lt, List, [], ◌∷◌, length, Option, Some, None, Ok, refl, sym, ap, ◌∙◌, arith}
 use Rattle.std.proofs.lemmas.Bool.{eqb-true, ltb-true, lt-ltb}
-use Rattle.std.proofs.lemmas.Fmt.{decimal_nonempty}
+use Rattle.std.proofs.lemmas.Fmt.{decimal_nonempty, decimal_digit}
 use Rattle.std.proofs.lemmas.Int.Digits.{digits_value-lt}
 use Rattle.std.proofs.Math.Nat.{pow-le-pow_right}
 use Rattle.std.specs.Str.Parse.{digits_value}
 use Rattle.std.specs.Fmt.{decimal, signed_decimal}
 use Rattle.std.specs.Int.{w32}
-use Rattle.std.specs.Prelude.{ℤ, pos, negsuc, neg_ℤ, FitsSigned}
+use Rattle.std.specs.Prelude.{ℤ, pos, negsuc, neg_ℤ, FitsSigned, slice_index_or}
 use Rattle.jasmin_words.specs.Integers.{integer_of, of_bits, IsInteger, decimal as in_decimal, minus, bits}
 use Rattle.jasmin_words.specs.Names.{same_bytes}
 use Rattle.jasmin_words.proofs.Numbers.{written_again, integer_is}
@@ -15,7 +15,7 @@ use Rattle.jasmin_words.proofs.Results.{Holds, guard_holds, cond_holds, HoldsIn,
 use Rattle.jasmin_text.proofs.WordBytes.{same_is, decimal_word}
 use Rattle.jasmin_text.specs.Spellable.{is_int}
 use Rattle.jasmin_text.proofs.AccessLines.{int_of}
-use Rattle.trace_reader.specs.Numbers.{spelled_so, int_in, from_zero, number_in, is_number, number_at, known_thread, thread_at}
+use Rattle.trace_reader.specs.Numbers.{spelled_so, int_in, from_zero, number_in, is_digit, is_number, number_at, known_thread, thread_at}
 use Rattle.trace_reader.proofs.LineWords.{IsLineWord, unbroken_word}
 
 pub same_self : (xs : List ℕ) → same_bytes xs xs ≡ true
@@ -55,6 +55,18 @@ natural_found word = at (int_in word) (int_found word)
 
 pub natural_again : (n : ℕ) → n < 2147483648 → number_in (decimal n) ≡ Some n
 natural_again n h = ap from_zero (int_again (pos n) (int_of (pos n) (lt-ltb n 2147483648 h)))
+
+digit_number : (b : ℕ) → is_digit b ≡ true → number_in (b ∷ []) ≡ Some (b - 48)
+digit_number b e =
+    let small : (48 ≤ b) × (b ≤ 57) = (grind arith, grind arith) in
+    let back : 48 + (b - 48) ≡ b = omega (arith, small.0) in
+    let same : decimal (b - 48) ≡ b ∷ [] = decimal_digit (b - 48) (omega (arith, small.1)) ∙ ap (λ n. n ∷ []) back in
+    ap number_in (sym same) ∙ natural_again (b - 48) (omega (arith, small.1))
+
+pub digit_word : (word : List ℕ) → 1 ≤ length word → length word < 2 → is_digit (slice_index_or word 0 0) ≡ true → Some (slice_index_or word 0 0 - 48) ≡ number_in word
+digit_word [] some one e = absurd (omega arith)
+digit_word (b ∷ []) some one e = sym (digit_number b e)
+digit_word (b ∷ c ∷ rest) some one e = absurd (omega arith)
 
 pub thread_found : (threads : ℕ) (word : List ℕ) → Holds (λ t. (word ≡ 116 ∷ decimal t) × (t < threads)) (thread_at threads word)
 unfolding thread_at

@@ -1,17 +1,20 @@
 -- Texts that are written are read again, and what is read as a text is its spelling.
-use Rattle.std.proofs.Common.{◌≡◌, ℕ, zero, suc, inl, inr, ◌+◌, ◌*◌, ◌/◌, ◌%◌, ◌≤◌, ◌<◌, Bool, true, false, ◌&&◌, ◌||◌, cond, eqb, nat_lt, List, [], ◌∷◌, ◌++◌, length, Option, Some, None, Result, Ok, Err, refl, sym, ap, subst, ◌∙◌, append_assoc, arith}
+use Rattle.std.proofs.Common.{◌≡◌, ℕ, zero, suc, inl, inr, ◌+◌, ◌-◌, ◌*◌, ◌/◌, ◌%◌, ◌≤◌, ◌<◌, Bool, true, false, ◌&&◌, ◌||◌, cond, eqb, nat_lt, List, [], ◌∷◌, ◌++◌, length, Option, Some, None, Result, Ok, Err, refl, sym, ap, subst, ◌∙◌, append_assoc, arith}
 use Rattle.std.proofs.lemmas.Bool.{eqb-true, cases_Bool}
-use Rattle.std.proofs.lemmas.List.{append-nil}
-use Rattle.std.specs.Prelude.{nat_le, codes}
+use Rattle.std.proofs.lemmas.List.{append-nil, length-drop}
+use Rattle.std.specs.Prelude.{nat_le, codes, not, take, drop}
 use Rattle.std.specs.Char.{digit_char}
-use Rattle.std.specs.Str.{is_utf8}
+use Rattle.std.proofs.lemmas.Str.{IsUtf8-from_ascii, is_utf8-from_IsUtf8}
+use Rattle.std.proofs.lemmas.Str.Ascii.{IsAscii-nil, IsAscii-cons}
+use Rattle.std.specs.List.{list_all}
+use Rattle.std.specs.Str.{is_utf8, IsAscii}
 use Rattle.jasmin_words.specs.declared.refusal.Refusal.{Refusal}
 use Rattle.jasmin_words.specs.declared.refusal.Refusal.TheVariants as refusal
 use Rattle.jasmin_words.specs.Gives.{◌>>=◌, Fails}
 use Rattle.jasmin_words.specs.Quoting.{quoted_byte, quoted_bytes, quoted}
 use Rattle.jasmin_words.proofs.Results.{Holds, bind_holds, guard_holds, cond_holds, holds_at, HoldsIn, cond_in, guard_in}
 use Rattle.trace_reader.specs.Words.{ends_word}
-use Rattle.trace_reader.specs.Strings.{low_hex, has_code, coded, letter, byte_or_bad, code_at, escape_at, is_plain, byte_at, before, closing, bytes_in, bytes_at, quote_at, closed_at, utf8_at, text_at}
+use Rattle.trace_reader.specs.Strings.{low_hex, has_code, coded, letter, byte_or_bad, code_at, escape_at, is_plain, plain_len, byte_at, before, closing, bytes_in, bytes_at, quote_at, closed_at, utf8_at, text_at}
 use Rattle.trace_reader.specs.declared.fault.TraceFaultKind.{TraceFaultKind}
 use Rattle.trace_reader.specs.declared.fault.TraceFaultKind.TheVariants.{BadValue}
 
@@ -189,6 +192,41 @@ before-before : (xs ys : List ℕ) (r : Result (List ℕ × List ℕ) TraceFault
 before-before xs ys (Ok x) = ap (λ (z : List ℕ). Ok (z, x.1)) (sym (append_assoc xs ys x.0))
 before-before xs ys (Err k) = refl
 
+before-none : (r : Result (List ℕ × List ℕ) TraceFaultKind) → before [] r ≡ r
+before-none (Ok x) = refl
+before-none (Err k) = refl
+
+not-true : (a : Bool) → not a ≡ true → a ≡ false
+not-true true e = absurd cc
+not-true false e = refl
+
+plain_byte : (b : ℕ) (s : List ℕ) → (is_plain b && not (eqb b 92)) ≡ true → byte_at (b ∷ s) ≡ Ok (b, s)
+unfolding byte_at
+plain_byte b s e = let p = both (is_plain b) (not (eqb b 92)) e in let n : eqb b 92 ≡ false = not-true (eqb b 92) p.1 in rw (n, p.0) refl
+
+taken : (n b : ℕ) (s : List ℕ) → take (1 + n) (b ∷ s) ≡ b ∷ take n s
+taken n b s = let e : 1 + n ≡ suc n = omega arith in rw e refl
+
+left : (n b : ℕ) (s : List ℕ) → drop (1 + n) (b ∷ s) ≡ drop n s
+left n b s = let e : 1 + n ≡ suc n = omega arith in rw e refl
+
+plain_run : (s : List ℕ) → before (take (plain_len s) s) (bytes_at (drop (plain_len s) s)) ≡ bytes_at s
+plain_run [] = before-none (bytes_at [])
+plain_run (b ∷ s) = elim (cases_Bool (is_plain b && not (eqb b 92))) [
+  | inl e ↦ rw (e, taken (plain_len s) b s, left (plain_len s) b s) (sym (before-before (b ∷ []) (take (plain_len s) s) (bytes_at (drop (plain_len s) s))) ∙ ap (before (b ∷ [])) (plain_run s) ∙ sym (bytes_step (b ∷ s) s b (plain_byte b s e)))
+  | inr e ↦ rw e (before-none (bytes_at (b ∷ s)))
+]
+
+-- what is plain is added
+pub plain_added : (front s text behind : List ℕ) (total : Result (List ℕ × List ℕ) TraceFaultKind) → text ≡ front ++ take (plain_len s) s → behind ≡ drop (plain_len s) s → before front (bytes_at s) ≡ total → before text (bytes_at behind) ≡ total
+plain_added front s text behind total t b so_far = rw (t, b) (sym (before-before front (take (plain_len s) s) (bytes_at (drop (plain_len s) s))) ∙ ap (before front) (plain_run s) ∙ so_far)
+
+pub shrinks_behind : (s behind rest : List ℕ) (n c : ℕ) → behind ≡ drop n s → byte_at behind ≡ Ok (c, rest) → length rest < length s
+shrinks_behind s behind rest n c b e =
+    let less : length rest < length behind = shrinks behind rest c e in
+    let size : length behind ≡ length s - n = ap length b ∙ length-drop n s in
+    omega (arith, less, size)
+
 pub goes_on : (front s rest : List ℕ) (c : ℕ) (total : Result (List ℕ × List ℕ) TraceFaultKind) → byte_at s ≡ Ok (c, rest) → before front (bytes_at s) ≡ total → before (front ++ c ∷ []) (bytes_at rest) ≡ total
 goes_on front s rest c total e so_far = sym (before-before front (c ∷ []) (bytes_at rest)) ∙ ap (before front) (sym (bytes_step s rest c e)) ∙ so_far
 
@@ -210,6 +248,13 @@ fails front (b ∷ s) (refusal.Fault k) total c f so_far = elim (cases_Bool (eqb
 ]
 
 -- ---- the text
+
+ascii : (bs : List ℕ) → list_all (λ b. nat_lt b 128) bs ≡ true → IsAscii bs
+ascii [] e = IsAscii-nil
+ascii (b ∷ bs) e = let p = both (nat_lt b 128) (list_all (λ b. nat_lt b 128) bs) e in let small = p.0 in IsAscii-cons b bs (grind arith) (ascii bs p.1)
+
+pub ascii_is_utf8 : (bs : List ℕ) → list_all (λ b. nat_lt b 128) bs ≡ true → is_utf8 bs ≡ true
+ascii_is_utf8 bs e = is_utf8-from_IsUtf8 bs (IsUtf8-from_ascii bs (ascii bs e))
 
 abbrev pub IsTextOf : List ℕ → List ℕ × List ℕ → Type 0
 IsTextOf s x = (s ≡ quoted x.0 ++ codes "\n" ++ x.1) × (is_utf8 x.0 ≡ true)

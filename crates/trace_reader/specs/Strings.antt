@@ -40,6 +40,15 @@ escape_at (e ∷ rest) = if e == 117 then code_at rest else byte_or_bad (letter 
 abbrev pub is_plain : ℕ → Bool
 is_plain b = nat_le 32 b && not (b == 127) && not (b == 34)
 
+-- what stands for itself, and is no backslash
+abbrev pub stands_alone : ℕ → Bool
+stands_alone b = is_plain b && not (b == 92)
+
+-- how many bytes at the front stand for themselves
+abbrev pub plain_len : List ℕ → ℕ
+plain_len [] = 0
+plain_len (b ∷ bs) = if stands_alone b then 1 + plain_len bs else 0
+
 -- one byte of a text, and what follows its spelling
 unfoldable pub byte_at : List ℕ → Result (ℕ × List ℕ) TraceFaultKind
 byte_at [] = Err BadValue

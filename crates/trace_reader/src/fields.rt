@@ -13,12 +13,11 @@ ghost use Rattle.trace_reader.specs.Prefixes.{behind};
 
 use crate::fault::TraceFaultKind;
 use crate::numbers::{int, number};
-use crate::words::Read;
+use crate::words::{Read, same};
 use descriptors::{BaseType, ElementType, FieldType};
 use hierarchy::{ClassId, Program, Value};
 use jasmin_text::Field;
 use jasmin_words::Refusal;
-use jasmin_words::name::same;
 use statics::narrowed_int;
 
 /// The numbers of references in a trace are below this.

@@ -6,11 +6,10 @@ ghost use Rattle.jasmin_words.specs.Gives.{Gives};
 ghost use Rattle.trace_reader.specs.Numbers.{is_digit, is_number as is_decimal, int_in, number_in, number_at, known_thread, thread_at};
 
 use crate::fault::TraceFaultKind;
-use crate::words::Read;
+use crate::words::{Read, same};
 use itoa::Buffer;
 use jasmin_words::Refusal;
 use jasmin_words::integer::parse_integer;
-use jasmin_words::name::same;
 
 fn digit(byte: u8) -> bool
     ensures { result ≡ is_digit byte }
@@ -56,13 +55,22 @@ pub(crate) fn int(word: &[u8]) -> Option<i32>
     }
 }
 
-/// The number from 0 on whose decimal the word is. Takes no memory.
-pub(crate) fn number(word: &[u8]) -> Option<u32>
+fn any_number(word: &[u8]) -> Option<u32>
     ensures { result ≡ number_in word.now }
 {
     match int(word) {
         Some(number) if number >= 0 => Some(number as u32),
         _ => None,
+    }
+}
+
+/// The number from 0 on whose decimal the word is, most often one digit. Takes no memory.
+pub(crate) fn number(word: &[u8]) -> Option<u32>
+    ensures { result ≡ number_in word.now }
+{
+    match word {
+        [only] if digit(*only) => Some((*only - b'0') as u32),
+        _ => any_number(word),
     }
 }
 

@@ -1,15 +1,17 @@
 //! Texts in their canonical spelling.
 
-ghost use Rattle.std.specs.Prelude.{◌≡◌, ◌<◌, ◌≤◌, length, option_copied, IfOk, IfSome};
+ghost use Rattle.std.specs.Prelude.{◌≡◌, ◌<◌, ◌≤◌, ◌++◌, length, take, drop, nat_lt, option_copied, IfOk, IfSome};
+ghost use Rattle.std.specs.List.{list_all};
+ghost use Rattle.std.specs.Str.{is_utf8 as are_utf8};
 ghost use Rattle.jasmin_words.specs.Gives.{Gives};
-ghost use Rattle.trace_reader.specs.Strings.{low_hex, has_code, coded, letter, code_at, escape_at, is_plain, byte_at, closing, bytes_at, quote_at, closed_at, text_at};
+ghost use Rattle.trace_reader.specs.Strings.{low_hex, has_code, coded, letter, code_at, escape_at, is_plain, stands_alone, plain_len, byte_at, closing, bytes_at, quote_at, closed_at, text_at};
 
 use crate::fault::TraceFaultKind;
 use crate::words::{Read, ends_word};
 use jasmin_words::Refusal;
 use jasmin_words::token::is_text;
 use sequence::Text;
-use std::alloc::Global;
+use std::alloc::{AllocError, Global};
 
 fn digit_of(byte: u8) -> Option<u8>
     ensures value { result ≡ low_hex byte }
@@ -98,6 +100,49 @@ fn behind_closing(bytes: &[u8]) -> Option<&[u8]>
     }
 }
 
+// Most bytes are letters of lower case, and take two tests.
+fn is_alone(byte: u8) -> bool
+    ensures { result ≡ stands_alone byte }
+{
+    if b'\\' < byte {
+        byte != 127
+    } else {
+        32 <= byte && byte != b'"' && byte != b'\\'
+    }
+}
+
+/// How many bytes at the front stand for themselves.
+fn plain_length(bytes: &[u8]) -> usize
+    ensures value { result ≡ plain_len bytes.now }
+    ensures within { result ≤ length bytes.now }
+{
+    let mut count = 0;
+    let mut rest = bytes;
+    while let [byte, after @ ..] = rest {
+        if !is_alone(*byte) {
+            return count;
+        }
+        count += 1;
+        rest = after;
+    }
+    count
+}
+
+/// Adds the bytes at the front that stand for themselves, all at once, with room for one more: what follows them.
+fn add_plain<'a>(text: &mut Vec<u8>, bytes: &'a [u8]) -> Result<&'a [u8], AllocError>
+    ensures text { IfOk result (λ _. text.new.items ≡ text.old.items ++ take (plain_len bytes.now) bytes.now) }
+    ensures rest { IfOk result (λ rest. rest.now ≡ drop (plain_len bytes.now) bytes.now) }
+{
+    let length = plain_length(bytes);
+    if length == 0 {
+        return Ok(bytes);
+    }
+    let (plain, rest) = bytes.split_at(length);
+    text.reserve(length + 1)?;
+    text.extend_from_slice(plain)?;
+    Ok(rest)
+}
+
 /// The bytes up to the closing quote, and what follows it.
 fn bytes_of(alloc: Global, bytes: &[u8]) -> Read<(Vec<u8>, &[u8])>
     ensures { Gives (λ x. (x.0.items, x.1.now)) result (bytes_at bytes.now) }
@@ -105,13 +150,35 @@ fn bytes_of(alloc: Global, bytes: &[u8]) -> Read<(Vec<u8>, &[u8])>
     let mut text = Vec::new(alloc);
     let mut rest = bytes;
     'bytes: loop {
-        if let Some(after) = behind_closing(rest) {
+        let behind = add_plain(&mut text, rest)?;
+        if let Some(after) = behind_closing(behind) {
             return Ok((text, after));
         }
-        let (byte, after) = byte_of(rest)?;
+        let (byte, after) = byte_of(behind)?;
         text.push(byte)?;
         rest = after;
     }
+}
+
+// Goes on behind a byte that isn't, so that several bytes can be looked at at once.
+fn is_ascii(bytes: &[u8]) -> bool
+    ensures { result ≡ list_all (λ b. nat_lt b 128) bytes.now }
+{
+    let mut all = true;
+    let mut rest = bytes;
+    while let [byte, after @ ..] = rest {
+        all &= *byte < 128;
+        rest = after;
+    }
+    all
+}
+
+/// Whether the bytes are UTF-8, as those of ASCII are.
+#[tactic(auto, using(crate::proofs::QuotedTexts::ascii_is_utf8))]
+fn is_utf8(bytes: &[u8]) -> bool
+    ensures { result ≡ are_utf8 bytes.now }
+{
+    is_ascii(bytes) || is_text(bytes)
 }
 
 #[tactic(auto, unfolding(crate::specs::Strings::quote_at))]
@@ -144,7 +211,7 @@ pub(crate) fn text(alloc: Global, bytes: &[u8]) -> Read<(Text, &[u8])>
 {
     let inside = behind_quote(bytes)?;
     let (text, after) = bytes_of(alloc, inside)?;
-    if !is_text(&text) {
+    if !is_utf8(&text) {
         return Err(Refusal::Fault(TraceFaultKind::BadValue));
     }
     let rest = behind_text(after)?;

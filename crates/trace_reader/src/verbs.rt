@@ -5,9 +5,8 @@ ghost use Rattle.jasmin_words.specs.Gives.{Gives};
 ghost use Rattle.trace_reader.specs.Verbs.{deed_at, verb_at};
 
 use crate::fault::TraceFaultKind;
-use crate::words::Read;
+use crate::words::{Read, same};
 use jasmin_words::Refusal;
-use jasmin_words::name::same;
 
 /// What a thread does at a class.
 #[derive(Clone, Copy, Debug)]

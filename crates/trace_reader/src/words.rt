@@ -2,6 +2,7 @@
 
 ghost use Rattle.std.specs.Prelude.{◌≡◌, ◌≤◌, ◌<◌, length, IfOk};
 ghost use Rattle.jasmin_words.specs.Gives.{Gives};
+ghost use Rattle.jasmin_words.specs.Names.{same_bytes};
 ghost use Rattle.trace_reader.specs.Words.{ends_word as is_ending, word_len, word_at, space_at, next_at, end_at};
 
 use crate::fault::TraceFaultKind;
@@ -9,6 +10,22 @@ use jasmin_words::Refusal;
 
 /// What a line's reading answers: what was read, else what is wrong with the line, or that memory ran out.
 pub(crate) type Read<T> = Result<T, Refusal<TraceFaultKind>>;
+
+/// Whether two words have the same bytes. Words of a trace are short and mostly differ early, so they are gone over byte by byte.
+pub(crate) fn same(word: &[u8], other: &[u8]) -> bool
+    ensures { result ≡ same_bytes word.now other.now }
+{
+    let mut rest = word;
+    let mut wanted = other;
+    while let [byte, after @ ..] = rest {
+        match wanted {
+            [first, behind @ ..] if *byte == *first => wanted = behind,
+            _ => return false,
+        }
+        rest = after;
+    }
+    wanted.is_empty()
+}
 
 /// Whether a byte ends a word.
 pub(crate) fn ends_word(byte: u8) -> bool
