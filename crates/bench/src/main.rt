@@ -10,6 +10,7 @@
 mod files;
 mod harness;
 mod history;
+mod judging;
 mod link;
 mod lock;
 mod looks;
@@ -28,7 +29,7 @@ use std::rt::Clock;
 use std::sync::Wait;
 use std::thread::Threads;
 
-const USAGE: &str = "give a name to see ratios: reader, link, needs, looks, lock, threads";
+const USAGE: &str = "give a name to see ratios: reader, link, needs, looks, judge, lock, threads";
 
 // How many parts the files of `reader` have where no number is given.
 const PARTS: usize = 20_000;
@@ -41,6 +42,7 @@ const ALL: &[&[Row]] = &[
     link::ROWS,
     needs::ROWS,
     looks::ROWS,
+    judging::ROWS,
     lock::ROWS,
     threads::ROWS,
 ];
@@ -54,6 +56,7 @@ enum Benchmark {
     Link,
     Needs,
     Looks,
+    Judge,
     Lock,
     Threads,
     /// No name of a benchmark.
@@ -79,6 +82,7 @@ fn benchmark_of(word: &str) -> Benchmark {
         "link" => Benchmark::Link,
         "needs" => Benchmark::Needs,
         "looks" => Benchmark::Looks,
+        "judge" => Benchmark::Judge,
         "lock" => Benchmark::Lock,
         "threads" => Benchmark::Threads,
         _ => Benchmark::Unknown,
@@ -118,6 +122,7 @@ fn rows_of(benchmark: Benchmark, detail: Detail) -> Option<(&'static [Row], usiz
         (Benchmark::Link, Detail::All) => Some((link::ROWS, 1)),
         (Benchmark::Needs, Detail::All) => Some((needs::ROWS, 1)),
         (Benchmark::Looks, Detail::All) => Some((looks::ROWS, 1)),
+        (Benchmark::Judge, Detail::All) => Some((judging::ROWS, 1)),
         (Benchmark::Lock, Detail::All) => Some((lock::ROWS, ROUNDS)),
         (Benchmark::Lock, Detail::Number(rounds)) => Some((lock::ROWS, rounds)),
         (Benchmark::Threads, Detail::All) => Some((threads::ROWS, 1)),

@@ -2,6 +2,7 @@
 
 use crate::files::Files;
 use crate::harness::{Failure, add_time};
+use crate::judging::{self, Story};
 use crate::link::{self, Shape};
 use crate::lock::{self, Contest};
 use crate::looks::{self, Use};
@@ -40,6 +41,10 @@ pub(crate) enum Scene {
     Needs,
     /// So many uses of a class's record: one of them.
     Use(Use),
+    /// Judging so many events: an event.
+    Judge(Story),
+    /// One pass over them: an event.
+    Pass(Story),
     /// A run of so many threads: an event.
     Run(Chains),
     /// A run of sixteen threads whose one main class is held for a second: an event.
@@ -55,6 +60,7 @@ impl Scene {
             }
             Scene::Needs => needs::add_files(files, size),
             Scene::Use(_) => files.add_file(looks::FILE),
+            Scene::Judge(_) | Scene::Pass(_) => judging::add_files(files),
             Scene::Run(chains) => threads::add_files(files, chains, size),
             Scene::Held => files.add_file(threads::HELD_FILE),
         }
@@ -78,6 +84,8 @@ impl Scene {
             Scene::Resolve(_) => link::resolve_time(rt, program),
             Scene::Needs => needs::time(rt, alloc, program, size),
             Scene::Use(usage) => looks::time(rt, alloc, program, usage, size),
+            Scene::Judge(story) => judging::time(rt, alloc, program, story, size),
+            Scene::Pass(story) => judging::pass_time(rt, alloc, story, size),
             Scene::Run(chains) => threads::time(rt, alloc, program, chains, size),
             Scene::Held => threads::held_time(rt, alloc, program),
         }
