@@ -1,5 +1,8 @@
 //! Why a list of events is illegal, in words.
 
+ghost use Rattle.std.specs.Prelude.{◌≡◌, ◌≢◌, ◌≤◌, [], IfOk, OnOk, vec_len};
+ghost use Rattle.judge.specs.declared.verdict.Verdict.TheVariants as verdicts;
+
 use crate::judge::Judge;
 use crate::open_class::{OpenClass, Stage};
 use crate::reader::Reader;
@@ -55,7 +58,9 @@ impl Words<'_> {
     }
 
     /// The rule that an event breaks.
-    fn broken(&mut self, judge: &Judge, event: &Event, rule: Rule) -> Result<(), AllocError> {
+    fn broken(&mut self, judge: &Judge, event: &Event, rule: Rule) -> Result<(), AllocError>
+        ensures { OnOk result (1 ≤ vec_len self.new.text) }
+    {
         let kind = event.kind()?;
         match rule {
             Rule::Word => self.say("JLS SE 8 12.4.2 lets the thread do no other thing here")?,
@@ -93,7 +98,9 @@ impl Words<'_> {
         judge: &Judge,
         event: &Event,
         rule: Rule,
-    ) -> Result<(), AllocError> {
+    ) -> Result<(), AllocError>
+        ensures { OnOk result (1 ≤ vec_len self.new.text) }
+    {
         self.event(alloc, event)?;
         let thread = event.thread();
         match judge.readers.of_threads.get(thread) {
@@ -107,7 +114,9 @@ impl Words<'_> {
     }
 
     /// Of a list that ends too early: each thread that has not ended what it began.
-    fn unfinished(&mut self, judge: &Judge) -> Result<(), AllocError> {
+    fn unfinished(&mut self, judge: &Judge) -> Result<(), AllocError>
+        ensures { OnOk result (1 ≤ vec_len self.new.text) }
+    {
         self.say("the trace ends there\n")?;
         'readers: for (thread, reader) in judge.readers.of_threads.iter().enumerate() {
             if !reader.may_stop() {
@@ -132,7 +141,10 @@ pub fn explain(
     mains: &[ClassId],
     events: &[Event],
     verdict: Verdict,
-) -> Result<Vec<u8>, AllocError> {
+) -> Result<Vec<u8>, AllocError>
+    ensures none { IfOk result (λ text. verdict ≡ verdicts.Legal → text.items ≡ []) }
+    ensures some { IfOk result (λ text. verdict ≢ verdicts.Legal → 1 ≤ vec_len text) }
+{
     let Verdict::IllegalAt(number, rule) = verdict else {
         return Ok(Vec::new(alloc));
     };

@@ -1,5 +1,7 @@
 //! The state of threads and classes after some events, in words.
 
+ghost use Rattle.std.specs.Prelude.{◌≡◌, ◌++◌, OnOk};
+
 use crate::items::ending_error;
 use crate::open_class::{OpenClass, Stage};
 use crate::reader::Reader;
@@ -40,14 +42,18 @@ impl<'a> Words<'a> {
         }
     }
 
-    pub(crate) fn into_text(self) -> Vec<u8> {
+    pub(crate) fn into_text(self) -> Vec<u8>
+        ensures { result ≡ self.entry.text }
+    {
         let Words { text, .. } = self;
         text
     }
 }
 
 impl Words<'_> {
-    pub(crate) fn say(&mut self, words: &str) -> Result<(), AllocError> {
+    pub(crate) fn say(&mut self, words: &str) -> Result<(), AllocError>
+        ensures { OnOk result (self.new.text.items ≡ self.old.text.items ++ words.now) }
+    {
         self.text.extend_from_slice(words.as_bytes())
     }
 
