@@ -57,8 +57,9 @@ def run(tasks, given, processors, memory, memory_for):
         return front if key[1] == "proof" and (key in waited_for or is_long(key)) else back
 
     def start():
-        """Starts what there is room for: tests before edits, and first what has the longest path behind it."""
-        left.sort(key=lambda it: (it[1] == "edits", -behind[it]))
+        """Starts what there is room for: first what gathers the results of a crate's edits, so that the crate is kept, then tests,
+        then edits, and of each what has the longest path behind it."""
+        left.sort(key=lambda it: (len(it) > 2 and it[1] == "edits", it[1] != "edits", -behind[it]))
         for lanes in front, back:
             ready = [it for it in left if is_ready(it) and lanes_of(it) is lanes]
             for at, key in enumerate(ready):
