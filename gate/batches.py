@@ -1,8 +1,7 @@
 """Must-fail edits tried in batches, over the work that this run's proof of the crate made.
 
-A batch has at most one edit of a function, and the crate with all of its edits is checked once. An edit counts as
-refused only where the prover refuses its function for a goal of that function's own: not where it says that the function
-calls another that isn't proved. What a batch leaves open is tried alone, as `rt ci` does it."""
+A batch has at most one edit of a function, and the crate with all of its edits is checked once. An edit counts as refused only where the prover refuses its function for a goal of that function's own: not
+where it says that the function calls another that isn't proved. What a batch leaves open is tried alone, as `rt ci` does it."""
 import os
 import re
 import shutil
@@ -11,11 +10,14 @@ import tempfile
 import time
 from collections import deque
 
+import calls
 import places
 from tally import say
 
 # How many edits a batch has at most: with more, an edit that is refused slowly holds up many others.
 MOST = 16
+# How many functions that no edit changes a batch may have the prover look at again: each takes a second, a batch more some fifteen.
+BETWEEN = 8
 # An edit that takes more seconds than these to be refused is shown: another one of the same meaning may take less.
 SLOW = 10
 
@@ -128,14 +130,29 @@ class copied:
 def plan(crate, names, edits):
     """Batches, each a list of edits with their functions, and the edits that go alone: an edit of a constant, of
     specs/ or proofs/, or of more than one body."""
-    rounds, alone = [], []
+    called = calls.calls_of(crate.rlib) if crate.makes_rlib() else {}
+    placed, alone = [], []
     for edit in edits:
         function = places.function_of(crate, edit, names)
         if function is None or places.texts_with(crate.folder, [edit]) is None:
             alone.append(edit)
-            continue
-        fits = (it for it in rounds if all(other != function for _, other in it))
-        chosen = next(fits, None)
+        else:
+            placed.append((edit, function))
+
+    def between(functions):
+        """The functions that are called by one of these and call another: they are looked at again."""
+        above = {it for function in functions for it in called.get(function, ())}
+        return {it for it in above.difference(functions) if not called[it].isdisjoint(functions)}
+
+    def fits(function, batch):
+        there = {it for _, it in batch}
+        return function not in there and len(between({*there, function})) <= BETWEEN
+
+    # (a function after those that it calls: the first batch that an edit fits into then makes few)
+    placed.sort(key=lambda it: len(called.get(it[1], ())))
+    rounds = []
+    for edit, function in placed:
+        chosen = next((it for it in rounds if fits(function, it)), None)
         if chosen is None:
             chosen = []
             rounds.append(chosen)

@@ -15,6 +15,8 @@ mod frame_throws;
 #[cfg(test)]
 mod handlers;
 #[cfg(test)]
+mod heaps;
+#[cfg(test)]
 mod procedures;
 #[cfg(test)]
 mod programs;

@@ -20,8 +20,6 @@ mod instances;
 mod making;
 pub mod monitors;
 pub mod object;
-#[cfg(test)]
-mod tests;
 mod types;
 
 use hierarchy::{BuiltIn, ClassId, Program, ReadyObject};

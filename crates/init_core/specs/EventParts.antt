@@ -1,5 +1,5 @@
 -- The parts of an event, and how they are stored.
-use Rattle.std.specs.Prelude.{ℕ, Option, Some, None}
+use Rattle.std.specs.Prelude.{ℕ, List, Option, Some, None}
 use Rattle.hierarchy.specs.declared.class.ClassId.{ClassId}
 use Rattle.hierarchy.specs.LinkedProgram.{id}
 use Rattle.init_core.specs.declared.event.Kind.{Kind}
@@ -32,3 +32,8 @@ kind_in (stored.Fails n) = kind.Fails (id n)
 kind_in (stored.Gets place value) = kind.Gets place value
 kind_in (stored.Puts place value) = kind.Puts place value
 kind_in (stored.Prints text) = kind.Prints text.value
+
+-- the text that is printed, where one is
+abbrev pub text_of : Kind → Option (List ℕ)
+text_of (kind.Prints text) = Some text
+text_of other = None

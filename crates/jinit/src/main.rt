@@ -26,18 +26,36 @@ fn fault_of(error: &io::Error) -> NamedFault {
     }
 }
 
+/// How many bytes are asked for at once.
+const CHUNK: usize = 16_384;
+
 /// The first bytes of a file, at most `most` of them.
 fn read_file(alloc: Global, file: impl Read + Drop, most: usize) -> Result<Vec<u8>, NamedFault>
     ensures { IfOk result (λ bytes. vec_len bytes ≤ most) }
 {
+    let mut file = file.take(most as u64);
+    let mut chunk = [0; CHUNK];
     let mut bytes = Vec::new(alloc);
-    match file.take(most as u64).read_to_end(&mut bytes) {
-        Ok(_) => {
-            bytes.truncate(most);
-            Ok(bytes)
+    // (each turn but the last has a byte at least, unless a signal breaks into it)
+    for _ in 0..=most {
+        match file.read(&mut chunk) {
+            Ok(0) => {
+                bytes.truncate(most);
+                return Ok(bytes);
+            }
+            Ok(count) => {
+                if bytes.extend_from_slice(&chunk[..count]).is_err() {
+                    return Err(NamedFault::Memory);
+                }
+            }
+            Err(error) => {
+                if error.kind() != io::ErrorKind::Interrupted {
+                    return Err(fault_of(&error));
+                }
+            }
         }
-        Err(error) => Err(fault_of(&error)),
     }
+    Err(NamedFault::Io)
 }
 
 impl<R: Files> Named for MachineFiles<'_, R> {

@@ -5,6 +5,7 @@ pub mod ReadEvents
 pub mod Parts
 pub mod Lists
 pub mod Threads
+pub mod Prints
 pub mod States
 pub mod Rules
 pub mod Judged

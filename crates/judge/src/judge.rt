@@ -1,8 +1,9 @@
 //! Events of all threads, judged one after the other.
 
-ghost use Rattle.std.specs.Prelude.{◌≡◌, ◌<◌, ◌++◌, ◌∷◌, [], List, None, IfOk, IfSome, true, false};
+ghost use Rattle.std.specs.Prelude.{◌≡◌, ℕ, ◌<◌, ◌++◌, ◌∷◌, [], List, None, IfOk, IfSome, true, false};
 ghost use Rattle.hierarchy.specs.declared.class.ClassId.{ClassId as ClassFacts};
 ghost use Rattle.hierarchy.specs.LinkedProgram.{LinkedProgram};
+ghost use Rattle.init_core.specs.ProcedureWord.{printed};
 ghost use Rattle.init_core.specs.declared.event.Event.{Event as EventFacts};
 ghost use Rattle.judge.specs.Judging.{HasJudged, MayAllStop};
 ghost use Rattle.judge.specs.Reading.{made_by};
@@ -47,8 +48,28 @@ impl Judge {
         ensures fits { IfOk result (λ r. r ≡ None → (mains : List ClassFacts) (h : List EventFacts) → HasJudged program.now mains self.old h → HasJudged program.now mains self.new (h ++ event.now ∷ [])) }
         ensures breaks { IfOk result (λ r. IfSome r (λ rule. (mains : List ClassFacts) (h : List EventFacts) → HasJudged program.now mains self.old h → Breaks program.now mains rule (h ++ event.now ∷ []))) }
     {
+        if event.class().is_none() && event.text().is_some() {
+            return self.take_print(alloc, program, event.thread());
+        }
         let kind = event.kind()?;
         self.take_parts(alloc, program, event.thread(), event.class(), &kind)
+    }
+
+    /// The same of a print, whose text decides nothing and isn't copied.
+    fn take_print(
+        &mut self,
+        alloc: Global,
+        program: &Program,
+        thread: usize,
+    ) -> Result<Option<Rule>, AllocError>
+        ensures fits { IfOk result (λ r. r ≡ None → (mains : List ClassFacts) (h : List EventFacts) (text : List ℕ) → HasJudged program.now mains self.old h → HasJudged program.now mains self.new (h ++ printed thread text ∷ [])) }
+        ensures breaks { IfOk result (λ r. IfSome r (λ rule. (mains : List ClassFacts) (h : List EventFacts) (text : List ℕ) → HasJudged program.now mains self.old h → Breaks program.now mains rule (h ++ printed thread text ∷ []))) }
+    {
+        if self.readers.read_print(alloc, program, thread)? {
+            Ok(None)
+        } else {
+            Ok(Some(Rule::Word))
+        }
     }
 
     /// The same by the event's parts.

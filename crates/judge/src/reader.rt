@@ -1,6 +1,7 @@
 //! The reading of one thread's events.
 
-ghost use Rattle.std.specs.Prelude.{◌≡◌, ℕ, Bool, IfOk, true, false};
+ghost use Rattle.std.specs.Prelude.{◌≡◌, ℕ, List, Bool, IfOk, true, false};
+ghost use Rattle.init_core.specs.ProcedureWord.{printed};
 ghost use Rattle.init_core.specs.Standing.{Standing};
 ghost use Rattle.judge.specs.NextEvent.{begun_after};
 ghost use Rattle.judge.specs.Reading.{MayStop, Reads, made_by, opening};
@@ -8,6 +9,7 @@ ghost use Rattle.judge.specs.Reading.{MayStop, Reads, made_by, opening};
 use crate::open_class::Procedures;
 use hierarchy::{ClassId, Program};
 use init_core::{Kind, Outcome};
+use sequence::Sequence;
 use std::alloc::{AllocError, Global};
 
 /// Where the events of one thread have led.
@@ -49,6 +51,20 @@ impl Reader {
         let begun = self.begun;
         self.begun = self.procedures.begun_after(begun);
         self.procedures.take(alloc, program, begun, class, kind)
+    }
+
+    /// Reads a print: whether it may come, whatever its text. Where it may not, nothing is said of the reader.
+    ///
+    /// An `Err` is being out of memory.
+    pub(crate) fn read_print(
+        &mut self,
+        alloc: Global,
+        program: &Program,
+    ) -> Result<bool, AllocError>
+        ensures yes { IfOk result (λ b. b ≡ true → (t : ℕ) (text : List ℕ) → Reads program.now t self.old.begun self.old.procedures (printed t text) self.new.begun self.new.procedures) }
+        ensures no { IfOk result (λ b. b ≡ false → (t : ℕ) (text : List ℕ) (begun : Bool) (after : Standing) → Reads program.now t self.old.begun self.old.procedures (printed t text) begun after → ⊥) }
+    {
+        self.read(alloc, program, None, &Kind::Prints(Sequence::new(alloc)))
     }
 
     /// Whether no class is open, and the thread is ended: by what its main class ended with, or by the machine. Takes no memory.

@@ -2,6 +2,7 @@
 
 ghost use Rattle.std.specs.Prelude.{◌≡◌, ℕ, ◌≤◌, ◌++◌, ◌∷◌, [], List, IfOk, length, map, true, false};
 ghost use Rattle.hierarchy.specs.declared.class.ClassId.{ClassId as ClassFacts};
+ghost use Rattle.init_core.specs.ProcedureWord.{printed};
 ghost use Rattle.init_core.specs.declared.event.Event.{Event as EventFacts};
 ghost use Rattle.judge.specs.Judging.{AreReadersAfter, MayAllStop, opened};
 ghost use Rattle.judge.specs.Reading.{made_by};
@@ -54,6 +55,28 @@ impl Readers {
         }
         let reader = &mut self.of_threads[thread];
         reader.read(alloc, program, class, kind)
+    }
+
+    /// Reads a print of a thread, whatever its text: whether it may come next. Where it may not, nothing is said of the readers.
+    ///
+    /// An `Err` is being out of memory.
+    pub(crate) fn read_print(
+        &mut self,
+        alloc: Global,
+        program: &Program,
+        thread: usize,
+    ) -> Result<bool, AllocError>
+        ensures yes { IfOk result (λ b. b ≡ true → (mains : List ClassFacts) (h : List EventFacts) (text : List ℕ) →
+            AreReadersAfter program.now mains self.old.of_threads.items h → AreReadersAfter program.now mains self.new.of_threads.items (h ++ printed thread text ∷ [])) }
+        ensures no { IfOk result (λ b. b ≡ false → (mains : List ClassFacts) (h : List EventFacts) (text : List ℕ) →
+            AreReadersAfter program.now mains self.old.of_threads.items h → ThreadsBegin program.now mains (h ++ printed thread text ∷ []) → ⊥) }
+    {
+        if thread < self.of_threads.len() {
+            let reader = &mut self.of_threads[thread];
+            reader.read_print(alloc, program)
+        } else {
+            Ok(false)
+        }
     }
 
     /// Whether each thread may stop here. Takes no memory.

@@ -3,7 +3,7 @@
 ghost use Rattle.std.specs.Prelude.{◌≡◌, ◌++◌, IfOk};
 ghost use Rattle.trace.specs.Output.{output_in, output_of};
 
-use init_core::{Event, Kind};
+use init_core::Event;
 use sequence::{Sequence, Text};
 use std::alloc::{AllocError, Global};
 
@@ -11,8 +11,8 @@ use std::alloc::{AllocError, Global};
 fn add_output(output: &mut Vec<u8>, event: &Event) -> Result<(), AllocError>
     ensures { IfOk result (λ _. output.new.items ≡ output.old.items ++ output_in event.now.kind) }
 {
-    if let Kind::Prints(text) = event.kind()? {
-        output.extend_from_slice(text.as_slice())?;
+    if let Some(text) = event.text() {
+        output.extend_from_slice(text)?;
     }
     Ok(())
 }

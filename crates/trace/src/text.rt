@@ -193,7 +193,10 @@ fn write_line(
     ensures { OnOk result (out.new.items ≡ out.old.items ++ line program.now number event.now) }
 {
     write_head(out, number, event.thread())?;
-    write_kind(out, alloc, program, event.class(), &event.kind()?)?;
+    match event.text() {
+        Some(text) => write_print(out, text)?,
+        None => write_kind(out, alloc, program, event.class(), &event.kind()?)?,
+    }
     out.extend_from_slice(b"\n")?;
     Ok(())
 }

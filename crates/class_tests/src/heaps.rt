@@ -1,7 +1,7 @@
 //! The heap of a program without classes, and its monitors.
 
-use crate::{Entry, Heap, Holder, Monitor, Monitors, no_class, out_of_memory};
 use descriptors::BaseType;
+use heap::{Entry, Heap, Holder, Monitor, Monitors, no_class, out_of_memory};
 use hierarchy::{BuiltIn, Element, Program, ResolvedType, Value, link};
 use std::alloc::Global;
 
