@@ -1,15 +1,11 @@
 -- What is found of a trace in a file, while no file is written.
 use Rattle.std.proofs.Common.{◌≡◌, ◌+◌, ℕ, length, take, List, Option, Some, None, IsSomeAnd, subst}
 use Rattle.std.specs.Prelude.{Err}
-use Rattle.hierarchy.specs.declared.class.ClassId.{ClassId}
 use Rattle.hierarchy.specs.LinkedProgram.{LinkedProgram}
-use Rattle.init_core.specs.declared.event.Event.{Event}
-use Rattle.judge.specs.declared.verdict.Verdict.{Verdict}
 use Rattle.trace_reader.specs.declared.reader.TheConstants.{MOST_BYTES}
-use Rattle.trace_reader.specs.TraceEvents.{IsTraceOf}
 use Rattle.trace_reader.specs.TraceReading.{events_of}
 use Rattle.cli.specs.declared.fault.Fault.{Fault}
-use Rattle.cli.specs.Checking.{IsJudgeRefusal, IsJudgedOf, IsTraceRefusal, TraceHolds, faulty, no_memory, no_mains, no_room, no_trace, unread}
+use Rattle.cli.specs.Checking.{IsJudgeRefusal, IsTraceRefusal, faulty, no_memory, no_mains, no_room, no_trace, unread}
 use Rattle.cli.specs.Files.{FileHolds, Files, KeepsAllBut}
 use Rattle.cli.proofs.KnownFiles.{held_before}
 
@@ -23,24 +19,12 @@ front_is (Some files) name bytes P front holds = go (files name) front
     go None is = absurd is
     go (Some all) is = subst P is holds
 
-pub traced_before : (before after : Option Files) (file : List ℕ) (p : LinkedProgram) (threads : ℕ) (events : List Event) → KeepsAllBut None before after
-    → TraceHolds after file p threads events → TraceHolds before file p threads events
-traced_before before after file p threads events kept traced = held_before before after file (λ all. IsTraceOf p threads all events) kept traced
-
 pub untraced_before : (before after : Option Files) (file : List ℕ) (p : LinkedProgram) (threads : ℕ) (f : Fault) → KeepsAllBut None before after
     → IsTraceRefusal after file p threads f → IsTraceRefusal before file p threads f
 untraced_before before after file p threads _ kept (unread is) = unread is
 untraced_before before after file p threads _ kept (faulty {f = g} is found) =
     faulty is (held_before before after file (λ all. events_of p threads (take (MOST_BYTES + 1) all) ≡ Err g) kept found)
 untraced_before before after file p threads _ kept no_room = no_room
-
-pub judged_before : (before after : Option Files) (p : LinkedProgram) (mains : Option (List ℕ)) (trace : List ℕ) (classes : List ClassId) (events : List Event) (v : Verdict)
-    → KeepsAllBut None before after → IsJudgedOf after p mains trace classes events v → IsJudgedOf before p mains trace classes events v
-judged_before before after p mains trace classes events v kept is = record {
-  named = is.named;
-  traced = traced_before before after trace p (length classes) events kept is.traced;
-  judged = is.judged;
-}
 
 pub not_judged_before : (before after : Option Files) (p : LinkedProgram) (mains : Option (List ℕ)) (trace : List ℕ) (f : Fault) → KeepsAllBut None before after
     → IsJudgeRefusal after p mains trace f → IsJudgeRefusal before p mains trace f

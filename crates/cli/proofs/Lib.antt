@@ -7,3 +7,4 @@ pub mod OneMain
 pub mod OrderText
 pub mod Quiet
 pub mod Starts
+pub mod Refused

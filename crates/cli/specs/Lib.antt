@@ -10,3 +10,4 @@ pub mod FaultText
 pub mod ReadRefusals
 pub mod Outcomes
 pub mod Checking
+pub mod Refusals

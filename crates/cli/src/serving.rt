@@ -1,17 +1,20 @@
 //! The program's body.
 
-ghost use Rattle.std.specs.Prelude.{◌≡◌, ◌≤◌, ◌⊎◌, None, Some, IfErr, IfOk, IfSome, OnOk};
+ghost use Rattle.std.specs.Prelude.{◌≡◌, ◌≢◌, ◌≤◌, ◌⊎◌, None, Some, IfErr, IfOk, IfSome, OnOk};
 ghost use Rattle.std.specs.Io.KnownBytes.{Appends, Keeps};
 ghost use Rattle.clap.specs.Walk.{texts};
 ghost use Rattle.clap.specs.Words.{kind_of};
-ghost use Rattle.clap.specs.declared.error.kind.ErrorKind.TheVariants.{DisplayHelp, DisplayVersion};
+ghost use Rattle.clap.specs.declared.error.kind.ErrorKind.TheVariants.{DisplayHelp, DisplayVersion, OutOfMemory};
 ghost use Rattle.trace.specs.TraceText.{trace_of};
+ghost use Rattle.cli.specs.Checking.{IsCheckRefusal};
 ghost use Rattle.cli.specs.CommandLine.{check_words_of, request_in, request_of, run_words_of, text_of};
 ghost use Rattle.cli.specs.Files.{FileHolds, IsLinkedFrom, KeepsAllBut};
 ghost use Rattle.cli.specs.Limits.{AreLimits};
 ghost use Rattle.cli.specs.NeedsText.{needs_text};
 ghost use Rattle.cli.specs.Orders.{numbers_of, order_in};
 ghost use Rattle.cli.specs.Outcomes.{outcomes_text, status_after};
+ghost use Rattle.cli.specs.ReadRefusals.{AreUnlinked};
+ghost use Rattle.cli.specs.Refusals.{AreWordsRefused, IsFaultOf, IsFilesRefusal, IsRefusedBy, IsRunFault};
 ghost use Rattle.cli.specs.Running.{IsRunOfNamed};
 ghost use Rattle.cli.specs.Serving.{HasRun, HasToldNeeds, HasToldVerdict, HasWritten, IsDone, IsServed, IsToldVerdict, IsUntouched, around, trace_in};
 ghost use Rattle.cli.specs.Status.{IsStatus, status_of};
@@ -94,10 +97,15 @@ fn run_files<'a, R: Threads + Wait + Sync, N: Named>(
     ensures files { KeepsAllBut None (N.held named.old) (N.held named.new) }
     ensures linked { IfOk result (λ ran. IsLinkedFrom (N.held named.old) (texts files.now) ran.program) }
     ensures ran { IfOk result (λ ran. IsRunOfNamed (text_of mains.entry) (numbers_of order.entry) limits ran.program ran.report) }
+    ensures refused { IfErr result (IsFilesRefusal (N.held named.old) (texts files.now) (text_of mains.entry) (numbers_of order.entry)) }
 {
-    let texts = read_texts(alloc, named, files)?;
-    let ran = run_texts(rt, alloc, texts, mains, order, limits)?;
-    Ok(ran)
+    match read_texts(alloc, named, files) {
+        Ok(texts) => {
+            let ran = run_texts(rt, alloc, texts, mains, order, limits);
+            ran
+        }
+        Err(fault) => Err(fault),
+    }
 }
 
 /// Writes the output and the trace of a run.
@@ -156,6 +164,8 @@ fn run_within<'a, R: Threads + Wait + Sync, N: Named, O: io::Write, E: io::Write
     ensures ran { IfOk result (HasRun (around (N.held named.old) (O.contents out.old)) (around (N.held named.new) (O.contents out.new))
         (E.contents err.old) (E.contents err.new) (run_words_of words.now)) }
     ensures untouched { IfErr result (λ f. status_of f ≡ 2 → IsUntouched (around (N.held named.old) (O.contents out.old)) (around (N.held named.new) (O.contents out.new))) }
+    ensures refused { IfErr result (λ f. status_of f ≡ 2 → IsFilesRefusal (N.held named.old) (run_words_of words.now).files (text_of words.now.mains) (numbers_of order.entry) f) }
+    ensures silent { IfErr result (λ f. status_of f ≡ 2 → Keeps (E.contents err.old) (E.contents err.new)) }
 {
     match run_files(rt, alloc, &words.files, words.mains, order, limits, named) {
         Ok(ran) => report_run(alloc, &ran, words.trace, named, out, err),
@@ -176,6 +186,8 @@ fn run<'a, R: Threads + Wait + Sync, N: Named, O: io::Write, E: io::Write>(
     ensures ran { IfOk result (HasRun (around (N.held named.old) (O.contents out.old)) (around (N.held named.new) (O.contents out.new))
         (E.contents err.old) (E.contents err.new) (run_words_of words.now)) }
     ensures untouched { IfErr result (λ f. status_of f ≡ 2 → IsUntouched (around (N.held named.old) (O.contents out.old)) (around (N.held named.new) (O.contents out.new))) }
+    ensures refused { IfErr result (λ f. status_of f ≡ 2 → IsRunFault (N.held named.old) (run_words_of words.now) f) }
+    ensures silent { IfErr result (λ f. status_of f ≡ 2 → Keeps (E.contents err.old) (E.contents err.new)) }
 {
     let order = match order_of(alloc, words.mains, words.order) {
         Ok(order) => order,
@@ -210,6 +222,7 @@ fn tell_needs<'a, N: Named, O: io::Write>(
     ensures files { KeepsAllBut None (N.held named.old) (N.held named.new) }
     ensures told { OnOk result (HasToldNeeds (around (N.held named.old) (O.contents out.old)) (around (N.held named.new) (O.contents out.new)) (texts files.now)) }
     ensures untouched { IfErr result (λ f. status_of f ≡ 2 → IsUntouched (around (N.held named.old) (O.contents out.old)) (around (N.held named.new) (O.contents out.new))) }
+    ensures refused { IfErr result (λ f. status_of f ≡ 2 → AreUnlinked (N.held named.old) (texts files.now) f) }
 {
     let program = match link_files(alloc, files, named) {
         Ok(program) => program,
@@ -242,6 +255,7 @@ fn tell_judged<'a, N: Named, O: io::Write>(
     ensures files { KeepsAllBut None (N.held named.old) (N.held named.new) }
     ensures judged { IfOk result (IsToldVerdict (around (N.held named.old) (O.contents out.old)) (around (N.held named.new) (O.contents out.new)) (check_words_of words.now)) }
     ensures untouched { IfErr result (λ f. status_of f ≡ 2 → IsUntouched (around (N.held named.old) (O.contents out.old)) (around (N.held named.new) (O.contents out.new))) }
+    ensures refused { IfErr result (λ f. status_of f ≡ 2 → IsCheckRefusal (N.held named.old) (texts words.now.files.items) (text_of words.now.mains) words.now.trace.now f) }
 {
     let judged = match check_named(alloc, named, &words.files, words.mains, words.trace) {
         Ok(judged) => judged,
@@ -264,6 +278,8 @@ fn answer<'a, R: Threads + Wait + Sync, N: Named, O: io::Write, E: io::Write>(
     ensures served { IfOk result (IsServed (around (N.held named.old) (O.contents out.old)) (around (N.held named.new) (O.contents out.new))
         (E.contents err.old) (E.contents err.new) (request_of asked.now)) }
     ensures untouched { IfErr result (λ f. status_of f ≡ 2 → IsUntouched (around (N.held named.old) (O.contents out.old)) (around (N.held named.new) (O.contents out.new))) }
+    ensures refused { IfErr result (λ f. status_of f ≡ 2 → IsFaultOf (N.held named.old) (request_of asked.now) f) }
+    ensures silent { IfErr result (λ f. status_of f ≡ 2 → Keeps (E.contents err.old) (E.contents err.new)) }
 {
     match asked {
         Asked::Run(words) => run(rt, alloc, words, named, out, err),
@@ -285,6 +301,7 @@ fn tell_words<O: io::Write, E: io::Write>(error: &clap::Error, out: &mut O, err:
     ensures shown { result ≤ 1 → (result ≡ 0) × ((kind_of error.now ≡ DisplayHelp) ⊎ (kind_of error.now ≡ DisplayVersion)) }
     ensures quiet { result ≤ 1 → Keeps (E.contents err.old) (E.contents err.new) }
     ensures untouched { result ≡ 2 → Keeps (O.contents out.old) (O.contents out.new) }
+    ensures wrong { result ≡ 2 → (kind_of error.now ≢ OutOfMemory) × (kind_of error.now ≢ DisplayHelp) × (kind_of error.now ≢ DisplayVersion) }
 {
     match error.kind() {
         ErrorKind::OutOfMemory => {
@@ -299,7 +316,9 @@ fn tell_words<O: io::Write, E: io::Write>(error: &clap::Error, out: &mut O, err:
             0
         }
         _ => {
-            let _ = write!(err, "{error}");
+            if write!(err, "{error}").is_err() {
+                return 3;
+            }
             2
         }
     }
@@ -319,12 +338,15 @@ fn answer_or_tell<R: Threads + Wait + Sync, N: Named, O: io::Write, E: io::Write
         (E.contents err.old) (E.contents err.new) (request_of asked.now) result }
     ensures quiet { result ≡ 0 → Keeps (E.contents err.old) (E.contents err.new) }
     ensures untouched { result ≡ 2 → IsUntouched (around (N.held named.old) (O.contents out.old)) (around (N.held named.new) (O.contents out.new)) }
+    ensures refused { result ≡ 2 → IsRefusedBy (N.held named.old) (E.contents err.old) (E.contents err.new) (request_of asked.now) }
     ensures files { KeepsAllBut (trace_in (request_of asked.now)) (N.held named.old) (N.held named.new) }
 {
     match answer(rt, alloc, asked, named, out, err) {
         Ok(status) => status,
         Err(fault) => {
-            let _ = fault.tell(err);
+            if fault.tell(err).is_err() {
+                return 3;
+            }
             fault.status()
         }
     }
@@ -336,11 +358,11 @@ fn answer_or_tell<R: Threads + Wait + Sync, N: Named, O: io::Write, E: io::Write
 /// Files are read and written by name through `named`, the output goes to `out`, and to `err` what went wrong, in one line
 /// or in `clap`'s words, and how threads ended that didn't end normally, a line each. The status is 0 where all
 /// threads ended normally, or the trace is legal, 1 where one didn't, or the trace is illegal, 2 where the words, the files or the
-/// classes are at fault, and 3 where memory, a thread, a file or the output was refused; nothing further is written then. Without
+/// classes are at fault, and 3 where memory, a thread, a file, the output or a line to `err` was refused; nothing further is written then. Without
 /// `--order` it may wait, for ever where `--patience` is 0.
 ///
 /// At status 0 and 1 what the words ask for is done, or, at 0, they ask for help or the version; at 0 nothing is written to `err`.
-/// At status 2 no file is written, and nothing to `out`. At every status all files but the trace are as they were. What files hold is said where that is known
+/// At status 2 no file is written, and nothing to `out`, and what is added to `err` tells of the first fault. At every status all files but the trace are as they were. What files hold is said where that is known
 /// (`Named::held`), and so is what was written (`Write::contents`).
 pub fn serve<R: Threads + Wait + Sync, N: Named, O: io::Write, E: io::Write>(
     rt: &R,
@@ -355,6 +377,7 @@ pub fn serve<R: Threads + Wait + Sync, N: Named, O: io::Write, E: io::Write>(
         (E.contents err.old) (E.contents err.new) (texts words.entry.now) result }
     ensures quiet { result ≡ 0 → Keeps (E.contents err.old) (E.contents err.new) }
     ensures untouched { result ≡ 2 → IsUntouched (around (N.held named.old) (O.contents out.old)) (around (N.held named.new) (O.contents out.new)) }
+    ensures refused { result ≡ 2 → AreWordsRefused (N.held named.old) (E.contents err.old) (E.contents err.new) (texts words.entry.now) }
     ensures files { KeepsAllBut (trace_in (request_in (texts words.entry.now))) (N.held named.old) (N.held named.new) }
 {
     match parse(alloc, words) {

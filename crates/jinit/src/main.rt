@@ -84,10 +84,10 @@ fn tell_no_words<E: Write>(error: &io::Error, err: &mut E) -> u8
             let _ = writeln!(err, "memory");
             3
         }
-        _ => {
-            let _ = writeln!(err, "error: a word of the command line isn't UTF-8");
-            2
-        }
+        _ => match writeln!(err, "error: a word of the command line isn't UTF-8") {
+            Ok(()) => 2,
+            Err(_) => 3,
+        },
     }
 }
 

@@ -1,6 +1,6 @@
-use Rattle.std.proofs.lemmas.Result.{IfErr-weaker, IfOk-weaker}
+use Rattle.std.proofs.lemmas.Result.{IfErr-weaker}
 use Rattle.cli.specs.Checking.{no_program, not_judged}
-use Rattle.cli.proofs.Checked.{judged_before, not_judged_before}
+use Rattle.cli.proofs.Checked.{not_judged_before}
 use Rattle.cli.proofs.checking.check_named.Goals as goal
 
 pub returns-in-Ok-clause-refused : goal.returns-in-Ok-clause-refused

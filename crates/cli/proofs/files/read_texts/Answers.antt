@@ -1,4 +1,4 @@
-use Rattle.std.proofs.Common.{◌≡◌, ◌<◌, ℕ, rules, subst, sym, ◌+◌, length, take, None}
+use Rattle.std.proofs.Common.{◌<◌, rules, subst, sym, ◌+◌, length, take, None}
 use Rattle.std.proofs.lemmas.List.{length-map}
 use Rattle.clap.specs.Walk.{texts as texts_of}
 use Rattle.cli.specs.declared.files.TheConstants.{MOST_FILES}

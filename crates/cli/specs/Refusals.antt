@@ -1,0 +1,47 @@
+-- Why what is asked for isn't done: the first fault, in the order in which faults are looked for, or want of memory before it.
+use Rattle.std.specs.Prelude.{◌≡◌, ◌≢◌, ℕ, List, [], Option, Some}
+use Rattle.std.specs.Io.KnownBytes.{Appends}
+use Rattle.clap.specs.Words.{IsAmong, Text}
+use Rattle.clap.specs.declared.error.kind.ErrorKind.{ErrorKind}
+use Rattle.clap.specs.declared.error.kind.ErrorKind.TheVariants.{DisplayHelp, DisplayVersion}
+use Rattle.jasmin_text.specs.declared.class_text.ClassParts.{ClassParts}
+use Rattle.trace.specs.declared.report.Limits.{Limits}
+use Rattle.cli.specs.declared.fault.Fault.{Fault}
+use Rattle.cli.specs.declared.fault.Fault.TheVariants.{Words}
+use Rattle.cli.specs.Checking.{IsCheckRefusal}
+use Rattle.cli.specs.CommandLine.{Request, RunWords, check, faults_in, needs, request_in, run, unfit}
+use Rattle.cli.specs.FaultText.{fault_line}
+use Rattle.cli.specs.Files.{AreSpelled, Files}
+use Rattle.cli.specs.Limits.{AreLimits, IsLimitRefusal}
+use Rattle.cli.specs.Orders.{IsOrderRefusal, order_in}
+use Rattle.cli.specs.ReadRefusals.{AreRefused, AreUnlinked}
+use Rattle.cli.specs.Running.{IsRefusal}
+
+-- of files whose main classes are to be run, in an order where there is one: that of the files, or else of linking and running
+pub data IsFilesRefusal (known : Option Files) (files : List Text) (mains : Option Text) (order : Option (List ℕ)) : Fault → Type 0 where
+  unread : {f : Fault} → AreRefused known files f → IsFilesRefusal known files mains order f
+  not_run : {f : Fault} (texts : List ClassParts) → AreSpelled known files texts → IsRefusal texts mains order f → IsFilesRefusal known files mains order f
+
+-- of `run`: that of the order, or else of the limits, or else of the files
+pub data IsRunFault (known : Option Files) (words : RunWords) : Fault → Type 0 where
+  of_order : {f : Fault} → IsOrderRefusal words.mains words.order f → IsRunFault known words f
+  of_limits : {f : Fault} (order : Option (List ℕ)) → order_in words.mains words.order ≡ Some order → IsLimitRefusal words.steps words.patience f → IsRunFault known words f
+  of_files : {f : Fault} (order : Option (List ℕ)) (limits : Limits) → order_in words.mains words.order ≡ Some order → AreLimits words.steps words.patience limits →
+      IsFilesRefusal known words.files words.mains order f → IsRunFault known words f
+
+abbrev pub IsFaultOf : Option Files → Request → Fault → Type 0
+IsFaultOf known (run words) f = IsRunFault known words f
+IsFaultOf known (check words) f = IsCheckRefusal known words.files words.mains words.trace f
+IsFaultOf known (needs files) f = AreUnlinked known files f
+IsFaultOf known unfit f = f ≡ Words
+
+-- the one line that is added to standard error, known before and after, tells of the first fault of what is asked for
+pub record IsRefusedBy (known : Option Files) (errors errors_after : Option (List ℕ)) (request : Request) : Type 0 where
+  pub first : Fault
+  pub is_first : IsFaultOf known request first
+  pub told : Appends errors errors_after (fault_line first)
+
+-- the words are refused: `clap` finds a fault in them, or they are words of the command line, and what they ask for has a fault
+pub data AreWordsRefused (known : Option Files) (errors errors_after : Option (List ℕ)) (words : List Text) : Type 0 where
+  wrong_words : (k : ErrorKind) → IsAmong k (faults_in words) → k ≢ DisplayHelp → k ≢ DisplayVersion → AreWordsRefused known errors errors_after words
+  faulty : faults_in words ≡ [] → IsRefusedBy known errors errors_after (request_in words) → AreWordsRefused known errors errors_after words
