@@ -67,6 +67,14 @@ fn push_copy(
     body.extend_from_slice(copy.as_bytes())
 }
 
+/// Adds a text so many times as it is.
+fn push_repeats(body: &mut Vec<u8>, count: usize, text: &str) -> Result<(), AllocError> {
+    for _repeat in 0..count {
+        body.extend_from_slice(text.as_bytes())?;
+    }
+    Ok(())
+}
+
 /// Adds a text so many times, with the number of the repeat for `#` and a line feed for `¶`.
 fn push_times(
     alloc: Global,
@@ -75,6 +83,9 @@ fn push_times(
     text: &str,
 ) -> Result<(), AllocError> {
     let text = text.replace(alloc, '¶', "\n")?;
+    if !text.contains('#') {
+        return push_repeats(body, count, text.as_str());
+    }
     for number in 0..count {
         push_copy(alloc, body, number, text.as_str())?;
     }

@@ -31,7 +31,7 @@ pub(crate) fn shown(name: &[u8]) -> &str {
 }
 
 /// Whether a program begins with the part.
-fn begins_program(part: &Part) -> bool {
+pub(crate) fn begins_program(part: &Part) -> bool {
     !part.is_group && part.head.as_slice() == b"classes".as_slice()
 }
 
@@ -62,7 +62,7 @@ fn push_line(file: &mut String, line: &str) -> Result<(), AllocError> {
 }
 
 /// Adds the classes of a program's files, up to the first that has a fault.
-fn read_files(
+pub(crate) fn read_files(
     alloc: Global,
     body: &str,
     classes: &mut Vec<ClassText>,
@@ -82,7 +82,10 @@ fn read_files(
 }
 
 /// What linking answers.
-fn told(alloc: Global, linked: &Result<Program, LinkFault>) -> Result<String, AllocError> {
+pub(crate) fn told(
+    alloc: Global,
+    linked: &Result<Program, LinkFault>,
+) -> Result<String, AllocError> {
     match linked {
         Ok(program) => {
             let count = program.len();
@@ -211,7 +214,7 @@ fn judge_parts(
 }
 
 /// Fails the files of a program, of which this is the first fault.
-fn fails_files(
+pub(crate) fn fails_files(
     alloc: Global,
     line: usize,
     fault: ReadFault,
@@ -239,7 +242,7 @@ fn judge_program(
 }
 
 /// Fails the parts that stand before the first program.
-fn judge_front(parts: &[Part], report: &mut Report) -> Result<(), AllocError> {
+pub(crate) fn judge_front(parts: &[Part], report: &mut Report) -> Result<(), AllocError> {
     for part in parts {
         if begins_program(part) {
             return Ok(());

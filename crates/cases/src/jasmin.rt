@@ -13,19 +13,13 @@
 //! same for canonical texts.
 
 use crate::archive::{Archive, Part};
+use crate::frames::{Frame, answer_wanted, frame_of, framed, without_line_feed};
 use crate::report::Report;
 use crate::words::{answer_of_word, is_of_word, listing};
 use jasmin_reader::{ReadFault, read_class};
 use jasmin_text::write_class;
 use std::alloc::{AllocError, Global};
 use std::str::from_utf8;
-
-/// What stands before and after a case.
-#[derive(Clone, Copy, Drop)]
-struct Frame<'a> {
-    before: &'a [u8],
-    after: &'a [u8],
-}
 
 /// What stands around the files, if anything does, and around the canonical texts.
 #[derive(Drop)]
@@ -41,52 +35,6 @@ struct Case<'a> {
     body: &'a [u8],
     line: usize,
     canonical: Option<&'a [u8]>,
-}
-
-/// The frame of a body with three dots.
-fn frame_of(body: &[u8]) -> Option<Frame<'_>> {
-    let (before, after) = from_utf8(body).ok()?.split_once("...")?;
-    Some(Frame {
-        before: before.as_bytes(),
-        after: after.as_bytes(),
-    })
-}
-
-/// A body without its last line feed.
-fn without_line_feed(body: &[u8]) -> &[u8] {
-    body.strip_suffix(b"\n").unwrap_or(body)
-}
-
-/// The case in its frame.
-fn framed(alloc: Global, frame: Option<Frame<'_>>, case: &[u8]) -> Result<Vec<u8>, AllocError> {
-    let Some(Frame { before, after }) = frame else {
-        return Vec::from_slice(alloc, case);
-    };
-    let mut text = Vec::from_slice(alloc, before)?;
-    text.extend_from_slice(without_line_feed(case))?;
-    text.extend_from_slice(after)?;
-    Ok(text)
-}
-
-/// The first line of a case in its frame.
-fn first_line(frame: Option<Frame<'_>>) -> usize {
-    let mut line: usize = 1;
-    if let Some(Frame { before, .. }) = frame {
-        for byte in before {
-            if *byte == b'\n' {
-                line = line.saturating_add(1);
-            }
-        }
-    }
-    line
-}
-
-/// The answer that a head demands.
-fn answer_wanted(alloc: Global, head: &str, line: usize) -> Result<String, AllocError> {
-    if head == "read" || head.contains(" in line ") {
-        return String::from_str(alloc, head);
-    }
-    format!(in alloc; "{head} in line {line}")
 }
 
 fn fault_text(alloc: Global, fault: ReadFault) -> Result<String, AllocError> {
@@ -147,7 +95,7 @@ fn judge_answer(
     report: &mut Report,
 ) -> Result<(), AllocError> {
     let file = framed(alloc, frame, case.body)?;
-    let wanted = answer_wanted(alloc, case.head, first_line(frame))?;
+    let wanted = answer_wanted(alloc, case.head, frame)?;
     let came = answer(alloc, file.as_slice())?;
     report.judges(case.line, wanted.as_bytes(), came.as_bytes())
 }

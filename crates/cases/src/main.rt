@@ -1,6 +1,6 @@
 //! Judges the cases of files: `cases FILE..`. See [`archive`] for their form. A file's folder says what its cases
-//! are: files in the Jasmin form (`jasmin`), classes (`classes`), and a file `NAME.txtar` is a whole command line
-//! with its files (`programs`).
+//! are: files in the Jasmin form (`jasmin`), classes (`classes`), traces (`traces`), and a file `NAME.txtar` is a
+//! whole command line with its files (`programs`).
 //!
 //! The number of cases of each file, and each case that failed, is reported on standard output. The exit status is 0
 //! where all files could be read and all cases passed, else 1.
@@ -16,9 +16,11 @@ mod classes_hierarchy;
 mod classes_members;
 mod classes_selection;
 mod descriptor_words;
+mod frames;
 mod jasmin;
 mod programs;
 mod report;
+mod traces;
 mod words;
 
 use crate::archive::{Archive, push_parts};
@@ -45,6 +47,8 @@ fn judge<R: Threads + Wait + Sync>(
         classes::judge(alloc, archive, report)
     } else if file.contains("jasmin/") {
         jasmin::judge(alloc, archive, report)
+    } else if file.contains("traces/") {
+        traces::judge(alloc, archive, report)
     } else {
         report.refuses("not in a folder of cases")
     }

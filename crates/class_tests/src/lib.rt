@@ -21,8 +21,6 @@ mod procedures;
 #[cfg(test)]
 mod programs;
 #[cfg(test)]
-mod read_traces;
-#[cfg(test)]
 mod records;
 #[cfg(test)]
 mod resolved;

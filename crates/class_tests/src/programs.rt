@@ -5,7 +5,6 @@ use crate::comparing::{Case, agrees, differs};
 use crate::frame_throws::{Throw, throws};
 use crate::handlers::handlers;
 use crate::procedures::procedures;
-use crate::read_traces::read_traces;
 use crate::records::records;
 use crate::resolved::resolved;
 use crate::traces::traces;
@@ -30,8 +29,6 @@ pub(crate) enum Question {
     Resolved,
     /// The text of traces.
     Traces,
-    /// Traces from their text.
-    ReadTraces,
     /// World and the twin judge alike to this depth.
     Agrees(Case, usize),
     /// World and the twin judge otherwise somewhere.
@@ -55,7 +52,6 @@ fn answers(alloc: Global, program: &Program, question: &Question) -> Result<bool
         Question::Throws(throw) => throws(alloc, program, throw),
         Question::Resolved => Ok(resolved(program)),
         Question::Traces => traces(alloc, program),
-        Question::ReadTraces => read_traces(alloc, program),
         Question::Agrees(case, depth) => agrees(alloc, program, case, *depth),
         Question::Differs(case) => differs(alloc, program, case),
         Question::SuperclassFirst => superclass_is_first(alloc, program),

@@ -11,7 +11,7 @@ use std::alloc::{AllocError, Global};
 use std::test::Fail;
 use trace::write_trace;
 
-pub(crate) const FILES: [&[u8]; 2] = [
+const FILES: [&[u8]; 2] = [
     b".class a/Solo",
     b".class C\n.field static b B\n.field i I\n.field static s [[Ljava/lang/String;",
 ];
@@ -20,7 +20,7 @@ const SOLO: ClassId = ClassId { number: 0 };
 
 const C: ClassId = ClassId { number: 1 };
 
-pub(crate) const STEPS: &[u8] = b"0 t0 step6 a/Solo
+const STEPS: &[u8] = b"0 t0 step6 a/Solo
 1 t0 step9 a/Solo
 2 t15 step2 a/Solo
 3 t0 step3 a/Solo
@@ -31,7 +31,7 @@ pub(crate) const STEPS: &[u8] = b"0 t0 step6 a/Solo
 8 t1 step10 a/Solo
 ";
 
-pub(crate) const USES: &[u8] = b"0 t0 get C b:B -44
+const USES: &[u8] = b"0 t0 get C b:B -44
 1 t3 put C s:[[Ljava/lang/String; #12
 2 t3 get C s:[[Ljava/lang/String; null
 3 t1 print \"a \\\"b\\\"\\n\\u0001\"

@@ -1,0 +1,66 @@
+//! What stands around a case, and the answer that its head demands of it there.
+
+use std::alloc::{AllocError, Global};
+use std::str::from_utf8;
+
+/// What stands before and after a case.
+#[derive(Clone, Copy, Drop)]
+pub(crate) struct Frame<'a> {
+    before: &'a [u8],
+    after: &'a [u8],
+}
+
+/// The frame of a body with three dots.
+pub(crate) fn frame_of(body: &[u8]) -> Option<Frame<'_>> {
+    let (before, after) = from_utf8(body).ok()?.split_once("...")?;
+    Some(Frame {
+        before: before.as_bytes(),
+        after: after.as_bytes(),
+    })
+}
+
+/// A body without its last line feed.
+pub(crate) fn without_line_feed(body: &[u8]) -> &[u8] {
+    body.strip_suffix(b"\n").unwrap_or(body)
+}
+
+/// The case in its frame.
+pub(crate) fn framed(
+    alloc: Global,
+    frame: Option<Frame<'_>>,
+    case: &[u8],
+) -> Result<Vec<u8>, AllocError> {
+    let Some(Frame { before, after }) = frame else {
+        return Vec::from_slice(alloc, case);
+    };
+    let mut text = Vec::from_slice(alloc, before)?;
+    text.extend_from_slice(without_line_feed(case))?;
+    text.extend_from_slice(after)?;
+    Ok(text)
+}
+
+/// The first line of a case in its frame.
+fn first_line(frame: Option<Frame<'_>>) -> usize {
+    let mut line: usize = 1;
+    if let Some(Frame { before, .. }) = frame {
+        for byte in before {
+            if *byte == b'\n' {
+                line = line.saturating_add(1);
+            }
+        }
+    }
+    line
+}
+
+/// The answer that a head demands of a case in its frame. A head that names no line means the first of the case.
+pub(crate) fn answer_wanted(
+    alloc: Global,
+    head: &str,
+    frame: Option<Frame<'_>>,
+) -> Result<String, AllocError> {
+    if head == "read" || head.contains(" in line ") {
+        return String::from_str(alloc, head);
+    }
+    let line = first_line(frame);
+    format!(in alloc; "{head} in line {line}")
+}
