@@ -13,7 +13,7 @@
 //! same for canonical texts.
 
 use crate::archive::{Archive, Part};
-use crate::frames::{Frame, answer_wanted, frame_of, framed, without_line_feed};
+use crate::framing::{Frame, answer_wanted, frame_of, framed, without_line_feed};
 use crate::report::Report;
 use crate::words::{answer_of_word, is_of_word, listing};
 use jasmin_reader::{ReadFault, read_class};

@@ -16,7 +16,7 @@ mod classes_hierarchy;
 mod classes_members;
 mod classes_selection;
 mod descriptor_words;
-mod frames;
+mod framing;
 mod jasmin;
 mod programs;
 mod report;

@@ -13,7 +13,7 @@
 
 use crate::archive::{Archive, Part};
 use crate::classes::{begins_program, fails_files, judge_front, read_files, shown, told};
-use crate::frames::{Frame, answer_wanted, frame_of, framed};
+use crate::framing::{Frame, answer_wanted, frame_of, framed};
 use crate::report::Report;
 use hierarchy::{LinkFault, Program, link};
 use init_core::Event;
