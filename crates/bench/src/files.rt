@@ -121,3 +121,24 @@ fn texts_time(
         Err(failure) => Err(failure),
     }
 }
+
+fn line_ends(text: &[u8]) -> usize {
+    let mut count: usize = 0;
+    for byte in text {
+        if *byte == b'\n' {
+            count = count.wrapping_add(1);
+        }
+    }
+    count
+}
+
+/// How long one pass takes a byte of a text, which has lines: it counts their ends.
+pub(crate) fn pass_time(rt: &impl Clock, text: &[u8]) -> Result<u128, Failure> {
+    let watch = Watch::start(rt);
+    let count = line_ends(text);
+    let share = watch.share(rt, text.len())?;
+    if count == 0 {
+        return Err(Failure::Program);
+    }
+    Ok(share)
+}

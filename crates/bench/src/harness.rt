@@ -1,6 +1,10 @@
-//! What all benchmarks measure with: samples, the least of many times, one `fetch_add`, lines of figures.
+//! What all benchmarks measure with: rows, the least of many times, lines of figures.
+//!
+//! A row is measured in rounds. In each of them its sample is taken once, then what stands beside it, then some `fetch_add`s, so
+//! that a busy minute of the machine meets all three. The first round warms up and doesn't count.
 
 use crate::sample::Sample;
+use hierarchy::Program;
 use std::alloc::{AllocError, Global};
 use std::rt::Clock;
 use std::sync::Wait;
@@ -11,6 +15,15 @@ use std::{fmt, io};
 
 // The size of each sample where only a little is done.
 const LITTLE: usize = 4;
+
+// How many rounds come before those that count.
+const WARM_UPS: usize = 1;
+
+// How many `fetch_add`s are timed in a round.
+const ADDS: usize = 10_000;
+
+// The time of a part, where a million parts are done in a second.
+const MILLION_A_SECOND: u128 = 1_000_000;
 
 /// Why a benchmark ended without its figures.
 #[derive(Clone, Copy, Debug)]
@@ -72,7 +85,7 @@ pub(crate) struct Row {
     pub unit: Sample,
     /// The size of the unit in the same way; or the size of the sample.
     pub unit_size: Option<usize>,
-    /// How often each is measured: the least time counts.
+    /// How many rounds count: of each the least time.
     pub repeats: usize,
 }
 
@@ -83,8 +96,8 @@ fn add_often(count: usize) {
     }
 }
 
-/// The time of one of so many `fetch_add`s on a word of their own.
-pub(crate) fn add_time(rt: &impl Clock, count: usize) -> Result<u128, Failure> {
+// The time of one of so many `fetch_add`s on a word of their own.
+fn add_time(rt: &impl Clock, count: usize) -> Result<u128, Failure> {
     let watch = Watch::start(rt);
     add_often(count);
     watch.share(rt, count)
@@ -111,44 +124,133 @@ impl fmt::Display for Figure {
     }
 }
 
-// Prints a line: how often the time of the unit is in that of the sample, the time of the sample, and how often that of a
-// `fetch_add` is in it.
-fn print_line<R: Clock + Print + Threads + Wait + Sync>(
-    rt: &R,
-    alloc: Global,
-    row: &Row,
-    size: usize,
-    unit_size: usize,
+/// The times of a part of a sample, of its unit and of one `fetch_add`, in thousandths of a nanosecond.
+#[derive(Clone, Copy)]
+struct Times {
+    sample: u128,
+    unit: u128,
     add: u128,
-) -> Result<(), Failure> {
-    let time = row.sample.least_time(rt, alloc, size, row.repeats)?;
-    let unit = row.unit.least_time(rt, alloc, unit_size, row.repeats)?;
-    let what = row.what;
-    let beside = ratio(time, unit);
-    let nanos = ratio(time, 1000);
-    let adds = ratio(time, add);
-    Ok(println!(rt; "{size} {what}: {beside} ({nanos} ns, {adds} fetch_adds)")?)
 }
 
-// Measures a row, where a `fetch_add` takes so long.
+impl Times {
+    const LONGEST: Times = Times {
+        sample: u128::MAX,
+        unit: u128::MAX,
+        add: u128::MAX,
+    };
+
+    // The lesser of each two.
+    fn least(self, other: Times) -> Times {
+        Times {
+            sample: self.sample.min(other.sample),
+            unit: self.unit.min(other.unit),
+            add: self.add.min(other.add),
+        }
+    }
+}
+
+/// A sample of some size, and what stands beside it.
+#[derive(Clone, Copy)]
+struct Pair {
+    sample: Sample,
+    size: usize,
+    unit: Sample,
+    unit_size: usize,
+}
+
+impl Pair {
+    // The least times of so many rounds, with the program of each.
+    fn rounds<R: Clock + Threads + Wait + Sync>(
+        self,
+        rt: &R,
+        alloc: Global,
+        program: &Program,
+        unit_program: &Program,
+        count: usize,
+    ) -> Result<Times, Failure> {
+        let mut least = Times::LONGEST;
+        for _ in 0..count {
+            least = least.least(Times {
+                sample: self.sample.time(rt, alloc, program, self.size)?,
+                unit: self.unit.time(rt, alloc, unit_program, self.unit_size)?,
+                add: add_time(rt, ADDS)?,
+            });
+        }
+        Ok(least)
+    }
+
+    // The same, after those that warm up.
+    fn warm_rounds<R: Clock + Threads + Wait + Sync>(
+        self,
+        rt: &R,
+        alloc: Global,
+        program: &Program,
+        unit_program: &Program,
+        count: usize,
+    ) -> Result<Times, Failure> {
+        self.rounds(rt, alloc, program, unit_program, WARM_UPS)?;
+        self.rounds(rt, alloc, program, unit_program, count)
+    }
+
+    // The same, once the program of the sample is linked.
+    fn times_with<R: Clock + Threads + Wait + Sync>(
+        self,
+        rt: &R,
+        alloc: Global,
+        program: &Program,
+        count: usize,
+    ) -> Result<Times, Failure> {
+        match self.unit.program(alloc, self.unit_size) {
+            Ok(unit_program) => self.warm_rounds(rt, alloc, program, &unit_program, count),
+            Err(failure) => Err(failure),
+        }
+    }
+
+    // The least times of so many rounds.
+    fn times<R: Clock + Threads + Wait + Sync>(
+        self,
+        rt: &R,
+        alloc: Global,
+        count: usize,
+    ) -> Result<Times, Failure> {
+        match self.sample.program(alloc, self.size) {
+            Ok(program) => self.times_with(rt, alloc, &program, count),
+            Err(failure) => Err(failure),
+        }
+    }
+}
+
+// Prints a line: how often the time of the unit is in that of the sample, the time of the sample, and how often that of a
+// `fetch_add` is in it; of bytes also how many millions of them a second.
+fn print_line(rt: &impl Print, row: &Row, size: usize, times: Times) -> Result<(), Failure> {
+    let what = row.what;
+    let beside = ratio(times.sample, times.unit);
+    let nanos = ratio(times.sample, 1000);
+    let adds = ratio(times.sample, times.add);
+    print!(rt; "{size} {what}: {beside} ({nanos} ns, {adds} fetch_adds")?;
+    if row.sample.is_of_bytes() {
+        let rate = ratio(MILLION_A_SECOND, times.sample);
+        print!(rt; ", {rate} MB/s")?;
+    }
+    Ok(println!(rt; ")")?)
+}
+
+// Measures a row with this number.
 fn measure_row<R: Clock + Print + Threads + Wait + Sync>(
     rt: &R,
     alloc: Global,
     row: &Row,
     number: usize,
-    add: u128,
 ) -> Result<(), Failure> {
     let times = number.min(row.most);
     for size in row.sizes {
-        let unit_size = row.unit_size.unwrap_or(*size);
-        print_line(
-            rt,
-            alloc,
-            row,
-            size.saturating_mul(times),
-            unit_size.saturating_mul(times),
-            add,
-        )?;
+        let pair = Pair {
+            sample: row.sample,
+            size: size.saturating_mul(times),
+            unit: row.unit,
+            unit_size: row.unit_size.unwrap_or(*size).saturating_mul(times),
+        };
+        print_line(rt, row, pair.size, pair.times(rt, alloc, row.repeats)?)?;
     }
     Ok(())
 }
@@ -160,22 +262,21 @@ pub(crate) fn measure<R: Clock + Print + Threads + Wait + Sync>(
     rows: &[Row],
     number: usize,
 ) -> Result<(), Failure> {
-    let add = Sample::Adds.least_time(rt, alloc, 100_000, 40)?;
     for row in rows {
-        measure_row(rt, alloc, row, number, add)?;
+        measure_row(rt, alloc, row, number)?;
     }
     Ok(())
 }
 
-/// Does each sample once, of a small size, and prints nothing.
+/// Takes each sample once, of a small size, and prints nothing.
 pub(crate) fn try_out<R: Clock + Threads + Wait + Sync>(
     rt: &R,
     alloc: Global,
     rows: &[Row],
 ) -> Result<(), Failure> {
     for row in rows {
-        row.sample.least_time(rt, alloc, LITTLE, 1)?;
-        row.unit.least_time(rt, alloc, LITTLE, 1)?;
+        row.sample.time_alone(rt, alloc, LITTLE)?;
+        row.unit.time_alone(rt, alloc, LITTLE)?;
     }
     Ok(())
 }

@@ -166,8 +166,8 @@ fn events_a_turn(story: Story) -> usize
     }
 }
 
-// So many events, after those of the front.
-fn add_events(
+/// Adds so many events, after those of the front.
+pub(crate) fn add_events(
     alloc: Global,
     events: &mut Vec<Event>,
     story: Story,

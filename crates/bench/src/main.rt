@@ -3,10 +3,12 @@
 //! The first word names a benchmark, as in `rt run -- link`; its module says what is measured. `reader` and `lock` take a
 //! number as second word, of parts and of rounds, and `threads` takes `held`; `all` says the same as no second word. Each
 //! line is the least of many times of a part of the work, beside the same of other work, in nanoseconds, and beside one
-//! uncontended `fetch_add`. Without any word each benchmark does a little, and no time is printed. With words that it
-//! doesn't know the program lists the names, and its exit status is 2.
+//! uncontended `fetch_add`, all taken in turn (`harness`). Where a part is a byte, the line also has MB/s. Without any word
+//! each benchmark does a little, and no time is printed. With words that it doesn't know the program lists the names, and
+//! its exit status is 2.
 #![tactic(auto)]
 
+mod code;
 mod files;
 mod harness;
 mod history;
@@ -19,6 +21,8 @@ mod reader;
 mod rounds;
 mod sample;
 mod threads;
+mod traces;
+mod turns;
 
 use crate::harness::{Failure, Row, measure, try_out};
 use crate::sample::{Sample, Scene};
@@ -29,7 +33,8 @@ use std::rt::Clock;
 use std::sync::Wait;
 use std::thread::Threads;
 
-const USAGE: &str = "give a name to see ratios: reader, link, needs, looks, judge, lock, threads";
+const USAGE: &str =
+    "give a name to see ratios: reader, link, needs, looks, turns, judge, trace, lock, threads";
 
 // How many parts the files of `reader` have where no number is given.
 const PARTS: usize = 20_000;
@@ -42,7 +47,9 @@ const ALL: &[&[Row]] = &[
     link::ROWS,
     needs::ROWS,
     looks::ROWS,
+    turns::ROWS,
     judging::ROWS,
+    traces::ROWS,
     lock::ROWS,
     threads::ROWS,
 ];
@@ -56,7 +63,9 @@ enum Benchmark {
     Link,
     Needs,
     Looks,
+    Turns,
     Judge,
+    Trace,
     Lock,
     Threads,
     /// No name of a benchmark.
@@ -82,7 +91,9 @@ fn benchmark_of(word: &str) -> Benchmark {
         "link" => Benchmark::Link,
         "needs" => Benchmark::Needs,
         "looks" => Benchmark::Looks,
+        "turns" => Benchmark::Turns,
         "judge" => Benchmark::Judge,
+        "trace" => Benchmark::Trace,
         "lock" => Benchmark::Lock,
         "threads" => Benchmark::Threads,
         _ => Benchmark::Unknown,
@@ -122,7 +133,9 @@ fn rows_of(benchmark: Benchmark, detail: Detail) -> Option<(&'static [Row], usiz
         (Benchmark::Link, Detail::All) => Some((link::ROWS, 1)),
         (Benchmark::Needs, Detail::All) => Some((needs::ROWS, 1)),
         (Benchmark::Looks, Detail::All) => Some((looks::ROWS, 1)),
+        (Benchmark::Turns, Detail::All) => Some((turns::ROWS, 1)),
         (Benchmark::Judge, Detail::All) => Some((judging::ROWS, 1)),
+        (Benchmark::Trace, Detail::All) => Some((traces::ROWS, 1)),
         (Benchmark::Lock, Detail::All) => Some((lock::ROWS, ROUNDS)),
         (Benchmark::Lock, Detail::Number(rounds)) => Some((lock::ROWS, rounds)),
         (Benchmark::Threads, Detail::All) => Some((threads::ROWS, 1)),
@@ -147,7 +160,7 @@ fn hold<R: Clock + Print + Threads + Wait + Sync>(
     rt: &R,
     alloc: Global,
 ) -> Result<ExitCode, Failure> {
-    Sample::With(Scene::Held).least_time(rt, alloc, 16, 1)?;
+    Sample::With(Scene::Held).time_alone(rt, alloc, 16)?;
     println!(rt; "16 threads were held for a second")?;
     Ok(ExitCode::SUCCESS)
 }

@@ -1,6 +1,8 @@
-//! Times of reading a part of a file, beside the same of a file of the same shape with fewer parts.
+//! Times of reading a part of a file, beside the same of a file of the same shape with fewer parts; and of reading a byte of
+//! code, beside one pass over the bytes of the same file, which counts the ends of its lines.
 
-use crate::files::Files;
+use crate::code::{ARITHMETIC, CALLS, FIELDS, MIXED, STRINGS, SWITCHES};
+use crate::files::{Files, pass_time as text_pass_time};
 use crate::harness::{Failure, Row, Watch};
 use crate::sample::Sample;
 use jasmin_reader::read_class;
@@ -10,10 +12,10 @@ use std::rt::Clock;
 /// What a file has many of: its parts stand between a front and a back.
 #[derive(Clone, Copy)]
 pub(crate) struct Part {
-    front: &'static [u8],
+    pub front: &'static [u8],
     /// `#` is the number of the part, and `@` how many parts are left.
-    text: &'static [u8],
-    back: &'static [u8],
+    pub text: &'static [u8],
+    pub back: &'static [u8],
 }
 
 const LABELS: Part = Part {
@@ -48,7 +50,7 @@ const METHODS: Part = Part {
     back: b"",
 };
 
-/// Each part twice and four times as many parts as the first file.
+/// Each part twice and four times as many parts as the first file; then code of about so many bytes.
 pub(crate) const ROWS: &[Row] = &[
     Row {
         what: "labels of one method, one read, beside the first",
@@ -95,6 +97,60 @@ pub(crate) const ROWS: &[Row] = &[
         unit_size: Some(1),
         repeats: 5,
     },
+    Row {
+        what: "bytes of methods of arithmetic, one read, beside a pass",
+        sample: Sample::ReadBytes(ARITHMETIC),
+        sizes: &[262_144],
+        most: 1,
+        unit: Sample::PassBytes(ARITHMETIC),
+        unit_size: None,
+        repeats: 15,
+    },
+    Row {
+        what: "bytes of methods that call, one read, beside a pass",
+        sample: Sample::ReadBytes(CALLS),
+        sizes: &[262_144],
+        most: 1,
+        unit: Sample::PassBytes(CALLS),
+        unit_size: None,
+        repeats: 15,
+    },
+    Row {
+        what: "bytes of methods with fields, one read, beside a pass",
+        sample: Sample::ReadBytes(FIELDS),
+        sizes: &[262_144],
+        most: 1,
+        unit: Sample::PassBytes(FIELDS),
+        unit_size: None,
+        repeats: 15,
+    },
+    Row {
+        what: "bytes of methods with switches, one read, beside a pass",
+        sample: Sample::ReadBytes(SWITCHES),
+        sizes: &[262_144],
+        most: 1,
+        unit: Sample::PassBytes(SWITCHES),
+        unit_size: None,
+        repeats: 15,
+    },
+    Row {
+        what: "bytes of methods with strings, one read, beside a pass",
+        sample: Sample::ReadBytes(STRINGS),
+        sizes: &[262_144],
+        most: 1,
+        unit: Sample::PassBytes(STRINGS),
+        unit_size: None,
+        repeats: 15,
+    },
+    Row {
+        what: "bytes of long methods with all of these, one read, beside a pass",
+        sample: Sample::ReadBytes(MIXED),
+        sizes: &[65_536, 1_048_576],
+        most: 1,
+        unit: Sample::PassBytes(MIXED),
+        unit_size: None,
+        repeats: 15,
+    },
 ];
 
 // A file of so many parts.
@@ -108,6 +164,20 @@ fn file_of(alloc: Global, part: Part, parts: usize) -> Files {
     files
 }
 
+// A file of about so many bytes.
+fn file_of_bytes(alloc: Global, part: Part, bytes: usize) -> Files {
+    file_of(alloc, part, bytes / part.text.len().max(1) + 1)
+}
+
+// How long it takes to read a text, for each of so many parts.
+fn read_time(rt: &impl Clock, alloc: Global, text: &[u8], parts: usize) -> Result<u128, Failure> {
+    let watch = Watch::start(rt);
+    match read_class(alloc, text) {
+        Ok(_text) => watch.share(rt, parts),
+        Err(_) => Err(Failure::Program),
+    }
+}
+
 /// How long a part of a file of so many is read.
 pub(crate) fn time(
     rt: &impl Clock,
@@ -116,10 +186,28 @@ pub(crate) fn time(
     size: usize,
 ) -> Result<u128, Failure> {
     let file = file_of(alloc, part, size);
+    read_time(rt, alloc, file.text()?, size)
+}
+
+/// How long a byte of a file of about so many is read.
+pub(crate) fn byte_time(
+    rt: &impl Clock,
+    alloc: Global,
+    part: Part,
+    bytes: usize,
+) -> Result<u128, Failure> {
+    let file = file_of_bytes(alloc, part, bytes);
     let text = file.text()?;
-    let watch = Watch::start(rt);
-    match read_class(alloc, text) {
-        Ok(_text) => watch.share(rt, size),
-        Err(_) => Err(Failure::Program),
-    }
+    read_time(rt, alloc, text, text.len())
+}
+
+/// How long one pass takes a byte of that file.
+pub(crate) fn pass_time(
+    rt: &impl Clock,
+    alloc: Global,
+    part: Part,
+    bytes: usize,
+) -> Result<u128, Failure> {
+    let file = file_of_bytes(alloc, part, bytes);
+    text_pass_time(rt, file.text()?)
 }

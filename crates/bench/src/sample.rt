@@ -1,14 +1,15 @@
 //! What is timed, over all benchmarks.
 
 use crate::files::Files;
-use crate::harness::{Failure, add_time};
+use crate::harness::Failure;
 use crate::judging::{self, Story};
 use crate::link::{self, Shape};
 use crate::lock::{self, Contest};
 use crate::looks::{self, Use};
-use crate::needs;
 use crate::reader::{self, Part};
 use crate::threads::{self, Chains};
+use crate::turns::{self, Task};
+use crate::{needs, traces};
 use hierarchy::Program;
 use std::alloc::Global;
 use std::rt::Clock;
@@ -18,14 +19,16 @@ use std::thread::Threads;
 /// What is timed. Each has a size.
 #[derive(Clone, Copy)]
 pub(crate) enum Sample {
-    /// `fetch_add`s on one word.
-    Adds,
     /// Pushes of 24 bytes on a list.
     Pushes,
     /// Rounds under the lock, so many in each thread: a round.
     Lock(Contest),
     /// Reading a file of so many parts: a part.
     Read(Part),
+    /// Reading a file of about so many bytes: a byte.
+    ReadBytes(Part),
+    /// One pass over its bytes: a byte.
+    PassBytes(Part),
     /// Linking a program of that size: a part of it.
     Link(Shape),
     /// What is done with a linked program.
@@ -45,6 +48,12 @@ pub(crate) enum Scene {
     Judge(Story),
     /// One pass over them: an event.
     Pass(Story),
+    /// Writing the trace of so many events: a byte.
+    Write(Story),
+    /// One pass over the bytes of the trace: a byte.
+    PassTrace(Story),
+    /// Turns of a world: a turn.
+    Turns(Task),
     /// A run of so many threads: an event.
     Run(Chains),
     /// A run of sixteen threads whose one main class is held for a second: an event.
@@ -60,20 +69,21 @@ impl Scene {
             }
             Scene::Needs => needs::add_files(files, size),
             Scene::Use(_) => files.add_file(looks::FILE),
-            Scene::Judge(_) | Scene::Pass(_) => judging::add_files(files),
+            Scene::Judge(_) | Scene::Pass(_) | Scene::Write(_) | Scene::PassTrace(_) => {
+                judging::add_files(files)
+            }
+            Scene::Turns(task) => turns::add_files(files, task, size),
             Scene::Run(chains) => threads::add_files(files, chains, size),
             Scene::Held => files.add_file(threads::HELD_FILE),
         }
     }
 
-    fn program(self, alloc: Global, size: usize) -> Result<Program, Failure> {
-        let mut files = Files::new(alloc);
-        self.add_files(&mut files, size);
-        files.program(alloc)
+    fn is_of_bytes(self) -> bool {
+        matches!(self, Scene::Write(_) | Scene::PassTrace(_))
     }
 
     // How long a part of it takes with its program.
-    fn time_with<R: Clock + Threads + Wait + Sync>(
+    fn time<R: Clock + Threads + Wait + Sync>(
         self,
         rt: &R,
         alloc: Global,
@@ -86,74 +96,63 @@ impl Scene {
             Scene::Use(usage) => looks::time(rt, alloc, program, usage, size),
             Scene::Judge(story) => judging::time(rt, alloc, program, story, size),
             Scene::Pass(story) => judging::pass_time(rt, alloc, story, size),
+            Scene::Write(story) => traces::time(rt, alloc, program, story, size),
+            Scene::PassTrace(story) => traces::pass_time(rt, alloc, program, story, size),
+            Scene::Turns(task) => turns::time(rt, alloc, program, task, size),
             Scene::Run(chains) => threads::time(rt, alloc, program, chains, size),
             Scene::Held => threads::held_time(rt, alloc, program),
-        }
-    }
-
-    // The least of so many times with one program.
-    fn least_with<R: Clock + Threads + Wait + Sync>(
-        self,
-        rt: &R,
-        alloc: Global,
-        program: &Program,
-        size: usize,
-        repeats: usize,
-    ) -> Result<u128, Failure> {
-        let mut least = u128::MAX;
-        for _ in 0..repeats {
-            least = least.min(self.time_with(rt, alloc, program, size)?);
-        }
-        Ok(least)
-    }
-
-    fn least_time<R: Clock + Threads + Wait + Sync>(
-        self,
-        rt: &R,
-        alloc: Global,
-        size: usize,
-        repeats: usize,
-    ) -> Result<u128, Failure> {
-        match self.program(alloc, size) {
-            Ok(program) => self.least_with(rt, alloc, &program, size, repeats),
-            Err(failure) => Err(failure),
         }
     }
 }
 
 impl Sample {
-    // How long a part of it takes, once.
-    fn time<R: Clock + Threads + Wait + Sync>(
-        self,
-        rt: &R,
-        alloc: Global,
-        size: usize,
-    ) -> Result<u128, Failure> {
+    /// Whether its parts are bytes.
+    pub(crate) fn is_of_bytes(self) -> bool {
         match self {
-            Sample::Adds => add_time(rt, size),
-            Sample::Pushes => looks::push_time(rt, alloc, size),
-            Sample::Lock(contest) => lock::time(rt, alloc, contest, size),
-            Sample::Read(part) => reader::time(rt, alloc, part, size),
-            Sample::Link(shape) => link::time(rt, alloc, shape, size),
-            Sample::With(scene) => scene.least_time(rt, alloc, size, 1),
+            Sample::ReadBytes(_) | Sample::PassBytes(_) => true,
+            Sample::With(scene) => scene.is_of_bytes(),
+            _ => false,
         }
     }
 
-    /// How long a part of it takes, in thousandths of a nanosecond: the least of so many times.
-    pub(crate) fn least_time<R: Clock + Threads + Wait + Sync>(
+    /// Its program; one without classes where it needs none.
+    pub(crate) fn program(self, alloc: Global, size: usize) -> Result<Program, Failure> {
+        let mut files = Files::new(alloc);
+        if let Sample::With(scene) = self {
+            scene.add_files(&mut files, size);
+        }
+        files.program(alloc)
+    }
+
+    /// How long a part of it takes with its program, once, in thousandths of a nanosecond.
+    pub(crate) fn time<R: Clock + Threads + Wait + Sync>(
+        self,
+        rt: &R,
+        alloc: Global,
+        program: &Program,
+        size: usize,
+    ) -> Result<u128, Failure> {
+        match self {
+            Sample::Pushes => looks::push_time(rt, alloc, size),
+            Sample::Lock(contest) => lock::time(rt, alloc, contest, size),
+            Sample::Read(part) => reader::time(rt, alloc, part, size),
+            Sample::ReadBytes(part) => reader::byte_time(rt, alloc, part, size),
+            Sample::PassBytes(part) => reader::pass_time(rt, alloc, part, size),
+            Sample::Link(shape) => link::time(rt, alloc, shape, size),
+            Sample::With(scene) => scene.time(rt, alloc, program, size),
+        }
+    }
+
+    /// The same, where nothing stands beside it.
+    pub(crate) fn time_alone<R: Clock + Threads + Wait + Sync>(
         self,
         rt: &R,
         alloc: Global,
         size: usize,
-        repeats: usize,
     ) -> Result<u128, Failure> {
-        if let Sample::With(scene) = self {
-            return scene.least_time(rt, alloc, size, repeats);
+        match self.program(alloc, size) {
+            Ok(program) => self.time(rt, alloc, &program, size),
+            Err(failure) => Err(failure),
         }
-        let mut least = u128::MAX;
-        for _ in 0..repeats {
-            least = least.min(self.time(rt, alloc, size)?);
-        }
-        Ok(least)
     }
 }

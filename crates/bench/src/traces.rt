@@ -1,0 +1,82 @@
+//! Times of writing a trace, a byte, beside one pass over the bytes of the same trace.
+//!
+//! The events are those that `judging` makes. The pass counts the ends of the lines.
+
+use crate::files::pass_time as text_pass_time;
+use crate::harness::{Failure, Row, Watch};
+use crate::judging::{Story, add_events};
+use crate::sample::{Sample, Scene};
+use hierarchy::Program;
+use init_core::Event;
+use std::alloc::Global;
+use std::rt::Clock;
+use trace::write_trace;
+
+/// A quarter of a million events of each, and a million.
+pub(crate) const ROWS: &[Row] = &[
+    Row {
+        what: "looks, a byte written, beside a pass",
+        sample: Sample::With(Scene::Write(Story::Looks)),
+        sizes: &[250_000, 1_000_000],
+        most: 1,
+        unit: Sample::With(Scene::PassTrace(Story::Looks)),
+        unit_size: None,
+        repeats: 10,
+    },
+    Row {
+        what: "looks with reads and writes, a byte written, beside a pass",
+        sample: Sample::With(Scene::Write(Story::Fields)),
+        sizes: &[250_000, 1_000_000],
+        most: 1,
+        unit: Sample::With(Scene::PassTrace(Story::Fields)),
+        unit_size: None,
+        repeats: 10,
+    },
+    Row {
+        what: "prints, a byte written, beside a pass",
+        sample: Sample::With(Scene::Write(Story::Prints)),
+        sizes: &[250_000, 1_000_000],
+        most: 1,
+        unit: Sample::With(Scene::PassTrace(Story::Prints)),
+        unit_size: None,
+        repeats: 10,
+    },
+];
+
+fn write_time(
+    rt: &impl Clock,
+    alloc: Global,
+    program: &Program,
+    events: &[Event],
+) -> Result<u128, Failure> {
+    let watch = Watch::start(rt);
+    let text = write_trace(alloc, program, events)?;
+    watch.share(rt, text.len())
+}
+
+/// The time of writing a byte of the trace of so many events.
+pub(crate) fn time(
+    rt: &impl Clock,
+    alloc: Global,
+    program: &Program,
+    story: Story,
+    count: usize,
+) -> Result<u128, Failure> {
+    let mut events = Vec::new(alloc);
+    add_events(alloc, &mut events, story, count)?;
+    write_time(rt, alloc, program, &events)
+}
+
+/// The time of going over a byte of that trace.
+pub(crate) fn pass_time(
+    rt: &impl Clock,
+    alloc: Global,
+    program: &Program,
+    story: Story,
+    count: usize,
+) -> Result<u128, Failure> {
+    let mut events = Vec::new(alloc);
+    add_events(alloc, &mut events, story, count)?;
+    let text = write_trace(alloc, program, &events)?;
+    text_pass_time(rt, &text)
+}
