@@ -66,6 +66,16 @@ class Program:
         self.memory = max(self.memory, used.ru_maxrss * 1024)
 
 
+def bench(name):
+    """The program of crates/bench, built where it isn't, and run once with the name of a benchmark."""
+    folder = f"{TOP}/crates/bench"
+    if subprocess.run(["rt", "run"], cwd=folder, stdout=subprocess.DEVNULL).returncode:
+        sys.exit("crates/bench was not built")
+    program = Program([f"{folder}/out/bench", name])
+    program.run()
+    return program
+
+
 def java(folder, files, name):
     """The words that run the class of this name of Java files, by HotSpot's interpreter; nothing where there is no java or javac."""
     if not shutil.which("java") or not shutil.which("javac"):

@@ -166,7 +166,8 @@ fn file_of(alloc: Global, part: Part, parts: usize) -> Files {
 
 // A file of about so many bytes.
 fn file_of_bytes(alloc: Global, part: Part, bytes: usize) -> Files {
-    file_of(alloc, part, bytes / part.text.len().max(1) + 1)
+    let parts = bytes / part.text.len().max(1);
+    file_of(alloc, part, parts.saturating_add(1))
 }
 
 // How long it takes to read a text, for each of so many parts.

@@ -5,7 +5,7 @@
 //! each turn does something or waits. Either the chain is short, and nearly all turns find the main class initialized (step 4
 //! of JLS SE 8 12.4.2); or the turns are those in which one thread initializes a long chain, and the others wait.
 
-ghost use Rattle.std.specs.Prelude.{◌≡◌, ◌×◌, ◌<◌, ◌≤◌, length};
+ghost use Rattle.std.specs.Prelude.{◌≡◌, ◌<◌, ◌≤◌, length};
 
 use crate::files::Files;
 use crate::harness::{Failure, Row, Watch};
@@ -168,10 +168,13 @@ pub(crate) fn time(
     task: Task,
     size: usize,
 ) -> Result<u128, Failure> {
-    let Some(last) = program.len().checked_sub(1) else {
+    let classes = program.len();
+    if classes == 0 {
         return Err(Failure::Program);
+    }
+    let main = ClassId {
+        number: classes - 1,
     };
-    let main = ClassId { number: last };
     match task {
         Task::Find(threads) => turns_time(rt, alloc, program, threads.clamp(1, 16), main, size),
         Task::Climb(threads) => {
