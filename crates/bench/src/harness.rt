@@ -220,18 +220,24 @@ impl Pair {
     }
 }
 
+// Prints how many millions of bytes are done in a second, where the parts are bytes.
+fn print_rate(rt: &impl Print, sample: Sample, time: u128) -> Result<(), Failure> {
+    if sample.is_of_bytes() {
+        let rate = ratio(MILLION_A_SECOND, time);
+        print!(rt; ", {rate} MB/s")?;
+    }
+    Ok(())
+}
+
 // Prints a line: how often the time of the unit is in that of the sample, the time of the sample, and how often that of a
-// `fetch_add` is in it; of bytes also how many millions of them a second.
+// `fetch_add` is in it; of bytes also how many a second.
 fn print_line(rt: &impl Print, row: &Row, size: usize, times: Times) -> Result<(), Failure> {
     let what = row.what;
     let beside = ratio(times.sample, times.unit);
     let nanos = ratio(times.sample, 1000);
     let adds = ratio(times.sample, times.add);
     print!(rt; "{size} {what}: {beside} ({nanos} ns, {adds} fetch_adds")?;
-    if row.sample.is_of_bytes() {
-        let rate = ratio(MILLION_A_SECOND, times.sample);
-        print!(rt; ", {rate} MB/s")?;
-    }
+    print_rate(rt, row.sample, times.sample)?;
     Ok(println!(rt; ")")?)
 }
 

@@ -142,6 +142,29 @@ fn turns_time(
     rt: &impl Clock,
     alloc: Global,
     program: &Program,
+    world: &mut World,
+    threads: usize,
+    main: ClassId,
+    turns: usize,
+) -> Result<u128, Failure>
+    requires program { program.now ≡ world.old.program }
+    requires threads { (length world.old.threads ≡ threads) × (0 < threads) }
+    requires main { main.number < length program.now.classes }
+{
+    let watch = Watch::start(rt);
+    take_turns(alloc, program, world, threads, main, turns)?;
+    let share = watch.share(rt, turns)?;
+    if world.len() < turns / threads {
+        return Err(Failure::Program);
+    }
+    Ok(share)
+}
+
+// The same in a world of its own.
+fn world_time(
+    rt: &impl Clock,
+    alloc: Global,
+    program: &Program,
     threads: usize,
     main: ClassId,
     turns: usize,
@@ -149,14 +172,10 @@ fn turns_time(
     requires threads { (0 < threads) × (threads ≤ 16) }
     requires main { main.number < length program.now.classes }
 {
-    let mut world = World::new(alloc, program, threads)?;
-    let watch = Watch::start(rt);
-    take_turns(alloc, program, &mut world, threads, main, turns)?;
-    let share = watch.share(rt, turns)?;
-    if world.len() < turns / threads {
-        return Err(Failure::Program);
+    match World::new(alloc, program, threads) {
+        Ok(mut world) => turns_time(rt, alloc, program, &mut world, threads, main, turns),
+        Err(_) => Err(Failure::Memory),
     }
-    Ok(share)
 }
 
 /// The time of a turn. With a chain of so many classes there are three turns a class for each thread: as many as the first thread
@@ -176,11 +195,11 @@ pub(crate) fn time(
         number: classes - 1,
     };
     match task {
-        Task::Find(threads) => turns_time(rt, alloc, program, threads.clamp(1, 16), main, size),
+        Task::Find(threads) => world_time(rt, alloc, program, threads.clamp(1, 16), main, size),
         Task::Climb(threads) => {
             let threads = threads.clamp(1, 16);
             let turns = size.saturating_mul(3).saturating_mul(threads);
-            turns_time(rt, alloc, program, threads, main, turns)
+            world_time(rt, alloc, program, threads, main, turns)
         }
     }
 }
