@@ -12,12 +12,12 @@ use std::alloc::Global;
 use std::rt::Clock;
 use trace::write_trace;
 
-/// A quarter of a million events of each, and a million.
+/// A hundred thousand events of each, and a million.
 pub(crate) const ROWS: &[Row] = &[
     Row {
         what: "looks, a byte written, beside a pass",
         sample: Sample::With(Scene::Write(Story::Looks)),
-        sizes: &[250_000, 1_000_000],
+        sizes: &[100_000, 1_000_000],
         most: 1,
         unit: Sample::With(Scene::PassTrace(Story::Looks)),
         unit_size: None,
@@ -26,7 +26,7 @@ pub(crate) const ROWS: &[Row] = &[
     Row {
         what: "looks with reads and writes, a byte written, beside a pass",
         sample: Sample::With(Scene::Write(Story::Fields)),
-        sizes: &[250_000, 1_000_000],
+        sizes: &[100_000, 1_000_000],
         most: 1,
         unit: Sample::With(Scene::PassTrace(Story::Fields)),
         unit_size: None,
@@ -35,7 +35,7 @@ pub(crate) const ROWS: &[Row] = &[
     Row {
         what: "prints, a byte written, beside a pass",
         sample: Sample::With(Scene::Write(Story::Prints)),
-        sizes: &[250_000, 1_000_000],
+        sizes: &[100_000, 1_000_000],
         most: 1,
         unit: Sample::With(Scene::PassTrace(Story::Prints)),
         unit_size: None,

@@ -27,22 +27,22 @@ pub(crate) enum Task {
 /// Twice and four times as many turns as the least; sixteen threads beside two.
 pub(crate) const ROWS: &[Row] = &[
     Row {
-        what: "turns of 2 threads at an initialized class, beside 250000",
+        what: "turns of 2 threads at an initialized class, beside 50000",
         sample: Sample::With(Scene::Turns(Task::Find(2))),
-        sizes: &[500_000, 1_000_000],
+        sizes: &[100_000, 200_000],
         most: 1,
         unit: Sample::With(Scene::Turns(Task::Find(2))),
-        unit_size: Some(250_000),
-        repeats: 10,
+        unit_size: Some(50_000),
+        repeats: 40,
     },
     Row {
         what: "turns of 16 threads at an initialized class, beside 2 threads",
         sample: Sample::With(Scene::Turns(Task::Find(16))),
-        sizes: &[250_000],
+        sizes: &[50_000],
         most: 1,
         unit: Sample::With(Scene::Turns(Task::Find(2))),
         unit_size: None,
-        repeats: 10,
+        repeats: 40,
     },
     Row {
         what: "classes of a chain, a turn of 2 threads, beside 128",
