@@ -34,7 +34,7 @@ class Edits:
         self.others = 0
 
     def try_one(self):
-        """Tries one batch, and answers whether there was one. Several threads may call it."""
+        """Tries one batch, if one is left, and answers whether there are more. Several threads may call it."""
         try:
             batch = self.left.popleft()
         except IndexError:
@@ -48,7 +48,7 @@ class Edits:
                 self.found[edit] = True, f"{label}: refused, as it must be: fn {function}: not proved"
             else:
                 self.found[edit] = self.alone(edit)
-        return True
+        return bool(self.left)
 
     def beside_harmless(self):
         """How many edits were refused beside the harmless one, where that one came out as not refused; else 0."""
@@ -109,7 +109,8 @@ class Edits:
 
     def tried(self, edit, *kept):
         kind, text = self.rt.must_fail(self.crate, edit, ["--jobs", "1"], *kept)
-        return kind in (self.rt.REFUSED, self.rt.AT_LIMIT), text
+        # (13b answers whether it is refused, 13f one of several kinds)
+        return kind in [getattr(self.rt, it, True) for it in ("REFUSED", "AT_LIMIT")], text
 
 
 class copied:

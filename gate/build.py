@@ -83,7 +83,7 @@ def main():
         say("put the folder bin of the Rattle kit on the PATH and call again")
         sys.exit(FAILED)
     say("the program isn't built yet, or its sources changed: the crates that it stands on are proved and built first")
-    if kit.version() == kit.KNOWN:
+    if kit.version() in kit.KNOWN:
         along_the_graph()
     else:
         by_the_kit()

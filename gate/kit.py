@@ -6,8 +6,8 @@ import shutil
 import subprocess
 import sys
 
-# The kit whose inner names the gate and the build lean on. With any other they fall back to the kit's own commands.
-KNOWN = "rattle-kit-13f logic dac8208d650f15bf"
+# The kits whose inner names the gate and the build lean on. With any other they fall back to the kit's own commands.
+KNOWN = "rattle-kit-13b logic dac8208d650f15bf", "rattle-kit-13f logic dac8208d650f15bf"
 
 
 def version():

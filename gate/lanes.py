@@ -6,8 +6,8 @@ lower priority, so that they take what those leave."""
 import os
 from concurrent.futures import FIRST_COMPLETED, ThreadPoolExecutor, wait
 
-# What a call answers that is to be called once more.
-AGAIN = object()
+# What a call answers that is to be called once more, and one that leaves nothing to do for the other shares of its work.
+AGAIN, NO_MORE = object(), object()
 # The priority of what no proof waits for.
 NICE = 10
 
@@ -80,8 +80,12 @@ def run(tasks, given, processors, memory, memory_for):
             lanes.idle += jobs
             if it.result() is AGAIN:
                 left.append(key)
-            else:
-                given[key] = it.result()
+                continue
+            given[key] = it.result()
+            if given[key] is NO_MORE:
+                for other in [it for it in left if it[:2] == key[:2] and len(it) == len(key)]:
+                    left.remove(other)
+                    given[other] = NO_MORE
         start()
     for lanes in front, back:
         lanes.pool.shutdown()

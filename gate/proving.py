@@ -64,17 +64,22 @@ class Gate:
 
     def judge(self):
         """Runs the kit's gate so, and answers its exit status."""
-        self.original = {it: getattr(self.rt, it) for it in ("crates_of", "add_edits", "in_lanes", "run", "put_back")}
+        # (13f keeps what it proved in a store of its own, and adds tasks for edits by a call of their own; 13b does neither)
+        keeps = hasattr(self.rt, "Kept")
+        names = "crates_of", "in_lanes", "run", "put_back", *(["add_edits"] if keeps else [])
+        self.original = {it: getattr(self.rt, it) for it in names}
         for name in self.original:
             setattr(self.rt, name, getattr(self, name))
-        self.rt.Crate, self.rt.Kept = self.crate_class(), self.kept_class()
+        self.rt.Crate = self.crate_class()
+        if keeps:
+            self.rt.Kept = self.kept_class()
         # (a verdict's line may also say that the check took up what this very run proved)
         line = self.rt.rtlib.VERDICT
         end = r" statements=trusted\n"
         self.rt.rtlib.VERDICT = re.compile(line.pattern.replace(end, r" statements=trusted(?: incremental=trusted)?\n"), re.M)
         sys.stdout = Lines()
         try:
-            return self.rt.ci(anew=True)
+            return self.rt.ci(**({"anew": True} if keeps else {}))
         finally:
             said, sys.stdout = "".join(sys.stdout.all), sys.__stdout__
             if not self.crates:
@@ -130,8 +135,8 @@ class Gate:
 
         return Kept
 
-    def crates_of(self, root):
-        found = self.original["crates_of"](root)
+    def crates_of(self, *given):
+        found = self.original["crates_of"](*given)
         for it in found:
             self.crates[it.name] = it
             self.keys[it.name] = self.store.key(it, [*self.rt.edits_of(it)[0], self.harmless])
@@ -196,7 +201,7 @@ class Gate:
         proof = crate.name, "proof"
 
         def share(given, jobs):
-            return lanes.AGAIN if given[proof] and self.edits_to_try(crate).try_one() else None
+            return lanes.AGAIN if given[proof] and self.edits_to_try(crate).try_one() else lanes.NO_MORE
 
         for at in range(self.rt.processors() if good and not self.known[crate.name] else 0):
             key = crate.name, "edits", at
