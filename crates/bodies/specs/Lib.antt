@@ -1,4 +1,5 @@
 pub mod Making
+pub mod Lending
 pub mod Doing
 pub mod Runs
 pub mod Writes

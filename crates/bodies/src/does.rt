@@ -1,6 +1,6 @@
 //! What a body does next, and what runs bodies.
 
-ghost use Rattle.std.specs.Prelude.{IsTrue, Option};
+ghost use Rattle.std.specs.Prelude.{Option};
 ghost use Rattle.hierarchy.specs.LinkedProgram.{LinkedProgram};
 ghost use Rattle.hierarchy.specs.Subclasses.{IsError, IsThrowable};
 ghost use Rattle.init_core.specs.declared.frames.Completed.{Completed as CompletedFacts};
@@ -36,7 +36,7 @@ pub enum Does {
     },
     /// It prints a text.
     Prints(Text),
-    /// It has come to something that another thread holds ([`Bodies::waits`]), and is asked again.
+    /// It has come to something that another thread holds, and is asked again.
     Waits,
     /// It returns, or it throws an object of this class, which nothing in it catches.
     Over(Option<ClassId>),
@@ -65,10 +65,6 @@ pub trait Bodies: Drop {
         ensures does { (making program.now).does self.old last result self.new }
         ensures fits { MayDo program.now (making program.now) last result };
 
-    /// Whether the innermost body stands at something that another thread holds, and so can't go on.
-    fn waits(&self, program: &Program) -> bool
-        ensures { IsTrue result → (making program.now).waits self.now };
-
     /// The value of the field that is read.
     fn get(&mut self, program: &Program, value: Value)
         ensures { (making program.now).gets self.old value self.new };
@@ -82,10 +78,6 @@ pub trait Bodies: Drop {
         requires thrown { IsThrowable program.now thrown }
         ensures replaces { (making program.now).replaces self.old thrown result self.new }
         ensures error { IsError program.now result };
-
-    /// The thread has ended, and leaves all that it holds.
-    fn end(&mut self, program: &Program)
-        ensures { (making program.now).ends self.old self.new };
 
     /// What a body does that has waited it may do at once, where nothing has to be waited for.
     ghost waits_on: { (p : LinkedProgram) (s u z : Self) (last : Option CompletedFacts) (d : DoesFacts) →

@@ -2,14 +2,17 @@
 //!
 //! Enter by the trait [`Bodies`]: what runs the code of one thread. A body goes from one of its events to the next
 //! ([`Bodies::next`]) and the thread makes the event: an active use by the procedure of JLS SE 8 12.4.2, a read or a write of
-//! a static field, a print. [`NoCode`] is that whose bodies are empty.
+//! a static field, a print. [`NoCode`] is that whose bodies are empty. [`Lends`] is that of one of several threads which share something,
+//! and which one host thread runs in turn.
 //!
 //! A [`Bodies`] says by relations over its own states what its bodies do; `specs/Making.antt` has them, and makes of them what
 //! the words of a procedure stand over.
 #![tactic(auto)]
 
 mod does;
+mod lends;
 mod no_code;
 
 pub use does::{Bodies, Does};
+pub use lends::Lends;
 pub use no_code::NoCode;

@@ -5,6 +5,7 @@ ghost use Rattle.hierarchy.specs.Subclasses.{IsError, IsThrowable};
 ghost use Rattle.init_core.specs.ProcedureWord.{GoesOn, IsOfFiles};
 
 use crate::does::{Bodies, Does};
+use crate::lends::Lends;
 use hierarchy::{BuiltIn, ClassId, Program, Value};
 use init_core::Completed;
 use std::alloc::Global;
@@ -26,10 +27,6 @@ impl Bodies for NoCode {
         Does::Over(None)
     }
 
-    fn waits(&self, _program: &Program) -> bool {
-        false
-    }
-
     fn get(&mut self, _program: &Program, _value: Value) {}
 
     fn leave(&mut self, _program: &Program) {}
@@ -38,7 +35,19 @@ impl Bodies for NoCode {
         program.built_in(BuiltIn::ExceptionInInitializerError)
     }
 
-    fn end(&mut self, _program: &Program) {}
-
     ghost waits_on = { waits_for_nothing };
+}
+
+impl Lends<()> for NoCode {
+    ghost use Rattle.bodies.specs.Lending.{nothing_shared};
+
+    ghost lending = { nothing_shared };
+
+    fn exchange(&mut self, _shared: &mut ()) {}
+
+    fn waits(&self, _program: &Program, _shared: &()) -> bool {
+        false
+    }
+
+    fn end(&mut self, _program: &Program) {}
 }

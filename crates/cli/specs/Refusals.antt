@@ -16,6 +16,7 @@ use Rattle.cli.specs.Limits.{AreLimits, IsLimitRefusal}
 use Rattle.cli.specs.Orders.{IsOrderRefusal, order_in}
 use Rattle.cli.specs.ReadRefusals.{AreRefused, AreUnlinked}
 use Rattle.cli.specs.Running.{IsRefusal}
+use Rattle.cli.specs.Status.{status_of}
 
 -- of files whose main classes are to be run, in an order where there is one: that of the files, or else of linking and running
 pub data IsFilesRefusal (known : Option Files) (files : List Text) (mains : Option Text) (order : Option (List ℕ)) : Fault → Type 0 where
@@ -35,10 +36,12 @@ IsFaultOf known (check words) f = IsCheckRefusal known words.files words.mains w
 IsFaultOf known (needs files) f = AreUnlinked known files f
 IsFaultOf known unfit f = f ≡ Words
 
--- the one line that is added to standard error, known before and after, tells of the first fault of what is asked for
+-- the one line that is added to standard error, known before and after, tells of the first fault of what is asked for, whose exit
+-- status is 2
 pub record IsRefusedBy (known : Option Files) (errors errors_after : Option (List ℕ)) (request : Request) : Type 0 where
   pub first : Fault
   pub is_first : IsFaultOf known request first
+  pub status : status_of first ≡ 2
   pub told : Appends errors errors_after (fault_line first)
 
 -- the words are refused: `clap` finds a fault in them, or they are words of the command line, and what they ask for has a fault

@@ -10,6 +10,8 @@ use Rattle.trace.specs.declared.report.Report.{Report}
 use Rattle.interpreter.specs.declared.interpreter.Interpreter.{Interpreter}
 use Rattle.interpreter.specs.CodeRun.{code_bodies, interpreter_at_start}
 use Rattle.interpreter.specs.SharedRun.{shared_bodies}
+use Rattle.interpreter.specs.TurnRun.{objects_at_start, objects_lent, turn_bodies}
+use Rattle.bodies.specs.Lending.{nothing_shared}
 use Rattle.bodies.specs.Making.{Making}
 use Rattle.bodies.specs.Runs.{IsRunOf}
 use Rattle.replayer.specs.OrderedRun.{IsOrderedRunOf}
@@ -69,10 +71,16 @@ bodies_by false p = shared_bodies p
 abbrev pub bodies_of : LinkedProgram → List ClassId → Making Interpreter
 bodies_of p mains = bodies_by (nat_lt (length mains) 2) p
 
+-- the report is of a run in this order: of one class, whose thread is alone, or of several, whose threads share what is made and who
+-- holds which monitor, where nothing is made at first and nobody holds any
+abbrev pub IsOrderedRunBy : Bool → LinkedProgram → List Interpreter → List ClassId → List ℕ → Report → Type 0
+IsOrderedRunBy true p starts classes order r = IsOrderedRunOf p nothing_shared (code_bodies p) tt starts classes order r
+IsOrderedRunBy false p starts classes order r = IsOrderedRunOf p objects_lent (turn_bodies p) objects_at_start starts classes order r
+
 -- the report is of a run of the code of these classes, each on a thread of its own: in this order, or, where there is none, in any
 abbrev pub IsRunOfMains : LinkedProgram → List ClassId → Option (List ℕ) → Limits → Report → Type 0
 IsRunOfMains p classes None limits r = IsRunOf p (bodies_of p classes) (starts_of classes limits) classes limits r
-IsRunOfMains p classes (Some order) limits r = IsOrderedRunOf p (bodies_of p classes) (starts_of classes limits) classes order r
+IsRunOfMains p classes (Some order) limits r = IsOrderedRunBy (nat_lt (length classes) 2) p (starts_of classes limits) classes order r
 
 -- and these are the classes that the text of `--mains` names
 pub record IsRunOfNamed (mains : Option (List ℕ)) (order : Option (List ℕ)) (limits : Limits) (p : LinkedProgram) (r : Report) : Type 0 where

@@ -1,6 +1,6 @@
 //! From class texts to the run of their main classes.
 
-ghost use Rattle.std.specs.Prelude.{◌≡◌, ◌⊎◌, ◌<◌, ◌≤◌, ◌∷◌, [], None, Some, IfErr, IfOk, IfSome, length, true, vec_len};
+ghost use Rattle.std.specs.Prelude.{◌≡◌, ◌⊎◌, ◌<◌, ◌≤◌, ◌∷◌, [], None, Some, IfErr, IfOk, IfSome, length, nat_lt, true, vec_len};
 ghost use Rattle.std.specs.List.{AllByRecursion};
 ghost use Rattle.std.specs.Option.{option_map};
 ghost use Rattle.clap.specs.Walk.{texts as texts_of};
@@ -8,6 +8,8 @@ ghost use Rattle.hierarchy.specs.FirstFault.{LinksTo};
 ghost use Rattle.init_core.specs.ProcedureWord.{IsOfFiles};
 ghost use Rattle.interpreter.specs.CodeRun.{code_bodies, interpreter_at_start};
 ghost use Rattle.interpreter.specs.SharedRun.{shared_bodies};
+ghost use Rattle.interpreter.specs.TurnRun.{objects_at_start, objects_lent, turn_bodies};
+ghost use Rattle.bodies.specs.Lending.{nothing_shared};
 ghost use Rattle.bodies.specs.Runs.{AreMains, IsRunOf};
 ghost use Rattle.replayer.specs.OrderedRun.{IsOrderedRunOf};
 ghost use Rattle.cli.specs.declared.fault.Fault.TheVariants.{Mains, Memory, Threads};
@@ -15,14 +17,14 @@ ghost use Rattle.cli.specs.CommandLine.{text_of};
 ghost use Rattle.cli.specs.Files.{IsLinkedFrom, KeepsAllBut};
 ghost use Rattle.cli.specs.Orders.{is_of_threads, numbers_of};
 ghost use Rattle.cli.specs.ReadRefusals.{AreUnlinked};
-ghost use Rattle.cli.specs.Running.{IsLinkRefusal, IsRefusal, IsRunOfMains, IsRunOfNamed, IsRunRefusal, bodies_of, main_named as class_of_name, mains_in, mains_named as classes_of_names, starts_below, starts_of};
+ghost use Rattle.cli.specs.Running.{IsLinkRefusal, IsOrderedRunBy, IsRefusal, IsRunOfMains, IsRunOfNamed, IsRunRefusal, bodies_of, main_named as class_of_name, mains_in, mains_named as classes_of_names, starts_below, starts_of};
 
 use crate::fault::Fault;
 use crate::files::{Named, read_texts};
 use crate::orders::fits;
 use guest_threads::{NoGate, RunFault, run_threads};
 use hierarchy::{ClassId, LinkFaultKind, Program, link};
-use interpreter::{Interpreter, SharedInterpreter, SharedObjects};
+use interpreter::{Interpreter, Objects, SharedInterpreter, SharedObjects, TurnInterpreter};
 use jasmin_text::ClassText;
 use replayer::run_ordered;
 use std::alloc::{AllocError, Global};
@@ -142,12 +144,12 @@ fn run_alone<'a>(
 ) -> Result<Report, Fault<'a>>
     requires file { IsOfFiles program.now main }
     requires order { AllByRecursion (λ t. t < 1) order.now }
-    ensures ran { IfOk result (IsOrderedRunOf program.now (code_bodies program.now) (interpreter_at_start 0 limits.steps ∷ []) (main ∷ []) order.now) }
+    ensures ran { IfOk result (IsOrderedRunOf program.now nothing_shared (code_bodies program.now) tt (interpreter_at_start 0 limits.steps ∷ []) (main ∷ []) order.now) }
     ensures refused { IfErr result (λ fault. fault ≡ Memory) }
 {
     let mut bodies = Vec::new(alloc);
     bodies.push(Interpreter::new(alloc, 0, limits.steps))?;
-    let report = run_ordered(alloc, program, &[main], order, bodies)?;
+    let report = run_ordered(alloc, program, &[main], order, bodies, ())?;
     Ok(report)
 }
 
@@ -231,9 +233,26 @@ fn run_unordered<'a, R: Threads + Wait + Sync>(
     run_several(rt, alloc, program, mains, limits)
 }
 
+/// What runs the code of so many threads, of which one goes on at a time.
+fn turn_interpreters(
+    alloc: Global,
+    count: usize,
+    limits: Limits,
+) -> Result<Vec<TurnInterpreter>, AllocError>
+    requires { count ≤ 16 }
+    ensures starts { IfOk result (λ made. made.items ≡ starts_below count limits.steps) }
+    ensures count { IfOk result (λ made. vec_len made ≡ count) }
+{
+    let mut made = Vec::new(alloc);
+    'threads: while made.len() < count {
+        let thread = made.len() as u8;
+        made.push(TurnInterpreter::new(alloc, thread, limits.steps))?;
+    }
+    Ok(made)
+}
+
 /// Runs several main classes in this order, on the calling thread.
-fn run_several_in_order<'a, R: Wait>(
-    rt: &R,
+fn run_several_in_order<'a>(
     alloc: Global,
     program: &Program,
     mains: &[ClassId],
@@ -244,18 +263,16 @@ fn run_several_in_order<'a, R: Wait>(
     requires some { 1 ≤ length mains.now }
     requires few { length mains.now ≤ 16 }
     requires order { AllByRecursion (λ t. t < length mains.now) order.now }
-    ensures ran { IfOk result (IsOrderedRunOf program.now (shared_bodies program.now) (starts_of mains.now limits) mains.now order.now) }
+    ensures ran { IfOk result (IsOrderedRunOf program.now objects_lent (turn_bodies program.now) objects_at_start (starts_of mains.now limits) mains.now order.now) }
     ensures refused { IfErr result (λ fault. fault ≡ Memory) }
 {
-    let shared = SharedObjects::new(alloc);
-    let bodies = interpreters(rt, alloc, &shared, mains.len(), limits, false)?;
-    let report = run_ordered(alloc, program, mains, order, bodies)?;
+    let bodies = turn_interpreters(alloc, mains.len(), limits)?;
+    let report = run_ordered(alloc, program, mains, order, bodies, Objects::new(alloc))?;
     Ok(report)
 }
 
 /// Runs these main classes in this order, on the calling thread.
-fn run_in_order<'a, R: Wait>(
-    rt: &R,
+fn run_in_order<'a>(
     alloc: Global,
     program: &Program,
     mains: &[ClassId],
@@ -266,13 +283,13 @@ fn run_in_order<'a, R: Wait>(
     requires some { 1 ≤ length mains.now }
     requires few { length mains.now ≤ 16 }
     requires order { AllByRecursion (λ t. t < length mains.now) order.now }
-    ensures ran { IfOk result (IsOrderedRunOf program.now (bodies_of program.now mains.now) (starts_of mains.now limits) mains.now order.now) }
+    ensures ran { IfOk result (IsOrderedRunBy (nat_lt (length mains.now) 2) program.now (starts_of mains.now limits) mains.now order.now) }
     ensures refused { IfErr result (λ fault. fault ≡ Memory) }
 {
     if let [main] = mains {
         return run_alone(alloc, program, *main, order, limits);
     }
-    run_several_in_order(rt, alloc, program, mains, order, limits)
+    run_several_in_order(alloc, program, mains, order, limits)
 }
 
 /// Runs these main classes: in this order on the calling thread, or, where there is none, in any.
@@ -292,7 +309,7 @@ fn run_mains<'a, R: Threads + Wait + Sync>(
     ensures refused { IfErr result (λ fault. (fault ≡ Memory) ⊎ ((fault ≡ Threads) × (numbers_of order.entry ≡ None))) }
 {
     match order {
-        Some(order) => run_in_order(rt, alloc, program, mains, order, limits),
+        Some(order) => run_in_order(alloc, program, mains, order, limits),
         None => run_unordered(rt, alloc, program, mains, limits),
     }
 }

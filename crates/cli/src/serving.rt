@@ -362,8 +362,9 @@ fn answer_or_tell<R: Threads + Wait + Sync, N: Named, O: io::Write, E: io::Write
 /// `--order` it may wait, for ever where `--patience` is 0.
 ///
 /// At status 0 and 1 what the words ask for is done, or, at 0, they ask for help or the version; at 0 nothing is written to `err`.
-/// At status 2 no file is written, and nothing to `out`, and what is added to `err` tells of the first fault. At every status all files but the trace are as they were. What files hold is said where that is known
-/// (`Named::held`), and so is what was written (`Write::contents`).
+/// At status 2 no file is written, and nothing to `out`; where `clap` finds no fault in the words, what is added to `err` is the line of the
+/// first fault of what they ask for, and that fault is one of status 2. At every status all files but the trace are as they were. What files
+/// hold is said where that is known (`Named::held`), and so is what was written (`Write::contents`).
 pub fn serve<R: Threads + Wait + Sync, N: Named, O: io::Write, E: io::Write>(
     rt: &R,
     alloc: Global,

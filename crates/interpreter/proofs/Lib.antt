@@ -11,4 +11,5 @@ pub mod Running
 pub mod Saying
 pub mod Sharing
 pub mod Statics
+pub mod TakingTurns
 pub mod Turning

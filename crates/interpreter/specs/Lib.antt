@@ -13,3 +13,4 @@ pub mod Says
 pub mod CodeRun
 pub mod Waiting
 pub mod SharedRun
+pub mod TurnRun

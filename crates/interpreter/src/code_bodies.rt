@@ -6,6 +6,7 @@ ghost use Rattle.hierarchy.specs.declared.class.ClassId.{ClassId as ClassFacts};
 ghost use Rattle.heap.specs.Objects.{no_texts, reference_of_new, with_new};
 ghost use Rattle.init_core.specs.ProcedureWord.{GoesOn};
 ghost use Rattle.interpreter.specs.CodeRun.{Begins, Enters, IsAnswer, IsTold, Replaces, Starts, below_body, fails_by, first_phase as first_phase_of, interpreter_at_start};
+ghost use Rattle.interpreter.specs.Says.{IsSayable, SaysNext};
 
 use crate::fitting::{built_in_type, cell_of};
 use crate::interpreter::Interpreter;
@@ -15,7 +16,7 @@ use crate::performing::phase_of;
 use crate::phase::Phase;
 use crate::says::is_throwable;
 use crate::taken::TakenMonitors;
-use bodies::{Bodies, Does};
+use bodies::{Bodies, Does, Lends};
 use frames::{Cell, Frames, Thrown};
 use heap::{Heap, Monitor, Monitors, no_class, out_of_memory};
 use hierarchy::{BuiltIn, ClassId, MethodCode, Program, Value, throwables_are_subclasses};
@@ -196,6 +197,19 @@ impl Interpreter {
         wrapped.class
     }
 
+    /// Goes on up to what the innermost body does next, where there is no other thread.
+    #[tactic(auto, using(crate::proofs::TakingTurns::alone_at_wait, crate::proofs::TakingTurns::alone_otherwise))]
+    fn say_alone(&mut self, alloc: Global, program: &Program) -> Does
+        ensures says { SaysNext program.now self.old result self.new }
+        ensures sayable { IsSayable program.now self.old.phase result }
+    {
+        match self.say(alloc, program) {
+            // (there is no other thread that could hold a monitor)
+            Does::Waits => Does::Ended(Limit::Memory),
+            does => does,
+        }
+    }
+
     /// Leaves the frames of the innermost body.
     fn leave_frames(&mut self)
         ensures { self.new ≡ record self.old { frames = below_body self.old.frames } }
@@ -229,11 +243,7 @@ impl Bodies for Interpreter {
     #[tactic(auto, using(crate::proofs::CodeBodies::told_may_do))]
     fn next(&mut self, alloc: Global, program: &Program, last: Option<Completed>) -> Does {
         self.tell(program, last);
-        self.say(alloc, program)
-    }
-
-    fn waits(&self, _program: &Program) -> bool {
-        false
+        self.say_alone(alloc, program)
     }
 
     fn get(&mut self, _program: &Program, value: Value) {
@@ -258,7 +268,19 @@ impl Bodies for Interpreter {
         }
     }
 
-    fn end(&mut self, _program: &Program) {}
-
     ghost waits_on = { never_waits };
+}
+
+impl Lends<()> for Interpreter {
+    ghost use Rattle.bodies.specs.Lending.{nothing_shared};
+
+    ghost lending = { nothing_shared };
+
+    fn exchange(&mut self, _shared: &mut ()) {}
+
+    fn waits(&self, _program: &Program, _shared: &()) -> bool {
+        false
+    }
+
+    fn end(&mut self, _program: &Program) {}
 }

@@ -8,7 +8,8 @@ ghost use Rattle.hierarchy.specs.declared.op.Op.TheVariants as op;
 ghost use Rattle.interpreter.specs.Fitting.{on_top};
 ghost use Rattle.hierarchy.specs.Subclasses.{IsThrowable};
 ghost use Rattle.interpreter.specs.Rows.{HasArguments, IsAtOp, Row, WaitsFor, with_frame};
-ghost use Rattle.interpreter.specs.Says.{IsSayable, Says, SaysNext, value_on_top as top_value};
+ghost use Rattle.interpreter.specs.Says.{IsSayable, Says, value_on_top as top_value};
+ghost use Rattle.interpreter.specs.TurnRun.{TurnSaysNext};
 ghost use Rattle.interpreter.specs.declared.phase.Phase.TheVariants as phases;
 
 use crate::fitting::is_kind_of;
@@ -225,10 +226,10 @@ impl Interpreter {
         }
     }
 
-    /// Goes on up to what the innermost body does next.
-    #[tactic(auto, using(crate::proofs::Running::says_at_once, crate::proofs::Running::then_next, crate::proofs::Running::then_row_of, crate::proofs::Running::no_rows, crate::proofs::Saying::lacks_memory))]
+    /// Goes on up to what the innermost body does next, or up to a monitor that another thread holds.
+    #[tactic(auto, using(crate::proofs::TakingTurns::says_in_turn, crate::proofs::TakingTurns::then_turn, crate::proofs::Running::then_row_of, crate::proofs::Running::no_rows, crate::proofs::Saying::lacks_memory))]
     pub(crate) fn say(&mut self, alloc: Global, program: &Program) -> Does
-        ensures says { SaysNext program.now self.old result self.new }
+        ensures says { TurnSaysNext program.now self.old result self.new }
         ensures sayable { IsSayable program.now self.old.phase result }
     {
         match self.phase {
@@ -241,10 +242,10 @@ impl Interpreter {
         }
     }
 
-    /// Goes on up to what the innermost body does next, which waits for no class.
-    #[tactic(auto, using(crate::proofs::Running::then_says, crate::proofs::Running::then_next, crate::proofs::Running::then_rows_of, crate::proofs::Running::no_rows, crate::proofs::Saying::lacks_memory))]
+    /// Goes on up to what the innermost body does next, which waits for no class, or up to a monitor that another thread holds.
+    #[tactic(auto, using(crate::proofs::TakingTurns::then_says_in_turn, crate::proofs::TakingTurns::then_next_in_turn, crate::proofs::TakingTurns::then_waits_in_turn, crate::proofs::Running::then_rows_of, crate::proofs::Running::no_rows, crate::proofs::Saying::lacks_memory))]
     fn say_running(&mut self, alloc: Global, program: &Program) -> Does
-        ensures says { SaysNext program.now self.old result self.new }
+        ensures says { TurnSaysNext program.now self.old result self.new }
         ensures sayable { (phase : _) → IsSayable program.now phase result }
     {
         loop {
@@ -253,8 +254,7 @@ impl Interpreter {
                 Phase::Refused | Phase::Ready(_) => return Does::Ended(Limit::Memory),
                 Phase::Locks(monitor, of_method) => match self.lock(program, monitor, of_method) {
                     Ok(true) => {}
-                    // (another thread's: there is none)
-                    Ok(false) => return Does::Ended(Limit::Memory),
+                    Ok(false) => return Does::Waits,
                     Err(_) => return Does::Ended(Limit::Memory),
                 },
                 Phase::Runs => match self.turn(alloc, program) {

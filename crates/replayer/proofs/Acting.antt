@@ -45,7 +45,7 @@ use Rattle.bodies.proofs.ThreadSteps.{allows_use, asks_one, uses_one, goes_of, p
 use Rattle.init_world.proofs.Sound.{no_more}
 use Rattle.replayer.specs.declared.log.EventLog.{EventLog}
 use Rattle.replayer.specs.declared.thread.Thread.{Thread}
-use Rattle.replayer.specs.Going.{Going, HasStepped, IsWhy, IsInBody, HasComeTo, IsDoing, IsKeptOut, IsOver, IsPaused, at_class, in_body, Resting, IsSameThread, TurnsTo, limit_error}
+use Rattle.replayer.specs.Going.{Going, HasStepped, IsWhy, IsInBody, HasComeTo, IsDoing, WaitsInside, IsOver, IsPaused, at_class, in_body, Resting, IsSameThread, TurnsTo, limit_error}
 use Rattle.replayer.specs.declared.thread.Turn.{Turn}
 use Rattle.replayer.specs.declared.thread.Turn.TheVariants as turn
 use Rattle.replayer.specs.Logged.{IsLog, HasMade, IsStateAfter, histories}
@@ -200,7 +200,6 @@ module _ {S : Type 0} (p : LinkedProgram) (M : Making S) where
       let none : w.procedure.frames ≡ [] = not_running w.procedure.frames h.body.requests q in
       record {
         number = h.going.number;
-        end = z;
         word = stops_at M p w.number w.start.value w.main w.procedure.last e (of_thread w.number l.events.items) h.from z fits (w.bodies, h.come, ended) (in_main_leads l w h.from none (h.body.main none) h.going.stands);
         reason = λ y r. let it : e ≡ y = cc in subst (IsWhy p M l.threads.value gave_up) it why;
       }
@@ -229,7 +228,6 @@ module _ {S : Type 0} (p : LinkedProgram) (M : Making S) where
       let none : w.procedure.frames ≡ [] = not_running w.procedure.frames x.body.requests q in
       record {
         number = x.going.number;
-        end = w.bodies;
         word = ends_main p w.number (maker_of p M) w.start.value w.main r x.goes_on is made (in_main_leads l w x.from none (x.body.main none) x.going.stands);
         reason = λ e z. absurd (other e z);
       }
@@ -315,16 +313,16 @@ module _ {S : Type 0} (p : LinkedProgram) (M : Making S) where
   hasnt_given_up l w d x = not_gone w.gave_up (λ y. x.going.gone y (goes_so w x.body x.goes_on))
 
   -- nor one that stands at something that another thread holds
-  pub kept_calm : (l : EventLog) (w : Thread S) → IsKeptOut p M l w → w.gave_up ≡ false
+  pub kept_calm : {W : S → Type 0} (l : EventLog) (w : Thread S) → WaitsInside p M W l w → w.gave_up ≡ false
   kept_calm l w x = ⊎_elim (λ g. not_gone w.gave_up (λ y. g.gone y (goes_so w x.body x.goes_on))) (λ d. hasnt_given_up l w does.Waits d) x.resting
 
   -- where a body stands so
-  pub is_kept : (l : EventLog) (w : Thread S) → IsInBody w → ending_error w.procedure ≡ None → Resting p M l w → M.waits w.bodies → IsPaused p M l w
+  pub is_kept : {W : S → Type 0} (l : EventLog) (w : Thread S) → IsInBody w → ending_error w.procedure ≡ None → Resting p M l w → W w.bodies → IsPaused p M W l w
   is_kept l w body q resting waits = in_body (record { resting = resting; body = body; goes_on = goes_on_in w body q; waits = waits })
 
   -- and then it may give up
-  pub gives_up_waiting : (l : EventLog) (w : Thread S) → IsKeptOut p M l w → IsWhy p M l.threads.value true (limit_error p)
-  gives_up_waiting l w x limits may = (refl, λ none. (may none).1 w.bodies x.waits)
+  pub gives_up_waiting : {W : S → Type 0} → ((s : S) → W s → M.waits s) → (l : EventLog) (w : Thread S) → WaitsInside p M W l w → IsWhy p M l.threads.value true (limit_error p)
+  gives_up_waiting tells l w x limits may = (refl, λ none. (may none).1 w.bodies (tells w.bodies x.waits))
 
   -- the step of a thread whose bodies alone went on before
   pub stepped_from : (l : EventLog) (w v : Thread S) (m : EventLog) (x : Thread S) → IsSameThread w v → HasStepped p M l v m x → HasStepped p M l w m x
@@ -337,14 +335,14 @@ module _ {S : Type 0} (p : LinkedProgram) (M : Making S) where
   -- ---- giving up
 
   -- where a look is asked for, the thread waits for that class
-  pub paused_look : (l : EventLog) (w : Thread S) (s : Standing) (c : ClassId) → next_of w.procedure.frames ≡ next.Look c → s ≡ thread_ended w.procedure (limit_error p) → IsPaused p M l w → Going p M l (record w { procedure = s; gave_up = true })
+  pub paused_look : {W : S → Type 0} (l : EventLog) (w : Thread S) (s : Standing) (c : ClassId) → next_of w.procedure.frames ≡ next.Look c → s ≡ thread_ended w.procedure (limit_error p) → IsPaused p M W l w → Going p M l (record w { procedure = s; gave_up = true })
   paused_look l w s c q is (at_class d g r f) = gave_up_look p M l w s d r f is g
   paused_look l w s c q is (in_body x) = absurd (no_look w.procedure.frames (body_at w.procedure.frames x.body.requests) c q)
 
   pub paused_may_end : (l : EventLog) (w : Thread S) (c : ClassId) → next_of w.procedure.frames ≡ next.Look c → MayEndThread w.procedure.frames
   paused_may_end l w c q = let x = looks_at w.procedure c q in subst MayEndThread (sym x.1.frames) tt
 
-  pub paused_body : (l : EventLog) (w : Thread S) → ((c : ClassId) → next_of w.procedure.frames ≢ next.Look c) → IsPaused p M l w → IsKeptOut p M l w
+  pub paused_body : {W : S → Type 0} (l : EventLog) (w : Thread S) → ((c : ClassId) → next_of w.procedure.frames ≢ next.Look c) → IsPaused p M W l w → WaitsInside p M W l w
   paused_body l w other (at_class c g q f) = absurd (other c q)
   paused_body l w other (in_body x) = x
 
@@ -375,22 +373,22 @@ module _ {S : Type 0} (p : LinkedProgram) (M : Making S) where
   main_rests l w q b resting = ⊎_elim (λ g. main_body p M l w q b g) (λ x. record { requests = x.body.requests; main = x.body.main }) resting
 
   -- and else the body that waits is ended
-  pub paused_come : (l : EventLog) (w : Thread S) → ((c : ClassId) → next_of w.procedure.frames ≢ next.Look c) → IsPaused p M l w → HasComeTo p M l w
+  pub paused_come : {W : S → Type 0} (l : EventLog) (w : Thread S) → ((c : ClassId) → next_of w.procedure.frames ≢ next.Look c) → IsPaused p M W l w → HasComeTo p M l w
   paused_come l w other h = let x = paused_body l w other h in has_come l w x.body x.resting
 
-  pub paused_fits : (l : EventLog) (w : Thread S) (e : ClassId) → e ≡ limit_error p → ((c : ClassId) → next_of w.procedure.frames ≢ next.Look c) → IsPaused p M l w → FitsBody p (given_up w.procedure.last) (Ended e)
+  pub paused_fits : {W : S → Type 0} (l : EventLog) (w : Thread S) (e : ClassId) → e ≡ limit_error p → ((c : ClassId) → next_of w.procedure.frames ≢ next.Look c) → IsPaused p M W l w → FitsBody p (given_up w.procedure.last) (Ended e)
   paused_fits l w e is other h = subst (λ (v : ClassId). FitsBody p (given_up w.procedure.last) (Ended v)) (sym is) (fits_limit w (paused_body l w other h).goes_on)
 
-  pub paused_why : (l : EventLog) (w : Thread S) (e : ClassId) → e ≡ limit_error p → ((c : ClassId) → next_of w.procedure.frames ≢ next.Look c) → IsPaused p M l w → IsWhy p M l.threads.value true e
-  paused_why l w e is other h = subst (IsWhy p M l.threads.value true) (sym is) (gives_up_waiting l w (paused_body l w other h))
+  pub paused_why : {W : S → Type 0} → ((s : S) → W s → M.waits s) → (l : EventLog) (w : Thread S) (e : ClassId) → e ≡ limit_error p → ((c : ClassId) → next_of w.procedure.frames ≢ next.Look c) → IsPaused p M W l w → IsWhy p M l.threads.value true e
+  paused_why tells l w e is other h = subst (IsWhy p M l.threads.value true) (sym is) (gives_up_waiting tells l w (paused_body l w other h))
 
-  pub paused_was : (l : EventLog) (w : Thread S) → ((c : ClassId) → next_of w.procedure.frames ≢ next.Look c) → IsPaused p M l w → w.gave_up ≡ false
+  pub paused_was : {W : S → Type 0} (l : EventLog) (w : Thread S) → ((c : ClassId) → next_of w.procedure.frames ≢ next.Look c) → IsPaused p M W l w → w.gave_up ≡ false
   paused_was l w other h = kept_calm l w (paused_body l w other h)
 
   -- a turn after turns without an event
-  pub turns_from : (l k : EventLog) (w v : Thread S) (m : EventLog) (x : Thread S) (t : Turn) → k ≡ l → IsSameThread w v → TurnsTo p M k v m x t → TurnsTo p M l w m x t
-  turns_from l k w v m x turn.Event is same h = stepped_from l w v m x same (subst (λ (y : EventLog). HasStepped p M y v m x) is h)
-  turns_from l k w v m x turn.Silent is same h = (h.0, h.1 ∙ is)
-  turns_from l k w v m x turn.Comes is same h = (h.0, h.1 ∙ is)
-  turns_from l k w v m x turn.Waits is same h = (h.0, h.1 ∙ is)
-  turns_from l k w v m x (turn.Ended r) is same h = (h.0, h.1 ∙ is)
+  pub turns_from : (W : S → Type 0) (l k : EventLog) (w v : Thread S) (m : EventLog) (x : Thread S) (t : Turn) → k ≡ l → IsSameThread w v → TurnsTo p M W k v m x t → TurnsTo p M W l w m x t
+  turns_from W l k w v m x turn.Event is same h = stepped_from l w v m x same (subst (λ (y : EventLog). HasStepped p M y v m x) is h)
+  turns_from W l k w v m x turn.Silent is same h = (h.0, h.1 ∙ is)
+  turns_from W l k w v m x turn.Comes is same h = (h.0, h.1 ∙ is)
+  turns_from W l k w v m x turn.Waits is same h = (h.0, h.1 ∙ is)
+  turns_from W l k w v m x (turn.Ended r) is same h = (h.0, h.1 ∙ is)

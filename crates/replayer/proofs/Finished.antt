@@ -1,5 +1,5 @@
 -- The report of a run that is over.
-use Rattle.std.proofs.Common.{◌≡◌, ◌≢◌, ◌⊎◌, inl, inr, ⊎_elim, ℕ, zero, suc, ◌<◌, ◌≤◌, List, [], ◌∷◌, ◌++◌, Option, Some, None, Bool, true, false, length, refl, sym, ap, subst, ◌∙◌, append-nil, eq-eqb, arith}
+use Rattle.std.proofs.Common.{◌≡◌, ◌≢◌, ◌⊎◌, inl, inr, ⊎_elim, ℕ, zero, suc, ◌<◌, ◌≤◌, List, [], ◌∷◌, ◌++◌, Option, Some, None, Bool, true, false, length, map, refl, sym, ap, subst, ◌∙◌, append-nil, eq-eqb, arith}
 use Rattle.std.specs.Prelude.{MatchOption, slice_get, slice_index_or}
 use Rattle.std.specs.List.{AllByRecursion}
 use Rattle.std.proofs.lemmas.List.{length-map}
@@ -26,15 +26,17 @@ use Rattle.trace.specs.declared.report.Report.{Report}
 use Rattle.trace.specs.declared.report.ThreadOutcome.{ThreadOutcome}
 use Rattle.trace.specs.declared.report.ThreadOutcome.TheVariants as outcome
 use Rattle.trace.specs.Output.{output_of}
+use Rattle.bodies.specs.Lending.{Lending, Lent, lent_at_start, lent_bodies}
 use Rattle.bodies.specs.Making.{Making, maker_of}
 use Rattle.bodies.specs.Runs.{IsOutcome, IsThreadRun, AreOutcomes}
 use Rattle.replayer.specs.declared.log.EventLog.{EventLog}
 use Rattle.replayer.specs.declared.run.Run.{Run}
 use Rattle.replayer.specs.declared.thread.Thread.{Thread}
 use Rattle.replayer.specs.AllGoing.{AllThreads, AreGoing, AreGone, AreToCome, HasDone, IsThere, Leads, mains_of, outcome_in, outcomes_of, starts_of}
-use Rattle.replayer.specs.Going.{IsOver, IsWhy, Resting, outcome_by}
+use Rattle.replayer.specs.Going.{HasLeft, IsWhy, Resting, outcome_by}
 use Rattle.replayer.specs.Logged.{IsLog}
-use Rattle.replayer.specs.OrderedRun.{Follows, IsOrderedRunOf, MayGiveUp, ended as all_ended}
+use Rattle.replayer.specs.OrderedRun.{AreTurnsOf, Follows, IsOrderedRunOf, HasUsed, IsTurnsOf, MayGiveUp, WaitsAfter, ended as all_ended}
+use Rattle.replayer.specs.Turning.{AreInTurn}
 use Rattle.replayer.proofs.Followed.{done_ended, slice_get_map}
 use Rattle.replayer.proofs.Logged.{all_low, low_owner, none_high}
 
@@ -78,7 +80,7 @@ module _ (p : LinkedProgram) where
 mine_one : (t : ℕ) → mine t (InProgress t) ≡ 1
 mine_one t = rw (eq-eqb t t refl) refl
 
-module _ {S : Type 0} (p : LinkedProgram) (M : Making S) where
+module _ {S H : Type 0} (p : LinkedProgram) (M : Making (Lent S H)) where
   outcome_is : (limits : Limits) (threads : ℕ) → MayGiveUp M threads limits → (r : Outcome) (gave_up : Bool) → ((e : ClassId) → r ≡ Ended e → IsWhy p M threads gave_up e) → IsOutcome p M limits r (outcome_by gave_up r)
   outcome_is limits threads may Normal gave_up reason = refl
   outcome_is limits threads may (Abrupt e) gave_up reason = refl
@@ -91,47 +93,47 @@ module _ {S : Type 0} (p : LinkedProgram) (M : Making S) where
   not_memory false (Ended e) q = cc
 
   -- where a thread of the run has ended
-  record HasEndedAt (r : Run S) (t : ℕ) (w : Thread S) : Type 0 where
+  record HasEndedAt (r : Run (Lent S H) H) (t : ℕ) (w : Thread (Lent S H)) : Type 0 where
     result : Outcome
     low : t < length r.threads.items
     is : slice_index_or r.threads.items t w ≡ w
     number : w.number ≡ t
     done : w.done ≡ Some result
-    over : IsOver p M r.log result w
+    over : HasLeft p M r.log result w
 
-  same_item : (r : Run S) (t : ℕ) (w other : Thread S) → t < length r.threads.items → slice_index_or r.threads.items t other ≡ slice_index_or r.threads.items t w
+  same_item : (r : Run (Lent S H) H) (t : ℕ) (w other : Thread (Lent S H)) → t < length r.threads.items → slice_index_or r.threads.items t other ≡ slice_index_or r.threads.items t w
   same_item r t w other low = at r.threads.items t low where
-    at : (ws : List (Thread S)) (t : ℕ) → t < length ws → slice_index_or ws t other ≡ slice_index_or ws t w
+    at : (ws : List (Thread (Lent S H))) (t : ℕ) → t < length ws → slice_index_or ws t other ≡ slice_index_or ws t w
     at [] t low = absurd (omega (arith, low))
     at (v ∷ ws) zero low = refl
     at (v ∷ ws) (suc t) low = at ws t (omega (arith, low))
 
-  over_of : (r : Run S) (w : Thread S) (x : Outcome) → w.done ≡ Some x → IsThere p M r.log w → IsOver p M r.log x w
-  over_of r w x done there = subst (λ (o : Option Outcome). MatchOption o (Resting p M r.log w) (λ x. IsOver p M r.log x w)) done there
+  over_of : (r : Run (Lent S H) H) (w : Thread (Lent S H)) (x : Outcome) → w.done ≡ Some x → IsThere p M r.log w → HasLeft p M r.log x w
+  over_of r w x done there = subst (λ (o : Option Outcome). MatchOption o (Resting p M r.log w) (λ x. HasLeft p M r.log x w)) done there
 
-  thread_at : (r : Run S) → AreGoing p M r → AllThreads (λ t w. HasDone w) r → (t : ℕ) → t < length r.threads.items → (w : Thread S) × HasEndedAt r t w
+  thread_at : (r : Run (Lent S H) H) → AreGoing p M r → AllThreads (λ t w. HasDone w) r → (t : ℕ) → t < length r.threads.items → (w : Thread (Lent S H)) × HasEndedAt r t w
   thread_at r going all t low =
       let any = some_of r.threads.items t low in
       let w = slice_index_or r.threads.items t any in
       let d = all t any low in
       (w, record { result = d.0; low = low; is = same_item r t any w low; number = going.numbers t any low; done = d.1; over = over_of r w d.0 d.1 (going.threads t any low) })
 
-  word_at : (r : Run S) (t : ℕ) (w : Thread S) (h : HasEndedAt r t w) → ThreadWordOf p t (maker_of p M) w.start.value w.main (of_thread t r.log.events.items) h.result h.over.end
+  word_at : (r : Run (Lent S H) H) (t : ℕ) (w : Thread (Lent S H)) (h : HasEndedAt r t w) → ThreadWordOf p t (maker_of p M) w.start.value w.main (of_thread t r.log.events.items) h.result h.over.end
   word_at r t w h = subst (λ (n : ℕ). ThreadWordOf p n (maker_of p M) w.start.value w.main (of_thread n r.log.events.items) h.result h.over.end) h.number h.over.word
 
-  main_at : (r : Run S) (t : ℕ) (w : Thread S) → HasEndedAt r t w → slice_get (mains_of r) t ≡ Some w.main
+  main_at : (r : Run (Lent S H) H) (t : ℕ) (w : Thread (Lent S H)) → HasEndedAt r t w → slice_get (mains_of r) t ≡ Some w.main
   main_at r t w h = slice_get_map (λ v. v.main) r.threads.items t w w h.low h.is
 
-  start_at : (r : Run S) (t : ℕ) (w : Thread S) → HasEndedAt r t w → slice_get (starts_of r) t ≡ Some w.start.value
+  start_at : (r : Run (Lent S H) H) (t : ℕ) (w : Thread (Lent S H)) → HasEndedAt r t w → slice_get (starts_of r) t ≡ Some w.start.value
   start_at r t w h = slice_get_map (λ v. v.start.value) r.threads.items t w w h.low h.is
 
-  outcome_at : (r : Run S) (t : ℕ) (w : Thread S) (h : HasEndedAt r t w) → slice_get (outcomes_of r) t ≡ Some (outcome_by w.gave_up h.result)
+  outcome_at : (r : Run (Lent S H) H) (t : ℕ) (w : Thread (Lent S H)) (h : HasEndedAt r t w) → slice_get (outcomes_of r) t ≡ Some (outcome_by w.gave_up h.result)
   outcome_at r t w h = slice_get_map (λ v. outcome_in v.done (outcome_by v.gave_up)) r.threads.items t w w h.low h.is ∙ ap (λ (o : Option Outcome). Some (outcome_in o (outcome_by w.gave_up))) h.done
 
-  pub many_mains : (r : Run S) → length (mains_of r) ≡ length r.threads.items
+  pub many_mains : (r : Run (Lent S H) H) → length (mains_of r) ≡ length r.threads.items
   many_mains r = length-map r.threads.items (λ w. w.main)
 
-  module _ (r : Run S) (going : AreGoing p M r) (all : AllThreads (λ t w. HasDone w) r) where
+  module _ (r : Run (Lent S H) H) (going : AreGoing p M r) (all : AllThreads (λ t w. HasDone w) r) where
     events_low : AllByRecursion (λ e. IsProgramEvent p (length (mains_of r)) e) r.log.events.items
     events_low = subst (λ (n : ℕ). AllByRecursion (λ e. IsProgramEvent p n e) r.log.events.items) (going.count ∙ sym (many_mains r)) going.log.events
 
@@ -158,19 +160,26 @@ module _ {S : Type 0} (p : LinkedProgram) (M : Making S) where
         let one : mine t (label_at events c) ≡ 1 = ap (mine t) q ∙ mine_one t in
         omega (arith, counted, even, begun_same, ended_same, one)
 
-    runs : (limits : Limits) → MayGiveUp M (length (mains_of r)) limits → AreOutcomes p M (starts_of r) (mains_of r) limits r.log.events.items (outcomes_of r)
-    runs limits may t m start is_main is_start =
+    runs : AreInTurn r → (limits : Limits) → MayGiveUp M (length (mains_of r)) limits → AreTurnsOf p M r.shared.first.value r.shared.turns.items (starts_of r) (mains_of r) limits r.log.events.items (outcomes_of r)
+    runs in_turn limits may t m start is_main is_start =
         let many = many_mains r in
         let low = within (mains_of r) t m is_main in
         let w = thread_at r going all t (omega (arith, many, low)) in
         let h = w.1 in
+        let o = outcome_by w.0.gave_up h.result in
+        let events = of_thread t r.log.events.items in
         let main : w.0.main ≡ m = (let same : Some w.0.main ≡ Some m = sym (main_at r t w.0 h) ∙ is_main in cc) in
         let begin : w.0.start.value ≡ start = (let same : Some w.0.start.value ≡ Some start = sym (start_at r t w.0 h) ∙ is_start in cc) in (
-          outcome_by w.0.gave_up h.result,
+          o,
           outcome_at r t w.0 h,
-          subst (λ (c : ClassId). IsThreadRun p M start limits t c (of_thread t r.log.events.items) (outcome_by w.0.gave_up h.result)) main
-              (subst (λ (s : S). IsThreadRun p M s limits t w.0.main (of_thread t r.log.events.items) (outcome_by w.0.gave_up h.result)) begin
-              (record { result = h.result; end = h.over.end; word = word_at r t w.0 h; outcome = outcome_is limits (length (mains_of r)) may h.result w.0.gave_up (λ e q. subst (λ (n : ℕ). IsWhy p M n w.0.gave_up e) (going.count ∙ sym many) (h.over.reason e q)) })),
+          subst (λ (c : ClassId). IsTurnsOf p M r.shared.first.value r.shared.turns.items start limits t c events o) main
+              (subst (λ (s : Lent S H). IsTurnsOf p M r.shared.first.value r.shared.turns.items s limits t w.0.main events o) begin
+              (record {
+                run = record { result = h.result; end = h.over.end; word = word_at r t w.0 h; outcome = outcome_is limits (length (mains_of r)) may h.result w.0.gave_up (λ e q. subst (λ (n : ℕ). IsWhy p M n w.0.gave_up e) (going.count ∙ sym many) (h.over.reason e q)) };
+                last = w.0.bodies;
+                ends = h.over.ends;
+                uses = ap (λ v. v.bodies.uses) (sym h.is) ∙ in_turn.uses t w.0 h.low;
+              })),
         )
 
     no_memory : (t : ℕ) → slice_get (outcomes_of r) t ≢ Some (outcome.Ended Memory)
@@ -180,38 +189,66 @@ module _ {S : Type 0} (p : LinkedProgram) (M : Making S) where
         let w = thread_at r going all t (omega (arith, few, low)) in
         not_memory w.0.gave_up w.1.result (let same : Some (outcome_by w.0.gave_up w.1.result) ≡ Some (outcome.Ended Memory) = sym (outcome_at r t w.0 w.1) ∙ q in cc)
 
-    none_to_come : AreToCome (outcomes_of r) r []
-    none_to_come t other low x done = (refl, slice_get_map (λ v. outcome_in v.done (outcome_by v.gave_up)) r.threads.items t other (slice_index_or r.threads.items t other) low refl ∙ ap (λ (o : Option Outcome). Some (outcome_in o (outcome_by (slice_index_or r.threads.items t other).gave_up))) done)
+    none_to_come : AreToCome (outcomes_of r) r [] []
+    none_to_come t other low x done = (refl, tt, slice_get_map (λ v. outcome_in v.done (outcome_by v.gave_up)) r.threads.items t other (slice_index_or r.threads.items t other) low refl ∙ ap (λ (o : Option Outcome). Some (outcome_in o (outcome_by (slice_index_or r.threads.items t other).gave_up))) done)
 
-    follows : (order later : List ℕ) (begin : Run S) → AreGone [] begin → begin.log.events.items ≡ [] → Leads p M order [] begin [] later r → Follows p M (starts_of r) (mains_of r) (outcomes_of r) order [] [] r.log.events.items
-    follows order later begin fresh none leads =
+    follows : (U W : List (ℕ × H) → ℕ → Lent S H → Type 0) (order later : List ℕ) (begin : Run (Lent S H) H) → AreGone [] begin → begin.log.events.items ≡ [] → begin.shared.turns.items ≡ [] → Leads p M U W order [] begin [] later r →
+        Follows p M U W (starts_of r) (mains_of r) (outcomes_of r) order [] [] [] r.log.events.items r.shared.turns.items
+    follows U W order later begin fresh none no_turns leads =
         let gone = leads.have_gone fresh in
-        let f : Follows p M (starts_of r) (mains_of r) (outcomes_of r) [] later r.log.events.items [] = all_ended (λ t low.
+        let f : Follows p M U W (starts_of r) (mains_of r) (outcomes_of r) [] later r.log.events.items r.shared.turns.items [] [] = all_ended (λ t low.
         let many = many_mains r in
         let inside : t < length r.threads.items = omega (arith, many, low) in
         let any = some_of r.threads.items t inside in
         let d = all t any inside in
-        done_ended p M later t r any d.0 (outcomes_of r) [] inside gone d.1 none_to_come) in
+        done_ended p M U W later t r any d.0 (outcomes_of r) [] [] inside gone d.1 none_to_come) in
         let events : leads.made ++ [] ≡ r.log.events.items = append-nil leads.made ∙ sym (leads.events ∙ ap (λ (es : List Event). es ++ leads.made) none) in
-        subst (λ (es : List Event). Follows p M (starts_of r) (mains_of r) (outcomes_of r) order [] es r.log.events.items) none
-        (subst (λ (es : List Event). Follows p M (starts_of r) (mains_of r) (outcomes_of r) order [] begin.log.events.items es) events
-        (leads.follows fresh (outcomes_of r) [] none_to_come f))
+        let turns : leads.turned ++ [] ≡ r.shared.turns.items = append-nil leads.turned ∙ sym (leads.turns ∙ ap (λ (xs : List (ℕ × H)). xs ++ leads.turned) no_turns) in
+        subst (λ (es : List Event). Follows p M U W (starts_of r) (mains_of r) (outcomes_of r) order [] es [] r.log.events.items r.shared.turns.items) none
+        (subst (λ (xs : List (ℕ × H)). Follows p M U W (starts_of r) (mains_of r) (outcomes_of r) order [] begin.log.events.items xs r.log.events.items r.shared.turns.items) no_turns
+        (subst (λ (es : List Event). Follows p M U W (starts_of r) (mains_of r) (outcomes_of r) order [] begin.log.events.items begin.shared.turns.items es r.shared.turns.items) events
+        (subst (λ (xs : List (ℕ × H)). Follows p M U W (starts_of r) (mains_of r) (outcomes_of r) order [] begin.log.events.items begin.shared.turns.items (leads.made ++ []) xs) turns
+        (leads.follows fresh (outcomes_of r) [] [] none_to_come f))))
 
-  pub ordered : (r begin : Run S) (starts : List S) (mains : List ClassId) (order later : List ℕ) (report : Report) → AreGoing p M r → AllThreads (λ t w. HasDone w) r → AreGone [] begin → begin.log.events.items ≡ [] → mains_of begin ≡ mains → starts_of begin ≡ starts → Leads p M order [] begin [] later r →
-      report.outcomes ≡ outcomes_of r → report.events ≡ r.log.events.items → report.labels ≡ labels_of p r.log.events.items → report.output ≡ output_of r.log.events.items → IsOrderedRunOf p M starts mains order report
-  ordered r begin starts mains order later report going all fresh none is_mains is_starts leads outcomes events labels output =
-      subst (λ (ss : List S). IsOrderedRunOf p M ss mains order report) (leads.starts ∙ is_starts)
-      (subst (λ (ms : List ClassId). IsOrderedRunOf p M (starts_of r) ms order report) (leads.mains ∙ is_mains)
-      (record {
-        run = λ limits may. record {
-          legal = subst (λ (es : List Event). IsLegal p (mains_of r) es) (sym events) (legal r going all);
-          events = subst (λ (es : List Event). AllByRecursion (λ e. IsProgramEvent p (length (mains_of r)) e) es) (sym events) (events_low r going all);
-          labels = labels ∙ ap (labels_of p) (sym events);
-          count = ap length outcomes ∙ (length-map r.threads.items (λ w. outcome_in w.done (outcome_by w.gave_up)) ∙ sym (many_mains r));
-          outcomes = subst (λ (os : List ThreadOutcome). AreOutcomes p M (starts_of r) (mains_of r) limits report.events os) (sym outcomes) (subst (λ (es : List Event). AreOutcomes p M (starts_of r) (mains_of r) limits es (outcomes_of r)) (sym events) (runs r going all limits may));
-          finished = λ c t q. none_left r going all c t (ap (λ (es : List Event). label_at es c) (sym events) ∙ q);
-          output = output ∙ ap output_of (sym events);
-        };
-        memory = λ t q. no_memory r going all t (ap (λ (os : List ThreadOutcome). slice_get os t) (sym outcomes) ∙ q);
-        follows = subst (λ (os : List ThreadOutcome). Follows p M (starts_of r) (mains_of r) os order [] [] report.events) (sym outcomes) (subst (λ (es : List Event). Follows p M (starts_of r) (mains_of r) (outcomes_of r) order [] [] es) (sym events) (follows r going all order later begin fresh none leads));
-      }))
+-- what the threads of a run that is over have done is an ordered run
+pub ordered : {S H : Type 0} (p : LinkedProgram) (L : Lending S H) (M : Making S) (first : H) (r begin : Run (Lent S H) H) (starts : List S) (mains : List ClassId) (order later : List ℕ) (report : Report) → AreGoing p (lent_bodies L M) r → AllThreads (λ t w. HasDone w) r → AreInTurn r → r.shared.first.value ≡ first →
+    AreGone [] begin → begin.log.events.items ≡ [] → begin.shared.turns.items ≡ [] → mains_of begin ≡ mains → starts_of begin ≡ map lent_at_start starts → Leads p (lent_bodies L M) (HasUsed first) (WaitsAfter L M first) order [] begin [] later r →
+    report.outcomes ≡ outcomes_of r → report.events ≡ r.log.events.items → report.labels ≡ labels_of p r.log.events.items → report.output ≡ output_of r.log.events.items → IsOrderedRunOf p L M first starts mains order report
+ordered {S = S} {H = H} p L M first r begin starts mains order later report going all in_turn is_first fresh none no_turns is_mains is_starts leads outcomes events labels output = record {
+  run = λ limits may. record {
+    legal = subst (λ (es : List Event). IsLegal p mains es) (sym events) (subst (λ (ms : List ClassId). IsLegal p ms r.log.events.items) here (legal p B r going all));
+    events = subst (λ (es : List Event). AllByRecursion (λ e. IsProgramEvent p (length mains) e) es) (sym events) (subst (λ (ms : List ClassId). AllByRecursion (λ e. IsProgramEvent p (length ms) e) r.log.events.items) here (events_low p B r going all));
+    labels = labels ∙ ap (labels_of p) (sym events);
+    count = ap length outcomes ∙ (length-map r.threads.items (λ w. outcome_in w.done (outcome_by w.gave_up)) ∙ (sym (many_mains p B r) ∙ ap length here));
+    outcomes = λ t m start is_main is_start. let x = all_threads limits may t m start is_main is_start in (x.0, x.1, x.2.run);
+    finished = λ c t q. none_left p B r going all c t (ap (λ (es : List Event). label_at es c) (sym events) ∙ q);
+    output = output ∙ ap output_of (sym events);
+  };
+  memory = λ t q. no_memory p B r going all t (ap (λ (os : List ThreadOutcome). slice_get os t) (sym outcomes) ∙ q);
+  turns = r.shared.turns.items;
+  threads = all_threads;
+  follows = subst (λ (ss : List (Lent S H)). Follows p B (HasUsed first) waits_so ss mains report.outcomes order [] [] [] report.events r.shared.turns.items) begun
+      (subst (λ (ms : List ClassId). Follows p B (HasUsed first) waits_so (starts_of r) ms report.outcomes order [] [] [] report.events r.shared.turns.items) here
+      (subst (λ (os : List ThreadOutcome). Follows p B (HasUsed first) waits_so (starts_of r) (mains_of r) os order [] [] [] report.events r.shared.turns.items) (sym outcomes)
+      (subst (λ (es : List Event). Follows p B (HasUsed first) waits_so (starts_of r) (mains_of r) (outcomes_of r) order [] [] [] es r.shared.turns.items) (sym events) (follows p B r going all (HasUsed first) waits_so order later begin fresh none no_turns leads))));
+} where
+  B : Making (Lent S H)
+  B = lent_bodies L M
+
+  waits_so : List (ℕ × H) → ℕ → Lent S H → Type 0
+  waits_so = WaitsAfter L M first
+
+  here : mains_of r ≡ mains
+  here = leads.mains ∙ is_mains
+
+  begun : starts_of r ≡ map lent_at_start starts
+  begun = leads.starts ∙ is_starts
+
+  all_threads : (limits : Limits) → MayGiveUp B (length mains) limits → AreTurnsOf p B first r.shared.turns.items (map lent_at_start starts) mains limits report.events report.outcomes
+  all_threads limits may =
+      subst (λ (h : H). AreTurnsOf p B h r.shared.turns.items (map lent_at_start starts) mains limits report.events report.outcomes) is_first
+      (subst (λ (ss : List (Lent S H)). AreTurnsOf p B r.shared.first.value r.shared.turns.items ss mains limits report.events report.outcomes) begun
+      (subst (λ (ms : List ClassId). AreTurnsOf p B r.shared.first.value r.shared.turns.items (starts_of r) ms limits report.events report.outcomes) here
+      (subst (λ (os : List ThreadOutcome). AreTurnsOf p B r.shared.first.value r.shared.turns.items (starts_of r) (mains_of r) limits report.events os) (sym outcomes)
+      (subst (λ (es : List Event). AreTurnsOf p B r.shared.first.value r.shared.turns.items (starts_of r) (mains_of r) limits es (outcomes_of r)) (sym events)
+      (runs p B r going all in_turn limits (subst (λ (ms : List ClassId). MayGiveUp B (length ms) limits) (sym here) may))))))

@@ -1,3 +1,4 @@
+pub mod Turned
 pub mod Logged
 pub mod Stepping
 pub mod Acting
@@ -6,3 +7,4 @@ pub mod Replaced
 pub mod Fresh
 pub mod Followed
 pub mod Finished
+pub mod Alone

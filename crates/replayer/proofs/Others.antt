@@ -16,8 +16,10 @@ use Rattle.bodies.specs.ThreadStands.{OutsideOf, NoneOpenOf, ThreadStands}
 use Rattle.bodies.proofs.ThreadSteps.{goes_of}
 use Rattle.replayer.specs.declared.log.EventLog.{EventLog}
 use Rattle.replayer.specs.declared.thread.Thread.{Thread}
+use Rattle.replayer.specs.declared.thread.Turn.{Turn}
+use Rattle.replayer.specs.declared.thread.Turn.TheVariants as turn
 use Rattle.replayer.specs.AllGoing.{IsThere}
-use Rattle.replayer.specs.Going.{Going, IsOver, IsPaused, IsSameThread, IsWhy, Resting, at_class, in_body}
+use Rattle.replayer.specs.Going.{Going, HasLeft, IsOver, IsPaused, IsSameThread, IsWhy, Resting, TurnsTo, at_class, in_body}
 use Rattle.replayer.specs.Logged.{IsLog, HasMade, histories}
 use Rattle.replayer.proofs.Acting.{kept_calm, not_gone}
 use Rattle.replayer.proofs.Logged.{own_same}
@@ -54,43 +56,57 @@ module _ {S : Type 0} (p : LinkedProgram) (M : Making S) where
   others_rest t l m w made log other (inl g) = inl (others_going t l m w made log other g)
   others_rest t l m w made log other (inr d) = inr (record { from = d.from; going = others_going t l m (record w { bodies = d.from }) made log other d.going; body = d.body; goes_on = d.goes_on; does = d.does; fits = d.fits })
 
-  others_over : (t : ℕ) (l m : EventLog) (r : Outcome) (w : Thread S) → HasMade t l m → w.number ≢ t → IsOver p M l r w → IsOver p M m r w
+  others_over : (t : ℕ) (l m : EventLog) (r : Outcome) (w : Thread S) → HasMade t l m → w.number ≢ t → HasLeft p M l r w → HasLeft p M m r w
   others_over t l m r w made other o = record {
     number = subst (λ x. w.number < x.value) (sym made.threads) o.number;
     end = o.end;
     word = subst (λ (es : List Event). ThreadWordOf p w.number (maker_of p M) w.start.value w.main es r o.end) (sym (own_as_was t w.number l m made other)) o.word;
+    ends = o.ends;
     reason = λ e q. subst (λ x. IsWhy p M x.value w.gave_up e) (sym made.threads) (o.reason e q);
   }
 
   pub others_there : (t : ℕ) (l m : EventLog) (w : Thread S) → HasMade t l m → IsLog p m → w.number ≢ t → IsThere p M l w → IsThere p M m w
   others_there t l m w made log other there = at w.done there where
-    at : (o : Option Outcome) → MatchOption o (Resting p M l w) (λ r. IsOver p M l r w) → MatchOption o (Resting p M m w) (λ r. IsOver p M m r w)
+    at : (o : Option Outcome) → MatchOption o (Resting p M l w) (λ r. HasLeft p M l r w) → MatchOption o (Resting p M m w) (λ r. HasLeft p M m r w)
     at None x = others_rest t l m w made log other x
     at (Some r) x = others_over t l m r w made other x
 
-  -- it has ended
-  pub ended_over : (l : EventLog) (w x : Thread S) (r : Outcome) → IsSameThread (record w { done = Some r }) x → IsOver p M l r w → IsThere p M l x
-  ended_over l w x r same h = subst (λ (o : Option Outcome). MatchOption o (Resting p M l x) (λ r. IsOver p M l r x)) (sym same.done) (record {
+  -- it has ended, and left what it held
+  pub ended_over : (l : EventLog) (w x : Thread S) (r : Outcome) → IsSameThread (record w { done = Some r }) x → M.ends w.bodies x.bodies → IsOver p M l r w → IsThere p M l x
+  ended_over l w x r same ends h = subst (λ (o : Option Outcome). MatchOption o (Resting p M l x) (λ r. HasLeft p M l r x)) (sym same.done) (record {
     number = subst (λ (t : ℕ). t < l.threads.value) (sym same.number) h.number;
-    end = h.end;
-    word = subst (λ (t : ℕ). ThreadWordOf p t (maker_of p M) x.start.value x.main (of_thread t l.events.items) r h.end) (sym same.number)
-        (subst (λ (s : S). ThreadWordOf p w.number (maker_of p M) s x.main (of_thread w.number l.events.items) r h.end) (sym (ap (λ s. s.value) same.start))
-        (subst (λ (m : ClassId). ThreadWordOf p w.number (maker_of p M) w.start.value m (of_thread w.number l.events.items) r h.end) (sym same.main) h.word));
+    end = w.bodies;
+    word = subst (λ (t : ℕ). ThreadWordOf p t (maker_of p M) x.start.value x.main (of_thread t l.events.items) r w.bodies) (sym same.number)
+        (subst (λ (s : S). ThreadWordOf p w.number (maker_of p M) s x.main (of_thread w.number l.events.items) r w.bodies) (sym (ap (λ s. s.value) same.start))
+        (subst (λ (m : ClassId). ThreadWordOf p w.number (maker_of p M) w.start.value m (of_thread w.number l.events.items) r w.bodies) (sym same.main) h.word));
+    ends = ends;
     reason = λ e q. subst (λ (b : Bool). IsWhy p M l.threads.value b e) (sym same.gave_up) (h.reason e q);
   })
 
   -- a thread that can't go on, or does
   pub there_of : (l : EventLog) (w : Thread S) → w.done ≡ None → Resting p M l w → IsThere p M l w
-  there_of l w none x = subst (λ (o : Option Outcome). MatchOption o (Resting p M l w) (λ r. IsOver p M l r w)) (sym none) x
+  there_of l w none x = subst (λ (o : Option Outcome). MatchOption o (Resting p M l w) (λ r. HasLeft p M l r w)) (sym none) x
 
   pub rests_of : (l : EventLog) (w : Thread S) → w.done ≡ None → IsThere p M l w → Resting p M l w
-  rests_of l w none x = subst (λ (o : Option Outcome). MatchOption o (Resting p M l w) (λ r. IsOver p M l r w)) none x
+  rests_of l w none x = subst (λ (o : Option Outcome). MatchOption o (Resting p M l w) (λ r. HasLeft p M l r w)) none x
 
-  pub paused_rests : (l : EventLog) (w : Thread S) → IsPaused p M l w → Resting p M l w
+  pub paused_rests : {W : S → Type 0} (l : EventLog) (w : Thread S) → IsPaused p M W l w → Resting p M l w
   paused_rests l w (at_class c g q f) = inl g
   paused_rests l w (in_body x) = x.resting
 
   -- one that waits hasn't given up
-  pub paused_calm : (l : EventLog) (w : Thread S) → IsPaused p M l w → w.gave_up ≡ false
+  pub paused_calm : {W : S → Type 0} (l : EventLog) (w : Thread S) → IsPaused p M W l w → w.gave_up ≡ false
   paused_calm l w (at_class c g q f) = not_gone p M w.gave_up (λ y. g.gone y (look_goes_on p M l w c q g))
   paused_calm l w (in_body x) = kept_calm p M l w x
+
+  -- and so by what else says that it waits
+  pub paused_by : {V W : S → Type 0} (l : EventLog) (w : Thread S) → (V w.bodies → W w.bodies) → IsPaused p M V l w → IsPaused p M W l w
+  paused_by l w f (at_class c g q x) = at_class c g q x
+  paused_by l w f (in_body x) = in_body (record { resting = x.resting; body = x.body; goes_on = x.goes_on; waits = f x.waits })
+
+  pub turns_by : (V W : S → Type 0) (l : EventLog) (w : Thread S) (m : EventLog) (x : Thread S) (t : Turn) → (V x.bodies → W x.bodies) → TurnsTo p M V l w m x t → TurnsTo p M W l w m x t
+  turns_by V W l w m x turn.Event f h = h
+  turns_by V W l w m x turn.Silent f h = h
+  turns_by V W l w m x turn.Comes f h = (paused_by m x f h.0, h.1)
+  turns_by V W l w m x turn.Waits f h = (paused_by m x f h.0, h.1)
+  turns_by V W l w m x (turn.Ended r) f h = h

@@ -184,7 +184,7 @@ module _ {S : Type 0} (p : LinkedProgram) (M : Making S) where
   look_allowed l t c d r k of_d st ok = subst (λ (j : Kind). Allows (label_at l.events.items c) t j) (sym of_d) (decides_at l t c d r st ok)
 
   -- a look in vain again
-  pub still_waits : (l : EventLog) (w : Thread S) (c : ClassId) (d : Decision) (r : State) → d ≡ decision.Waits false → next_of w.procedure.frames ≡ next.Look c → IsStateAfter p l.events.items c r → Decides r.label w.number d → (d ≡ decision.Waits false → is_waiter r w.number ≡ true) → Going p M l w → IsPaused p M l w
+  pub still_waits : {W : S → Type 0} (l : EventLog) (w : Thread S) (c : ClassId) (d : Decision) (r : State) → d ≡ decision.Waits false → next_of w.procedure.frames ≡ next.Look c → IsStateAfter p l.events.items c r → Decides r.label w.number d → (d ≡ decision.Waits false → is_waiter r w.number ≡ true) → Going p M l w → IsPaused p M W l w
   still_waits l w c d r is q st ok again g = at_class c g q (record {
     last = sym (st.state.waiting w.number (let few = g.log.few in let low = g.number in omega arith)) ∙ again is;
     other = subst (λ (x : Decision). Decides (label_at l.events.items c) w.number x) is (decides_at l w.number c d r st ok);
@@ -374,7 +374,6 @@ module _ {S : Type 0} (p : LinkedProgram) (M : Making S) where
       let none : w.procedure.frames ≡ [] = idle_frames l w q g in
       record {
         number = g.number;
-        end = w.bodies;
         word = main_threw p w.number (maker_of p M) w.start.value w.main d.outcome other (before_stands l w (Some d) none last b g).leads;
         reason = λ e r. g.reason e (ap (λ (fs : List Frame). ending_error (standing fs w.procedure.last)) none ∙ (ap given_up last ∙ ap ended_by r));
       }

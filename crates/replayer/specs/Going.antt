@@ -94,21 +94,28 @@ Resting p M l w = Going p M l w ⊎ IsDoing p M l Waits w
 -- the thread has ended with this result
 pub record IsOver {S : Type 0} (p : LinkedProgram) (M : Making S) (l : EventLog) (r : Outcome) (w : Thread S) : Type 0 where
   pub number : w.number < l.threads.value
-  pub end : S
-  pub word : ThreadWordOf p w.number (maker_of p M) w.start.value w.main (of_thread w.number l.events.items) r end
+  pub word : ThreadWordOf p w.number (maker_of p M) w.start.value w.main (of_thread w.number l.events.items) r w.bodies
   pub reason : (e : ClassId) → r ≡ Ended e → IsWhy p M l.threads.value w.gave_up e
 
--- it stands in a body at something that another thread holds
-pub record IsKeptOut {S : Type 0} (p : LinkedProgram) (M : Making S) (l : EventLog) (w : Thread S) : Type 0 where
+-- and has left what it held
+pub record HasLeft {S : Type 0} (p : LinkedProgram) (M : Making S) (l : EventLog) (r : Outcome) (w : Thread S) : Type 0 where
+  pub number : w.number < l.threads.value
+  pub end : S
+  pub word : ThreadWordOf p w.number (maker_of p M) w.start.value w.main (of_thread w.number l.events.items) r end
+  pub ends : M.ends end w.bodies
+  pub reason : (e : ClassId) → r ≡ Ended e → IsWhy p M l.threads.value w.gave_up e
+
+-- it waits in a body; W says which bodies wait
+pub record WaitsInside {S : Type 0} (p : LinkedProgram) (M : Making S) (W : S → Type 0) (l : EventLog) (w : Thread S) : Type 0 where
   pub resting : Resting p M l w
   pub body : IsInBody w
   pub goes_on : GoesOn w.procedure.last
-  pub waits : M.waits w.bodies
+  pub waits : W w.bodies
 
 -- it waits for a class, or in a body
-pub data IsPaused {S : Type 0} (p : LinkedProgram) (M : Making S) (l : EventLog) (w : Thread S) : Type 0 where
-  at_class : (c : ClassId) → Going p M l w → next_of w.procedure.frames ≡ next.Look c → WaitsFor w.number l.events.items c → IsPaused p M l w
-  in_body : IsKeptOut p M l w → IsPaused p M l w
+pub data IsPaused {S : Type 0} (p : LinkedProgram) (M : Making S) (W : S → Type 0) (l : EventLog) (w : Thread S) : Type 0 where
+  at_class : (c : ClassId) → Going p M l w → next_of w.procedure.frames ≡ next.Look c → WaitsFor w.number l.events.items c → IsPaused p M W l w
+  in_body : WaitsInside p M W l w → IsPaused p M W l w
 
 -- it has made an event, and didn't wait before unless it gave up
 pub record HasStepped {S : Type 0} (p : LinkedProgram) (M : Making S) (l : EventLog) (w : Thread S) (m : EventLog) (x : Thread S) : Type 0 where
@@ -126,13 +133,13 @@ abbrev pub turn_by : Option Outcome → Turn
 turn_by None = turn.Silent
 turn_by (Some r) = turn.Ended r
 
--- what a turn of a thread comes to, from w and the log l to x and the log m
-abbrev pub TurnsTo : {S : Type 0} → LinkedProgram → Making S → EventLog → Thread S → EventLog → Thread S → Turn → Type 0
-TurnsTo p M l w m x turn.Event = HasStepped p M l w m x
-TurnsTo p M l w m x turn.Silent = Going p M m x × (m ≡ l)
-TurnsTo p M l w m x turn.Comes = IsDoing p M m Waits x × (m ≡ l)
-TurnsTo p M l w m x turn.Waits = IsPaused p M m x × (m ≡ l)
-TurnsTo p M l w m x (turn.Ended r) = IsOver p M m r x × (m ≡ l)
+-- what a turn of a thread comes to, from w and the log l to x and the log m; W says which bodies wait
+abbrev pub TurnsTo : {S : Type 0} → LinkedProgram → Making S → (S → Type 0) → EventLog → Thread S → EventLog → Thread S → Turn → Type 0
+TurnsTo p M W l w m x turn.Event = HasStepped p M l w m x
+TurnsTo p M W l w m x turn.Silent = Resting p M m x × (m ≡ l)
+TurnsTo p M W l w m x turn.Comes = IsPaused p M W m x × (m ≡ l)
+TurnsTo p M W l w m x turn.Waits = IsPaused p M W m x × (m ≡ l)
+TurnsTo p M W l w m x (turn.Ended r) = IsOver p M m r x × (m ≡ l)
 
 -- the error by which the machine ends the thread
 abbrev pub limit_error : LinkedProgram → ClassId

@@ -1,6 +1,6 @@
 -- What the ordered run of several main classes makes.
-use Rattle.std.specs.Prelude.{◌≡◌, ◌≢◌, ◌⊎◌, ℕ, ◌<◌, List, [], ◌∷◌, ◌++◌, Some, Bool, true, length, slice_get}
-use Rattle.std.specs.List.{Contains}
+use Rattle.std.specs.Prelude.{◌≡◌, ◌≢◌, ◌⊎◌, ℕ, ◌<◌, List, [], ◌∷◌, ◌++◌, Some, Bool, true, length, map, slice_get}
+use Rattle.std.specs.List.{AllByRecursion, Contains}
 use Rattle.hierarchy.specs.declared.class.ClassId.{ClassId}
 use Rattle.hierarchy.specs.LinkedProgram.{LinkedProgram}
 use Rattle.init_core.specs.declared.event.Event.{Event}
@@ -9,15 +9,17 @@ use Rattle.init_core.specs.Decisions.{waits}
 use Rattle.init_core.specs.Interleaving.{of_thread, of_class, label_at}
 use Rattle.init_core.specs.Lawful.{IsInProgressByOther}
 use Rattle.init_core.specs.Standing.{Standing}
-use Rattle.trace.specs.declared.report.Limit.TheVariants.{Memory, Patience}
+use Rattle.trace.specs.declared.report.Limit.TheVariants.{Memory, Patience, Steps}
 use Rattle.trace.specs.declared.report.Limits.{Limits}
 use Rattle.trace.specs.declared.report.Report.{Report}
 use Rattle.trace.specs.declared.report.ThreadOutcome.{ThreadOutcome}
 use Rattle.trace.specs.declared.report.ThreadOutcome.TheVariants as outcome
 use Rattle.bodies.specs.declared.does.Does.TheVariants.{Waits}
+use Rattle.bodies.specs.Lending.{Lending, Lent, lent_at_start, lent_bodies}
 use Rattle.bodies.specs.Making.{Making}
-use Rattle.bodies.specs.Runs.{IsRunOf}
+use Rattle.bodies.specs.Runs.{IsRunOf, IsThreadRun}
 use Rattle.bodies.specs.ThreadStands.{ThreadStands}
+use Rattle.replayer.specs.Turns.{AreOf, left_by, uses_of}
 
 -- these bodies never wait
 abbrev pub NeverWait : {S : Type 0} → Making S → Type 0
@@ -44,59 +46,98 @@ pub record IsInBodyAt {S : Type 0} (p : LinkedProgram) (M : Making S) (starts : 
   pub requests : MayRequest standing.frames
   pub body : standing.frames ≡ [] → in_main ≡ true
 
--- after the events h, t has gone on in a body, without an event, up to something that another thread holds
-pub record HasComeToWait {S : Type 0} (p : LinkedProgram) (M : Making S) (starts : List S) (mains : List ClassId) (t : ℕ) (h : List Event) : Type 0 where
-  pub before : S
-  pub body : IsInBodyAt p M starts mains t h before
-  pub now : S
-  pub does : M.does before body.standing.last Waits now
-
--- after the events h, t stands in a body at something that another thread holds
-pub record WaitsInBody {S : Type 0} (p : LinkedProgram) (M : Making S) (starts : List S) (mains : List ClassId) (t : ℕ) (h : List Event) : Type 0 where
+-- after the events h, t waits in a body; W says which bodies wait
+pub record WaitsInBody {S : Type 0} (p : LinkedProgram) (M : Making S) (W : S → Type 0) (starts : List S) (mains : List ClassId) (t : ℕ) (h : List Event) : Type 0 where
   pub before : S
   pub body : IsInBodyAt p M starts mains t h before
   pub now : S
   pub come : (now ≡ before) ⊎ M.does before body.standing.last Waits now
-  pub waits : M.waits now
+  pub waits : W now
 
 -- t waits, and is none of those that have given up
-pub record IsWaiting {S : Type 0} (p : LinkedProgram) (M : Making S) (starts : List S) (mains : List ClassId) (gone : List ℕ) (t : ℕ) (h : List Event) : Type 0 where
+pub record IsWaiting {S : Type 0} (p : LinkedProgram) (M : Making S) (W : S → Type 0) (starts : List S) (mains : List ClassId) (gone : List ℕ) (t : ℕ) (h : List Event) : Type 0 where
   pub goes_on : Contains gone t → ⊥
-  pub waits : ((c : ClassId) × WaitsFor t h c) ⊎ WaitsInBody p M starts mains t h
+  pub waits : ((c : ClassId) × WaitsFor t h c) ⊎ WaitsInBody p M W starts mains t h
 
--- t makes none of the events to come; it was ended for patience only if it has given up
-pub record HasEnded (outcomes : List ThreadOutcome) (gone : List ℕ) (t : ℕ) (rest : List Event) : Type 0 where
+-- t has none of the events and none of the turns to come; it was ended for patience if it has given up, and not otherwise
+pub record HasEnded {H : Type 0} (outcomes : List ThreadOutcome) (gone : List ℕ) (t : ℕ) (rest : List Event) (more : List (ℕ × H)) : Type 0 where
   pub none : of_thread t rest ≡ []
+  pub turns : AllByRecursion (λ turn. turn.0 ≢ t) more
   pub patient : slice_get outcomes t ≡ Some (outcome.Ended Patience) → Contains gone t
+  pub impatient : Contains gone t → slice_get outcomes t ≢ Some (outcome.Ended Steps)
 
--- after the events h, with the events `rest` to come, t can't go on
-abbrev pub IsStuck : {S : Type 0} → LinkedProgram → Making S → List S → List ClassId → List ThreadOutcome → List ℕ → ℕ → List Event → List Event → Type 0
-IsStuck p M starts mains outcomes gone t h rest = HasEnded outcomes gone t rest ⊎ IsWaiting p M starts mains gone t h
+-- after the events h, with these events and turns to come, t can't go on
+abbrev pub IsStuck : {S H : Type 0} → LinkedProgram → Making S → (ℕ → S → Type 0) → List S → List ClassId → List ThreadOutcome → List ℕ → ℕ → List Event → List Event → List (ℕ × H) → Type 0
+IsStuck p M W starts mains outcomes gone t h rest more = HasEnded outcomes gone t rest more ⊎ IsWaiting p M (W t) starts mains gone t h
 
--- After the events h, with this much of the order left, and once these threads have given up, the events to come are `rest`.
-pub data Follows {S : Type 0} (p : LinkedProgram) (M : Making S) (starts : List S) (mains : List ClassId) (outcomes : List ThreadOutcome) : List ℕ → List ℕ → List Event → List Event → Type 0 where
-  -- the next number of the order is of a thread that goes on: it makes the next event
-  made : {order : List ℕ} {h rest : List Event} (e : Event) → ((c : ClassId) → WaitsFor e.thread h c → ⊥) →
-      Follows p M starts mains outcomes order [] (h ++ e ∷ []) rest → Follows p M starts mains outcomes (e.thread ∷ order) [] h (e ∷ rest)
-  -- or of one that can't: the number is used up
-  skipped : {order : List ℕ} {h rest : List Event} (t : ℕ) → IsStuck p M starts mains outcomes [] t h rest →
-      Follows p M starts mains outcomes order [] h rest → Follows p M starts mains outcomes (t ∷ order) [] h rest
-  -- or of one that goes on in a body up to something that another thread holds
-  comes : {order : List ℕ} {h rest : List Event} (t : ℕ) → HasComeToWait p M starts mains t h →
-      Follows p M starts mains outcomes order [] h rest → Follows p M starts mains outcomes (t ∷ order) [] h rest
+-- after the events h, t stands in this way; U says which states it may be in
+pub record IsAt {S : Type 0} (p : LinkedProgram) (M : Making S) (U : S → Type 0) (starts : List S) (mains : List ClassId) (t : ℕ) (h : List Event) : Type 0 where
+  pub start : S
+  pub main : ClassId
+  pub its_start : slice_get starts t ≡ Some start
+  pub its_main : slice_get mains t ≡ Some main
+  pub in_main : Bool
+  pub standing : Standing
+  pub state : S
+  pub stands : ThreadStands p t M start main in_main standing (of_thread t h) (λ c. of_class c h) state
+  pub used : U state
+
+-- After the events h and the turns g, with this much of the order left, and once these threads have given up, the events to come
+-- are `rest`, and the turns to come `more`. U says in which states a thread may be after which turns, and W in which of them it waits.
+pub data Follows {S H : Type 0} (p : LinkedProgram) (M : Making S) (U W : List (ℕ × H) → ℕ → S → Type 0) (starts : List S) (mains : List ClassId) (outcomes : List ThreadOutcome) : List ℕ → List ℕ → List Event → List (ℕ × H) → List Event → List (ℕ × H) → Type 0 where
+  -- the next number of the order is of a thread that goes on: after turns of its own it makes the next event
+  made : {order : List ℕ} {h rest : List Event} {g more : List (ℕ × H)} (e : Event) (own : List (ℕ × H)) → AreOf e.thread own → ((c : ClassId) → WaitsFor e.thread h c → ⊥) → IsAt p M (U (g ++ own) e.thread) starts mains e.thread (h ++ e ∷ []) →
+      Follows p M U W starts mains outcomes order [] (h ++ e ∷ []) (g ++ own) rest more → Follows p M U W starts mains outcomes (e.thread ∷ order) [] h g (e ∷ rest) (own ++ more)
+  -- or of one that can't, or can't any more: the number is used up
+  skipped : {order : List ℕ} {h rest : List Event} {g more : List (ℕ × H)} (t : ℕ) (own : List (ℕ × H)) → AreOf t own → IsStuck p M (W (g ++ own)) starts mains outcomes [] t h rest more →
+      Follows p M U W starts mains outcomes order [] h (g ++ own) rest more → Follows p M U W starts mains outcomes (t ∷ order) [] h g rest (own ++ more)
   -- the order is used up: the lowest thread that can go on makes the next event
-  lowest : {gone : List ℕ} {h rest : List Event} (e : Event) → ((u : ℕ) → u < e.thread → IsStuck p M starts mains outcomes gone u h (e ∷ rest)) → ((c : ClassId) → WaitsFor e.thread h c → Contains gone e.thread) →
-      Follows p M starts mains outcomes [] gone (h ++ e ∷ []) rest → Follows p M starts mains outcomes [] gone h (e ∷ rest)
+  lowest : {gone : List ℕ} {h rest : List Event} {g more : List (ℕ × H)} (e : Event) (own : List (ℕ × H)) → AreOf e.thread own → ((u : ℕ) → u < e.thread → IsStuck p M (W g) starts mains outcomes gone u h (e ∷ rest) (own ++ more)) →
+      ((c : ClassId) → WaitsFor e.thread h c → Contains gone e.thread) → IsAt p M (U (g ++ own) e.thread) starts mains e.thread (h ++ e ∷ []) →
+      Follows p M U W starts mains outcomes [] gone (h ++ e ∷ []) (g ++ own) rest more → Follows p M U W starts mains outcomes [] gone h g (e ∷ rest) (own ++ more)
+  -- or it goes on without an event, until it can't any more
+  goes_on : {gone : List ℕ} {h rest : List Event} {g more : List (ℕ × H)} (t : ℕ) (own : List (ℕ × H)) → AreOf t own → t < length mains → ((u : ℕ) → u < t → IsStuck p M (W g) starts mains outcomes gone u h rest (own ++ more)) →
+      IsStuck p M (W (g ++ own)) starts mains outcomes gone t h rest more →
+      Follows p M U W starts mains outcomes [] gone h (g ++ own) rest more → Follows p M U W starts mains outcomes [] gone h g rest (own ++ more)
   -- none can go on: the lowest thread that waits gives up
-  gives_up : {gone : List ℕ} {h rest : List Event} (t : ℕ) → t < length mains → IsWaiting p M starts mains gone t h → ((u : ℕ) → u < t → HasEnded outcomes gone u rest) → ((u : ℕ) → u < length mains → IsStuck p M starts mains outcomes gone u h rest) →
-      Follows p M starts mains outcomes [] (t ∷ gone) h rest → Follows p M starts mains outcomes [] gone h rest
+  gives_up : {gone : List ℕ} {h rest : List Event} {g more : List (ℕ × H)} (t : ℕ) (own : List (ℕ × H)) → AreOf t own → t < length mains → IsWaiting p M (W g t) starts mains gone t h → ((u : ℕ) → u < t → HasEnded outcomes gone u rest (own ++ more)) →
+      ((u : ℕ) → u < length mains → IsStuck p M (W g) starts mains outcomes gone u h rest (own ++ more)) →
+      Follows p M U W starts mains outcomes [] (t ∷ gone) h (g ++ own) rest more → Follows p M U W starts mains outcomes [] gone h g rest (own ++ more)
   -- all threads have ended
-  ended : {gone : List ℕ} {h : List Event} → ((t : ℕ) → t < length mains → HasEnded outcomes gone t []) → Follows p M starts mains outcomes [] gone h []
+  ended : {gone : List ℕ} {h : List Event} {g : List (ℕ × H)} → ((t : ℕ) → t < length mains → HasEnded {H = H} outcomes gone t [] []) → Follows p M U W starts mains outcomes [] gone h g [] []
 
--- The run of these main classes in this order, each on a thread of its own whose bodies are made from the start of its number:
--- a legal interleaving with its outcomes, labels and output, as within each limits that let a thread give up; it keeps the
--- order, and no thread is ended for want of memory.
-pub record IsOrderedRunOf {S : Type 0} (p : LinkedProgram) (M : Making S) (starts : List S) (mains : List ClassId) (order : List ℕ) (r : Report) : Type 0 where
-  pub run : (limits : Limits) → MayGiveUp M (length mains) limits → IsRunOf p M starts mains limits r
+-- thread t has used in its turns what is shared, where this was shared at first
+abbrev pub HasUsed : {S H : Type 0} → H → List (ℕ × H) → ℕ → Lent S H → Type 0
+HasUsed first turns t s = s.uses ≡ uses_of t first turns
+
+-- it waits where this is shared
+abbrev pub WaitsAt : {S H : Type 0} → Lending S H → Making S → H → Lent S H → Type 0
+WaitsAt L M met s = M.waits (L.with_shared s.state met)
+
+-- and it waits with what they left
+abbrev pub WaitsAfter : {S H : Type 0} → Lending S H → Making S → H → List (ℕ × H) → ℕ → Lent S H → Type 0
+WaitsAfter L M first turns t s = HasUsed first turns t s × WaitsAt L M (left_by first turns) s
+
+-- Thread t of main class m did this and ended so, from this start, and then left what it held. What it met and left of what is
+-- shared is what these turns have of it, where `first` was shared at first.
+pub record IsTurnsOf {S H : Type 0} (p : LinkedProgram) (M : Making (Lent S H)) (first : H) (turns : List (ℕ × H)) (start : Lent S H) (limits : Limits) (t : ℕ) (m : ClassId) (events : List Event) (o : ThreadOutcome) : Type 0 where
+  pub run : IsThreadRun p M start limits t m events o
+  pub last : Lent S H
+  pub ends : M.ends run.end last
+  pub uses : HasUsed first turns t last
+
+-- each thread has done so
+abbrev pub AreTurnsOf : {S H : Type 0} → LinkedProgram → Making (Lent S H) → H → List (ℕ × H) → List (Lent S H) → List ClassId → Limits → List Event → List ThreadOutcome → Type 0
+AreTurnsOf {S} {H} p M first turns starts mains limits events outcomes = (t : ℕ) (m : ClassId) (start : Lent S H) → slice_get mains t ≡ Some m → slice_get starts t ≡ Some start →
+    (o : ThreadOutcome) × (slice_get outcomes t ≡ Some o) × IsTurnsOf p M first turns start limits t m (of_thread t events) o
+
+-- The run of these main classes in this order, each on a thread of its own whose bodies are made from the start of its number: a
+-- legal interleaving with its outcomes, labels and output, as within each limits that let a thread give up. What the threads share is
+-- one, which is `first` at first, and which each meets as the turn before left it. The run keeps the order, and no thread is ended for want
+-- of memory.
+pub record IsOrderedRunOf {S H : Type 0} (p : LinkedProgram) (L : Lending S H) (M : Making S) (first : H) (starts : List S) (mains : List ClassId) (order : List ℕ) (r : Report) : Type 0 where
+  pub run : (limits : Limits) → MayGiveUp (lent_bodies L M) (length mains) limits → IsRunOf p (lent_bodies L M) (map lent_at_start starts) mains limits r
   pub memory : (t : ℕ) → slice_get r.outcomes t ≢ Some (outcome.Ended Memory)
-  pub follows : Follows p M starts mains r.outcomes order [] [] r.events
+  pub turns : List (ℕ × H)
+  pub threads : (limits : Limits) → MayGiveUp (lent_bodies L M) (length mains) limits → AreTurnsOf p (lent_bodies L M) first turns (map lent_at_start starts) mains limits r.events r.outcomes
+  pub follows : Follows p (lent_bodies L M) (HasUsed first) (WaitsAfter L M first) (map lent_at_start starts) mains r.outcomes order [] [] [] r.events turns

@@ -4,37 +4,45 @@ ghost use Rattle.std.specs.Prelude.{◌≡◌, ◌⊎◌, IfOk, OnOk, false};
 ghost use Rattle.init_core.specs.declared.frames.Outcome.TheVariants.{Ended};
 ghost use Rattle.init_core.specs.Advance.{FitsBody};
 ghost use Rattle.init_core.specs.ProcedureWord.{GoesOn, given_up};
+ghost use Rattle.bodies.specs.Lending.{lent_bodies};
 ghost use Rattle.bodies.specs.declared.does.Does.TheVariants as does;
 ghost use Rattle.replayer.specs.Going.{Going, GoesOrEnds, HasStepped, IsDoing, IsInBody, HasComeTo, IsSameThread, IsWhy, Resting, TurnsTo};
+ghost use Rattle.replayer.specs.OrderedRun.{WaitsAt};
+ghost use Rattle.replayer.specs.Turning.{HasTurned};
+ghost use Rattle.replayer.specs.declared.thread.Turn.TheVariants as turns;
 
+use crate::lent::Lent;
 use crate::log::EventLog;
+use crate::shared::Shared;
 use crate::thread::{Thread, Turn, turn_of};
-use bodies::{Bodies, Does};
+use bodies::{Does, Lends};
 use hierarchy::{BuiltIn, ClassId, Program, Value};
 use init_core::{Kind, Outcome};
 use sequence::Text;
 use std::alloc::{AllocError, Global};
 use trace::Limit;
 
-impl<B: Bodies> Thread<B> {
+impl<H, B: Lends<H>> Thread<Lent<B, H>> {
     /// The body is ended by this error of the machine, for patience or not. In `main` that is how the thread ends.
     pub(crate) fn leave(
         &mut self,
         program: &Program,
         log: &EventLog,
+        shared: &mut Shared<H>,
         error: ClassId,
         gave_up: bool,
     ) -> Option<Outcome>
-        requires come { HasComeTo program.now (B.making program.now) log.now self.old }
+        requires come { HasComeTo program.now (lent_bodies B.lending (B.making program.now)) log.now self.old }
         requires fits { FitsBody program.now (given_up self.old.procedure.last) (Ended error) }
-        requires why { IsWhy program.now (B.making program.now) log.now.threads.value gave_up error }
+        requires why { IsWhy program.now (lent_bodies B.lending (B.making program.now)) log.now.threads.value gave_up error }
         requires was { (self.old.gave_up ≡ false) ⊎ (gave_up ≡ self.old.gave_up) }
-        ensures going { GoesOrEnds program.now (B.making program.now) log.now self.new result }
+        ensures going { GoesOrEnds program.now (lent_bodies B.lending (B.making program.now)) log.now self.new result }
         ensures same { IsSameThread (record self.old { gave_up = gave_up }) self.new }
+        ensures turned { HasTurned self.old.number shared.old shared.new self.old.bodies.uses self.new.bodies.uses }
     {
         let _ = &log.events;
         self.gave_up = gave_up;
-        self.bodies.leave(program);
+        self.bodies.leave(program, self.number, shared);
         if self.procedure.is_running() {
             self.procedure.end_body(Outcome::Ended(error));
             return None;
@@ -49,9 +57,10 @@ impl<B: Bodies> Thread<B> {
         log: &EventLog,
         class: ClassId,
     ) -> Result<(), AllocError>
-        requires { IsDoing program.now (B.making program.now) log.now (does.Asks class) self.old }
-        ensures going { OnOk result (Going program.now (B.making program.now) log.now self.new) }
+        requires { IsDoing program.now (lent_bodies B.lending (B.making program.now)) log.now (does.Asks class) self.old }
+        ensures going { OnOk result (Going program.now (lent_bodies B.lending (B.making program.now)) log.now self.new) }
         ensures same { IsSameThread self.old self.new }
+        ensures bodies { self.new.bodies ≡ self.old.bodies }
     {
         let _ = &log.events;
         self.procedure.request(class)?;
@@ -63,17 +72,19 @@ impl<B: Bodies> Thread<B> {
         &mut self,
         program: &Program,
         log: &mut EventLog,
+        shared: &mut Shared<H>,
         class: ClassId,
         field: usize,
     ) -> Result<(), AllocError>
-        requires { IsDoing program.now (B.making program.now) log.old (does.Gets class field) self.old }
-        ensures stepped { OnOk result (HasStepped program.now (B.making program.now) log.old self.old log.new self.new) }
+        requires { IsDoing program.now (lent_bodies B.lending (B.making program.now)) log.old (does.Gets class field) self.old }
+        ensures stepped { OnOk result (HasStepped program.now (lent_bodies B.lending (B.making program.now)) log.old self.old log.new self.new) }
         ensures same { IsSameThread self.old self.new }
+        ensures turned { OnOk result (HasTurned self.old.number shared.old shared.new self.old.bodies.uses self.new.bodies.uses) }
     {
         let value = log.state(class).value(field);
         log.add(program, self.number, class, Kind::Gets { field, value })?;
         self.procedure.forget_last();
-        self.bodies.get(program, value);
+        self.bodies.get(program, self.number, shared, value);
         Ok(())
     }
 
@@ -86,9 +97,10 @@ impl<B: Bodies> Thread<B> {
         field: usize,
         given: Value,
     ) -> Result<(), AllocError>
-        requires { IsDoing program.now (B.making program.now) log.old (does.Puts class field given) self.old }
-        ensures stepped { OnOk result (HasStepped program.now (B.making program.now) log.old self.old log.new self.new) }
+        requires { IsDoing program.now (lent_bodies B.lending (B.making program.now)) log.old (does.Puts class field given) self.old }
+        ensures stepped { OnOk result (HasStepped program.now (lent_bodies B.lending (B.making program.now)) log.old self.old log.new self.new) }
         ensures same { IsSameThread self.old self.new }
+        ensures bodies { self.new.bodies ≡ self.old.bodies }
     {
         let value = log.state(class).kept(field, given);
         log.add(program, self.number, class, Kind::Puts { field, value })?;
@@ -104,9 +116,10 @@ impl<B: Bodies> Thread<B> {
         log: &mut EventLog,
         text: Text,
     ) -> Result<(), AllocError>
-        requires { IsDoing program.now (B.making program.now) log.old (does.Prints text) self.old }
-        ensures stepped { OnOk result (HasStepped program.now (B.making program.now) log.old self.old log.new self.new) }
+        requires { IsDoing program.now (lent_bodies B.lending (B.making program.now)) log.old (does.Prints text) self.old }
+        ensures stepped { OnOk result (HasStepped program.now (lent_bodies B.lending (B.making program.now)) log.old self.old log.new self.new) }
         ensures same { IsSameThread self.old self.new }
+        ensures bodies { self.new.bodies ≡ self.old.bodies }
     {
         log.print(alloc, self.number, text)?;
         self.procedure.forget_last();
@@ -119,11 +132,13 @@ impl<B: Bodies> Thread<B> {
         alloc: Global,
         program: &Program,
         log: &EventLog,
+        shared: &mut Shared<H>,
         thrown: Option<ClassId>,
     ) -> Option<Outcome>
-        requires { IsDoing program.now (B.making program.now) log.now (does.Over thrown) self.old }
-        ensures going { GoesOrEnds program.now (B.making program.now) log.now self.new result }
+        requires { IsDoing program.now (lent_bodies B.lending (B.making program.now)) log.now (does.Over thrown) self.old }
+        ensures going { GoesOrEnds program.now (lent_bodies B.lending (B.making program.now)) log.now self.new result }
         ensures same { IsSameThread self.old self.new }
+        ensures turned { HasTurned self.old.number shared.old shared.new self.old.bodies.uses self.new.bodies.uses }
     {
         let _ = &log.events;
         if !self.procedure.is_running() {
@@ -136,22 +151,31 @@ impl<B: Bodies> Thread<B> {
             self.procedure.end_body(Outcome::Normal);
             return None;
         };
-        let error = self.bodies.replace(alloc, program, throwable);
+        let error = self
+            .bodies
+            .replace(alloc, program, self.number, shared, throwable);
         self.procedure.end_body(Outcome::Abrupt(error));
         None
     }
 
     /// What the innermost body does next, which goes on.
-    fn next(&mut self, alloc: Global, program: &Program, log: &EventLog) -> Does
-        requires resting { Resting program.now (B.making program.now) log.now self.old }
+    fn next(
+        &mut self,
+        alloc: Global,
+        program: &Program,
+        log: &EventLog,
+        shared: &mut Shared<H>,
+    ) -> Does
+        requires resting { Resting program.now (lent_bodies B.lending (B.making program.now)) log.now self.old }
         requires body { IsInBody self.old }
         requires goes_on { GoesOn self.old.procedure.last }
-        ensures doing { IsDoing program.now (B.making program.now) log.now result self.new }
+        ensures doing { IsDoing program.now (lent_bodies B.lending (B.making program.now)) log.now result self.new }
         ensures same { IsSameThread self.old self.new }
+        ensures turned { HasTurned self.old.number shared.old shared.new self.old.bodies.uses self.new.bodies.uses }
     {
         let _ = &log.events;
         let last = self.procedure.last();
-        self.bodies.next(alloc, program, last)
+        self.bodies.next(alloc, program, self.number, shared, last)
     }
 
     /// What the innermost body does next. An `Err` is out of memory, of the machine or of what runs the bodies.
@@ -160,37 +184,45 @@ impl<B: Bodies> Thread<B> {
         alloc: Global,
         program: &Program,
         log: &mut EventLog,
+        shared: &mut Shared<H>,
     ) -> Result<Turn, AllocError>
-        requires resting { Resting program.now (B.making program.now) log.old self.old }
+        requires resting { Resting program.now (lent_bodies B.lending (B.making program.now)) log.old self.old }
         requires body { IsInBody self.old }
-        ensures turn { IfOk result (TurnsTo program.now (B.making program.now) log.old self.old log.new self.new) }
+        ensures turn { IfOk result (TurnsTo program.now (lent_bodies B.lending (B.making program.now)) (WaitsAt B.lending (B.making program.now) shared.new.state) log.old self.old log.new self.new) }
         ensures same { IsSameThread self.old self.new }
+        ensures turned { IfOk result (λ turn. HasTurned self.old.number shared.old shared.new self.old.bodies.uses self.new.bodies.uses) }
+        ensures still { IfOk result (λ turn. turn ≡ turns.Waits → shared.new ≡ shared.old) }
     {
         if let Some(error) = self.procedure.ending_error() {
             let gave_up = self.gave_up;
-            return Ok(turn_of(self.leave(program, log, error, gave_up)));
+            return Ok(turn_of(self.leave(program, log, shared, error, gave_up)));
         }
-        if self.bodies.waits(program) {
+        if self.bodies.waits(program, shared) {
             return Ok(Turn::Waits);
         }
-        match self.next(alloc, program, log) {
+        match self.next(alloc, program, log, shared) {
             Does::Asks(class) => {
                 self.use_class(program, log, class)?;
                 return Ok(Turn::Silent);
             }
-            Does::Gets { class, field } => self.read(program, log, class, field)?,
+            Does::Gets { class, field } => self.read(program, log, shared, class, field)?,
             Does::Puts {
                 class,
                 field,
                 value,
             } => self.write(program, log, class, field, value)?,
             Does::Prints(text) => self.print(alloc, program, log, text)?,
-            Does::Waits => return Ok(Turn::Comes),
-            Does::Over(thrown) => return Ok(turn_of(self.end_body(alloc, program, log, thrown))),
+            Does::Waits => {
+                let waits = self.bodies.waits(program, shared);
+                return Ok(if waits { Turn::Comes } else { Turn::Silent });
+            }
+            Does::Over(thrown) => return Ok(turn_of(self.end_body(
+                alloc, program, log, shared, thrown,
+            ))),
             Does::Ended(Limit::Memory) => return Err(AllocError),
             Does::Ended(Limit::Steps) => {
                 let error = program.built_in(BuiltIn::InternalError);
-                return Ok(turn_of(self.leave(program, log, error, false)));
+                return Ok(turn_of(self.leave(program, log, shared, error, false)));
             }
             Does::Ended(Limit::Patience) => unreachable!(),
         }

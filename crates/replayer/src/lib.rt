@@ -7,9 +7,11 @@
 #![tactic(auto)]
 
 mod body;
+mod lent;
 mod log;
 mod ordered;
 mod run;
+mod shared;
 mod thread;
 
 pub use ordered::run_ordered;

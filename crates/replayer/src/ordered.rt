@@ -6,14 +6,16 @@ ghost use Rattle.init_core.specs.declared.event.TheConstants.{THREADS};
 ghost use Rattle.init_core.specs.declared.frames.Outcome.{Outcome as OutcomeFacts};
 ghost use Rattle.init_core.specs.Interleaving.{labels_of};
 ghost use Rattle.trace.specs.Output.{output_of};
+ghost use Rattle.bodies.specs.Lending.{lent_bodies};
 ghost use Rattle.bodies.specs.Runs.{AreMains};
 ghost use Rattle.replayer.specs.AllGoing.{AllThreads, AreGoing, HasDone, outcomes_of};
 ghost use Rattle.replayer.specs.Going.{outcome_by};
 ghost use Rattle.replayer.specs.OrderedRun.{IsOrderedRunOf};
 
+use crate::lent::Lent;
 use crate::run::Run;
 use crate::thread::Thread;
-use bodies::Bodies;
+use bodies::Lends;
 use hierarchy::{ClassId, Program};
 use init_core::{Outcome, THREADS};
 use sequence::Sequence;
@@ -36,7 +38,7 @@ fn outcome_of(done: Outcome, gave_up: bool) -> ThreadOutcome
 }
 
 /// How each thread ended. An `Err` is out of memory.
-fn outcomes<B: Bodies>(alloc: Global, run: &Run<B>) -> Result<Sequence<ThreadOutcome>, AllocError>
+fn outcomes<B, H>(alloc: Global, run: &Run<B, H>) -> Result<Sequence<ThreadOutcome>, AllocError>
     requires { AllThreads (λ t w. HasDone w) run.now }
     ensures { IfOk result (λ outcomes. outcomes ≡ outcomes_of run.now) }
 {
@@ -50,8 +52,12 @@ fn outcomes<B: Bodies>(alloc: Global, run: &Run<B>) -> Result<Sequence<ThreadOut
 }
 
 /// The report of a run that is over. An `Err` is out of memory.
-fn report<B: Bodies>(alloc: Global, program: &Program, run: Run<B>) -> Result<Report, AllocError>
-    requires going { AreGoing program.now (B.making program.now) run }
+fn report<H: Drop, B: Lends<H>>(
+    alloc: Global,
+    program: &Program,
+    run: Run<Lent<B, H>, H>,
+) -> Result<Report, AllocError>
+    requires going { AreGoing program.now (lent_bodies B.lending (B.making program.now)) run }
     requires ended { AllThreads (λ t w. HasDone w) run }
     ensures outcomes { IfOk result (λ r. r.outcomes ≡ outcomes_of run) }
     ensures events { IfOk result (λ r. r.events ≡ run.log.events.items) }
@@ -72,7 +78,8 @@ fn report<B: Bodies>(alloc: Global, program: &Program, run: Run<B>) -> Result<Re
 
 /// Runs 1 to 16 main classes of a program in this order, on the calling thread. Thread t is that of the t-th main class: the
 /// procedure for that class, with all that it needs, and then the method `main` (JLS SE 8 12.4.2). What its initializers and
-/// `main` do is what the t-th of `bodies` says that they do.
+/// `main` do is what the t-th of `bodies` says that they do. What the threads share is `shared` at first; each has it for each step of its
+/// bodies, and meets it as the step before, of whichever thread, left it.
 ///
 /// Each number of the order lets that thread go on until it has made one event, has ended or can't go on; it can't go on while it
 /// waits for a class that another thread initializes, or in a body. Then the number is used up. After the order the lowest
@@ -81,21 +88,22 @@ fn report<B: Bodies>(alloc: Global, program: &Program, run: Run<B>) -> Result<Re
 /// limits of its bodies a thread is ended so too.
 ///
 /// An `Err` is out of memory: that of the run, or where the bodies end for want of theirs ([`Limit::Memory`]).
-pub fn run_ordered<B: Bodies>(
+pub fn run_ordered<H: Drop, B: Lends<H>>(
     alloc: Global,
     program: &Program,
     mains: &[ClassId],
     order: &[usize],
     bodies: Vec<B>,
+    shared: H,
 ) -> Result<Report, AllocError>
     requires mains { AreMains program.now mains.now }
     requires some { 1 ≤ length mains.now }
     requires few { length mains.now ≤ THREADS }
     requires count { vec_len bodies ≡ length mains.now }
     requires order { AllByRecursion (λ t. t < length mains.now) order.now }
-    ensures { IfOk result (IsOrderedRunOf program.now (B.making program.now) bodies.items mains.now order.now) }
+    ensures { IfOk result (IsOrderedRunOf program.now B.lending (B.making program.now) shared bodies.items mains.now order.now) }
 {
-    let mut run = Run::begin(alloc, program, mains, bodies)?;
+    let mut run = Run::begin(alloc, program, mains, bodies, shared)?;
     run.follow(alloc, program, order)?;
     run.finish(alloc, program)?;
     let report = report(alloc, program, run)?;

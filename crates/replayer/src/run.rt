@@ -1,23 +1,30 @@
 //! All threads of an ordered run.
 
-ghost use Rattle.std.specs.Prelude.{◌≡◌, ℕ, ◌<◌, ◌≤◌, List, [], IfOk, OnOk, true, length, vec_len};
+ghost use Rattle.std.specs.Prelude.{◌≡◌, ℕ, ◌<◌, ◌≤◌, ◌++◌, List, [], IfOk, OnOk, true, length, map, vec_len};
 ghost use Rattle.init_core.specs.declared.event.TheConstants.{THREADS};
 ghost use Rattle.bodies.specs.Runs.{AreMains};
 ghost use Rattle.replayer.specs.AllGoing.{AllThreads, AreGoing, AreGone, HasDone, HasGone, IsFound, IsHeld, IsSameBut, IsSameThere, Leads, ThreadAt, mains_of, starts_of};
+ghost use Rattle.replayer.specs.OrderedRun.{HasUsed, WaitsAfter};
+ghost use Rattle.replayer.specs.Turning.{AreInTurn};
+ghost use Rattle.replayer.specs.Turns.{AreOf};
+ghost use Rattle.bodies.specs.Lending.{lent_at_start, lent_bodies};
 ghost use Rattle.std.specs.List.{AllByRecursion};
 
+use crate::lent::Lent;
 use crate::log::EventLog;
+use crate::shared::Shared;
 use crate::thread::{Thread, Turn};
-use bodies::Bodies;
+use bodies::Lends;
 use hierarchy::{ClassId, Program};
 use init_core::THREADS;
 use std::alloc::{AllocError, Global};
 
 /// The threads of a run, by their numbers, and what they have done.
 #[derive(Drop)]
-pub(crate) struct Run<B> {
+pub(crate) struct Run<B, H> {
     pub log: EventLog,
     pub threads: Vec<Thread<B>>,
+    pub shared: Shared<H>,
 }
 
 /// Which thread goes on next, once the order is used up.
@@ -31,22 +38,26 @@ pub(crate) enum Found {
     Ended,
 }
 
-impl<B: Bodies> Run<B> {
+impl<H: Drop, B: Lends<H>> Run<Lent<B, H>, H> {
     /// Each main class is requested, by a thread of its own. An `Err` is out of memory.
     pub(crate) fn begin(
         alloc: Global,
         program: &Program,
         mains: &[ClassId],
         bodies: Vec<B>,
+        shared: H,
     ) -> Result<Self, AllocError>
         requires mains { AreMains program.now mains.now }
         requires few { length mains.now ≤ THREADS }
         requires count { vec_len bodies ≡ length mains.now }
-        ensures going { IfOk result (λ run. AreGoing program.now (B.making program.now) run) }
+        ensures going { IfOk result (λ run. AreGoing program.now (lent_bodies B.lending (B.making program.now)) run) }
         ensures fresh { IfOk result (λ run. AreGone [] run) }
         ensures events { IfOk result (λ run. run.log.events.items ≡ []) }
         ensures mains { IfOk result (λ run. mains_of run ≡ mains.now) }
-        ensures starts { IfOk result (λ run. starts_of run ≡ bodies.items) }
+        ensures starts { IfOk result (λ run. starts_of run ≡ map lent_at_start bodies.items) }
+        ensures first { IfOk result (λ run. run.shared.first.value ≡ shared) }
+        ensures turns { IfOk result (λ run. run.shared.turns.items ≡ []) }
+        ensures in_turn { IfOk result (λ run. AreInTurn run) }
     {
         let log = EventLog::new(alloc, program, mains.len())?;
         let mut threads = Vec::new(alloc);
@@ -55,16 +66,24 @@ impl<B: Bodies> Run<B> {
             let thread = Thread::begin(alloc, program, &log, number, mains[number], bodies)?;
             threads.push(thread)?;
         }
-        Ok(Run { log, threads })
+        Ok(Run {
+            log,
+            threads,
+            shared: Shared::new(shared),
+        })
     }
 
     /// A thread goes on until it has made one event, has ended or can't go on; `Ended` where it had ended before. An `Err` is out of
     /// memory.
     fn go(&mut self, alloc: Global, program: &Program, number: usize) -> Result<Turn, AllocError>
-        requires going { AreGoing program.now (B.making program.now) self.old }
+        requires going { AreGoing program.now (lent_bodies B.lending (B.making program.now)) self.old }
+        requires in_turn { AreInTurn self.old }
         requires number { number < length self.old.threads.items }
-        ensures going { IfOk result (λ turn. AreGoing program.now (B.making program.now) self.new) }
-        ensures gone { IfOk result (HasGone program.now (B.making program.now) number self.old self.new) }
+        ensures going { IfOk result (λ turn. AreGoing program.now (lent_bodies B.lending (B.making program.now)) self.new) }
+        ensures in_turn { IfOk result (λ turn. AreInTurn self.new) }
+        ensures first { IfOk result (λ turn. self.new.shared.first ≡ self.old.shared.first) }
+        ensures turned { IfOk result (λ turn. (turned : List (ℕ × H)) × AreOf number turned × (self.new.shared.turns.items ≡ self.old.shared.turns.items ++ turned)) }
+        ensures gone { IfOk result (HasGone program.now (lent_bodies B.lending (B.making program.now)) (HasUsed self.old.shared.first.value) (WaitsAfter B.lending (B.making program.now) self.old.shared.first.value) number self.old self.new) }
         ensures others { IfOk result (λ turn. IsSameBut number self.old self.new) }
         ensures there { IfOk result (λ turn. IsSameThere number self.old self.new) }
     {
@@ -72,9 +91,9 @@ impl<B: Bodies> Run<B> {
         if let Some(done) = thread.done {
             return Ok(Turn::Ended(done));
         }
-        match thread.advance(alloc, program, &mut self.log)? {
+        match thread.advance(alloc, program, &mut self.log, &mut self.shared)? {
             Turn::Ended(done) => {
-                thread.end(program, done);
+                thread.end(program, &mut self.shared, done);
                 Ok(Turn::Silent)
             }
             Turn::Comes => Ok(Turn::Silent),
@@ -89,10 +108,13 @@ impl<B: Bodies> Run<B> {
         program: &Program,
         order: &[usize],
     ) -> Result<(), AllocError>
-        requires going { AreGoing program.now (B.making program.now) self.old }
+        requires going { AreGoing program.now (lent_bodies B.lending (B.making program.now)) self.old }
+        requires in_turn { AreInTurn self.old }
         requires order { AllByRecursion (λ t. t < length self.old.threads.items) order.now }
-        ensures going { OnOk result (AreGoing program.now (B.making program.now) self.new) }
-        ensures follows { OnOk result (Leads program.now (B.making program.now) order.now [] self.old [] [] self.new) }
+        ensures going { OnOk result (AreGoing program.now (lent_bodies B.lending (B.making program.now)) self.new) }
+        ensures in_turn { OnOk result (AreInTurn self.new) }
+        ensures first { OnOk result (self.new.shared.first ≡ self.old.shared.first) }
+        ensures follows { OnOk result (Leads program.now (lent_bodies B.lending (B.making program.now)) (HasUsed self.old.shared.first.value) (WaitsAfter B.lending (B.making program.now) self.old.shared.first.value) order.now [] self.old [] [] self.new) }
     {
         'order: for number in order {
             self.go(alloc, program, *number)?;
@@ -102,9 +124,12 @@ impl<B: Bodies> Run<B> {
 
     /// The lowest thread that can goes on: each lower one had ended or waits, and stays so. An `Err` is out of memory.
     fn go_lowest(&mut self, alloc: Global, program: &Program) -> Result<Found, AllocError>
-        requires going { AreGoing program.now (B.making program.now) self.old }
-        ensures going { IfOk result (λ found. AreGoing program.now (B.making program.now) self.new) }
-        ensures found { IfOk result (IsFound program.now (B.making program.now) self.old self.new) }
+        requires going { AreGoing program.now (lent_bodies B.lending (B.making program.now)) self.old }
+        requires in_turn { AreInTurn self.old }
+        ensures going { IfOk result (λ found. AreGoing program.now (lent_bodies B.lending (B.making program.now)) self.new) }
+        ensures in_turn { IfOk result (λ found. AreInTurn self.new) }
+        ensures first { IfOk result (λ found. self.new.shared.first ≡ self.old.shared.first) }
+        ensures found { IfOk result (IsFound program.now (lent_bodies B.lending (B.making program.now)) (HasUsed self.old.shared.first.value) (WaitsAfter B.lending (B.making program.now) self.old.shared.first.value) self.old self.new) }
     {
         let mut held = None;
         'threads: for number in 0..self.threads.len() {
@@ -123,26 +148,33 @@ impl<B: Bodies> Run<B> {
 
     /// A thread that waits gives up.
     fn give_up(&mut self, program: &Program, number: usize)
-        requires going { AreGoing program.now (B.making program.now) self.old }
+        requires going { AreGoing program.now (lent_bodies B.lending (B.making program.now)) self.old }
+        requires in_turn { AreInTurn self.old }
         requires number { number < length self.old.threads.items }
-        requires held { ThreadAt self.old number (IsHeld program.now (B.making program.now) self.old.log) }
-        ensures going { AreGoing program.now (B.making program.now) self.new }
+        requires held { ThreadAt self.old number (IsHeld program.now (lent_bodies B.lending (B.making program.now)) (WaitsAfter B.lending (B.making program.now) self.old.shared.first.value self.old.shared.turns.items number) self.old.log) }
+        ensures going { AreGoing program.now (lent_bodies B.lending (B.making program.now)) self.new }
+        ensures in_turn { AreInTurn self.new }
+        ensures first { self.new.shared.first ≡ self.old.shared.first }
+        ensures turned { (turned : List (ℕ × H)) × AreOf number turned × (self.new.shared.turns.items ≡ self.old.shared.turns.items ++ turned) }
         ensures log { self.new.log ≡ self.old.log }
         ensures others { IsSameBut number self.old self.new }
         ensures gave_up { ThreadAt self.new number (λ w. w.gave_up ≡ true) }
     {
         let thread = &mut self.threads[number];
-        if let Some(done) = thread.give_up(program, &self.log) {
-            thread.end(program, done);
+        if let Some(done) = thread.give_up(program, &self.log, &mut self.shared) {
+            thread.end(program, &mut self.shared, done);
         }
     }
 
     /// All threads go on to their end: the lowest that can, and where none can the lowest that waits gives up. An `Err` is out
     /// of memory; so are more events than there are numbers.
     pub(crate) fn finish(&mut self, alloc: Global, program: &Program) -> Result<(), AllocError>
-        requires going { AreGoing program.now (B.making program.now) self.old }
-        ensures going { OnOk result (AreGoing program.now (B.making program.now) self.new) }
-        ensures follows { OnOk result ((later : List ℕ) × Leads program.now (B.making program.now) [] [] self.old [] later self.new) }
+        requires going { AreGoing program.now (lent_bodies B.lending (B.making program.now)) self.old }
+        requires in_turn { AreInTurn self.old }
+        ensures going { OnOk result (AreGoing program.now (lent_bodies B.lending (B.making program.now)) self.new) }
+        ensures in_turn { OnOk result (AreInTurn self.new) }
+        ensures first { OnOk result (self.new.shared.first ≡ self.old.shared.first) }
+        ensures follows { OnOk result ((later : List ℕ) × Leads program.now (lent_bodies B.lending (B.making program.now)) (HasUsed self.old.shared.first.value) (WaitsAfter B.lending (B.making program.now) self.old.shared.first.value) [] [] self.old [] later self.new) }
         ensures ended { OnOk result (AllThreads (λ t w. HasDone w) self.new) }
     {
         'rounds: for _ in 0..u64::MAX {

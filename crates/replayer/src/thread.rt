@@ -4,12 +4,17 @@ ghost use Rattle.std.specs.Prelude.{◌≡◌, ◌≢◌, ◌<◌, [], IfOk, OnO
 ghost use Rattle.init_core.specs.declared.procedure.Next.TheVariants as nexts;
 ghost use Rattle.init_core.specs.Advance.{next_of, is_running};
 ghost use Rattle.init_core.specs.ProcedureWord.{IsOfFiles};
+ghost use Rattle.bodies.specs.Lending.{lent_at_start, lent_bodies};
 ghost use Rattle.replayer.specs.Going.{Going, GoesOrEnds, HasStepped, IsPaused, IsSameThread, Resting, TurnsTo, turn_by};
 ghost use Rattle.replayer.specs.declared.thread.Turn.TheVariants as turns;
 ghost use Rattle.replayer.specs.Logged.{IsLog};
+ghost use Rattle.replayer.specs.OrderedRun.{WaitsAt};
+ghost use Rattle.replayer.specs.Turning.{HasTurned};
 
+use crate::lent::Lent;
 use crate::log::EventLog;
-use bodies::Bodies;
+use crate::shared::Shared;
+use bodies::Lends;
 use hierarchy::{BuiltIn, ClassId, Program};
 use init_core::{Answer, Completed, Ending, Kind, Next, Outcome, Procedure};
 use std::alloc::{AllocError, Global};
@@ -22,7 +27,7 @@ pub(crate) enum Turn {
     Event,
     /// The thread went on without an event.
     Silent,
-    /// It went on so in a body, up to something that another thread holds.
+    /// It went on so, up to something that another thread holds or initializes.
     Comes,
     /// It waits for a class that another thread initializes, or stands in a body at something that another thread holds.
     Waits,
@@ -57,7 +62,7 @@ pub(crate) struct Thread<B> {
     pub done: Option<Outcome>,
 }
 
-impl<B: Bodies> Thread<B> {
+impl<H, B: Lends<H>> Thread<Lent<B, H>> {
     /// Its main class is requested. An `Err` is out of memory.
     pub(crate) fn begin(
         alloc: Global,
@@ -71,16 +76,18 @@ impl<B: Bodies> Thread<B> {
         requires number { number < log.now.threads.value }
         requires log { IsLog program.now log.now }
         requires none { log.now.events.items ≡ [] }
-        ensures going { IfOk result (λ thread. Going program.now (B.making program.now) log.now thread) }
+        ensures going { IfOk result (λ thread. Going program.now (lent_bodies B.lending (B.making program.now)) log.now thread) }
         ensures number { IfOk result (λ thread. thread.number ≡ number) }
         ensures main { IfOk result (λ thread. thread.main ≡ main) }
-        ensures start { IfOk result (λ thread. thread.start.value ≡ bodies) }
+        ensures start { IfOk result (λ thread. thread.start.value ≡ lent_at_start bodies) }
+        ensures bodies { IfOk result (λ thread. thread.bodies ≡ lent_at_start bodies) }
         ensures done { IfOk result (λ thread. thread.done ≡ None) }
         ensures gave_up { IfOk result (λ thread. thread.gave_up ≡ false) }
     {
         let _ = &log.events;
         let mut procedure = Procedure::new(alloc);
         procedure.request(main)?;
+        let bodies = Lent::new(bodies);
         Ok(Thread {
             number,
             procedure,
@@ -99,13 +106,16 @@ impl<B: Bodies> Thread<B> {
         alloc: Global,
         program: &Program,
         log: &mut EventLog,
+        shared: &Shared<H>,
         class: ClassId,
     ) -> Result<Turn, AllocError>
-        requires going { Going program.now (B.making program.now) log.old self.old }
+        requires going { Going program.now (lent_bodies B.lending (B.making program.now)) log.old self.old }
         requires next { next_of self.old.procedure.frames ≡ nexts.Look class }
-        ensures turn { IfOk result (TurnsTo program.now (B.making program.now) log.old self.old log.new self.new) }
+        ensures turn { IfOk result (TurnsTo program.now (lent_bodies B.lending (B.making program.now)) (WaitsAt B.lending (B.making program.now) shared.now.state) log.old self.old log.new self.new) }
         ensures same { IsSameThread self.old self.new }
+        ensures bodies { self.new.bodies ≡ self.old.bodies }
     {
+        let _ = &shared.state;
         let decision = log.state(class).decision(self.number);
         if decision.waits_again() {
             return Ok(Turn::Waits);
@@ -122,17 +132,20 @@ impl<B: Bodies> Thread<B> {
         alloc: Global,
         program: &Program,
         log: &mut EventLog,
+        shared: &mut Shared<H>,
         class: ClassId,
     ) -> Result<(), AllocError>
-        requires going { Going program.now (B.making program.now) log.old self.old }
+        requires going { Going program.now (lent_bodies B.lending (B.making program.now)) log.old self.old }
         requires next { next_of self.old.procedure.frames ≡ nexts.Body class }
         requires before { is_running self.old.procedure.frames ≡ false }
-        ensures stepped { OnOk result (HasStepped program.now (B.making program.now) log.old self.old log.new self.new) }
+        ensures stepped { OnOk result (HasStepped program.now (lent_bodies B.lending (B.making program.now)) log.old self.old log.new self.new) }
         ensures same { IsSameThread self.old self.new }
+        ensures turned { OnOk result (HasTurned self.old.number shared.old shared.new self.old.bodies.uses self.new.bodies.uses) }
     {
         log.add(program, self.number, class, Kind::Runs)?;
         self.procedure.run_body();
-        self.bodies.start(alloc, program, class);
+        self.bodies
+            .start(alloc, program, self.number, shared, class);
         Ok(())
     }
 
@@ -144,10 +157,11 @@ impl<B: Bodies> Thread<B> {
         class: ClassId,
         ending: Ending,
     ) -> Result<(), AllocError>
-        requires going { Going program.now (B.making program.now) log.old self.old }
+        requires going { Going program.now (lent_bodies B.lending (B.making program.now)) log.old self.old }
         requires next { next_of self.old.procedure.frames ≡ nexts.End class ending }
-        ensures stepped { OnOk result (HasStepped program.now (B.making program.now) log.old self.old log.new self.new) }
+        ensures stepped { OnOk result (HasStepped program.now (lent_bodies B.lending (B.making program.now)) log.old self.old log.new self.new) }
         ensures same { IsSameThread self.old self.new }
+        ensures bodies { self.new.bodies ≡ self.old.bodies }
     {
         log.add(program, self.number, class, ending.kind())?;
         self.procedure.end_class();
@@ -156,12 +170,19 @@ impl<B: Bodies> Thread<B> {
 
     /// The procedure for the main class is completed: if normally the method `main` begins, and else that is how the
     /// thread ended.
-    fn enter_main(&mut self, alloc: Global, program: &Program, log: &EventLog) -> Option<Outcome>
-        requires going { Going program.now (B.making program.now) log.now self.old }
+    fn enter_main(
+        &mut self,
+        alloc: Global,
+        program: &Program,
+        log: &EventLog,
+        shared: &mut Shared<H>,
+    ) -> Option<Outcome>
+        requires going { Going program.now (lent_bodies B.lending (B.making program.now)) log.now self.old }
         requires idle { next_of self.old.procedure.frames ≡ nexts.Idle }
         requires before { self.old.in_main ≡ false }
-        ensures going { GoesOrEnds program.now (B.making program.now) log.now self.new result }
+        ensures going { GoesOrEnds program.now (lent_bodies B.lending (B.making program.now)) log.now self.new result }
         ensures same { IsSameThread self.old self.new }
+        ensures turned { HasTurned self.old.number shared.old shared.new self.old.bodies.uses self.new.bodies.uses }
     {
         let _ = &log.events;
         let Some(Completed { outcome, .. }) = self.procedure.last() else {
@@ -170,7 +191,8 @@ impl<B: Bodies> Thread<B> {
         let Outcome::Normal = outcome else {
             return Some(outcome);
         };
-        self.bodies.enter(alloc, program, self.main);
+        self.bodies
+            .enter(alloc, program, self.number, shared, self.main);
         self.procedure.forget_last();
         self.in_main = true;
         None
@@ -182,24 +204,27 @@ impl<B: Bodies> Thread<B> {
         alloc: Global,
         program: &Program,
         log: &mut EventLog,
+        shared: &mut Shared<H>,
     ) -> Result<Turn, AllocError>
-        requires { Resting program.now (B.making program.now) log.old self.old }
-        ensures turn { IfOk result (TurnsTo program.now (B.making program.now) log.old self.old log.new self.new) }
+        requires { Resting program.now (lent_bodies B.lending (B.making program.now)) log.old self.old }
+        ensures turn { IfOk result (TurnsTo program.now (lent_bodies B.lending (B.making program.now)) (WaitsAt B.lending (B.making program.now) shared.new.state) log.old self.old log.new self.new) }
         ensures same { IsSameThread self.old self.new }
+        ensures turned { IfOk result (λ turn. HasTurned self.old.number shared.old shared.new self.old.bodies.uses self.new.bodies.uses) }
+        ensures still { IfOk result (λ turn. turn ≡ turns.Waits → shared.new ≡ shared.old) }
     {
         match self.procedure.next() {
             Next::Idle => {
                 if self.in_main {
-                    return self.go_on(alloc, program, log);
+                    return self.go_on(alloc, program, log, shared);
                 }
-                Ok(turn_of(self.enter_main(alloc, program, log)))
+                Ok(turn_of(self.enter_main(alloc, program, log, shared)))
             }
-            Next::Look(class) => self.look(alloc, program, log, class),
+            Next::Look(class) => self.look(alloc, program, log, shared, class),
             Next::Body(class) => {
                 if self.procedure.is_running() {
-                    return self.go_on(alloc, program, log);
+                    return self.go_on(alloc, program, log, shared);
                 }
-                self.run_body(alloc, program, log, class)?;
+                self.run_body(alloc, program, log, shared, class)?;
                 Ok(Turn::Event)
             }
             Next::End(class, ending) => {
@@ -211,39 +236,57 @@ impl<B: Bodies> Thread<B> {
 
     /// Goes on until it has made one event, has ended or can't go on. An `Err` is out of memory; so are more turns than there
     /// are numbers.
+    #[tactic(auto, using(crate::proofs::Turned::then_by))]
     pub(crate) fn advance(
         &mut self,
         alloc: Global,
         program: &Program,
         log: &mut EventLog,
+        shared: &mut Shared<H>,
     ) -> Result<Turn, AllocError>
-        requires { Resting program.now (B.making program.now) log.old self.old }
-        ensures turn { IfOk result (TurnsTo program.now (B.making program.now) log.old self.old log.new self.new) }
+        requires { Resting program.now (lent_bodies B.lending (B.making program.now)) log.old self.old }
+        ensures turn { IfOk result (TurnsTo program.now (lent_bodies B.lending (B.making program.now)) (WaitsAt B.lending (B.making program.now) shared.new.state) log.old self.old log.new self.new) }
         ensures moves { IfOk result (λ turn. turn ≢ turns.Silent) }
         ensures same { IsSameThread self.old self.new }
+        ensures turned { IfOk result (λ turn. HasTurned self.old.number shared.old shared.new self.old.bodies.uses self.new.bodies.uses) }
+        ensures still { IfOk result (λ turn. turn ≡ turns.Waits → shared.new ≡ shared.old) }
     {
+        let mut has_gone_on = false;
         'turns: for _ in 0..u64::MAX {
-            let turn = self.turn(alloc, program, log)?;
+            let turn = self.turn(alloc, program, log, shared)?;
             if turn != Turn::Silent {
-                return Ok(turn);
+                return Ok(if has_gone_on && turn == Turn::Waits {
+                    Turn::Comes
+                } else {
+                    turn
+                });
             }
+            has_gone_on = true;
         }
         Err(AllocError)
     }
 
     /// The thread has ended with this result.
-    pub(crate) fn end(&mut self, program: &Program, outcome: Outcome)
-        ensures { IsSameThread (record self.old { done = Some outcome }) self.new }
+    pub(crate) fn end(&mut self, program: &Program, shared: &mut Shared<H>, outcome: Outcome)
+        ensures same { IsSameThread (record self.old { done = Some outcome }) self.new }
+        ensures ends { (lent_bodies B.lending (B.making program.now)).ends self.old.bodies self.new.bodies }
+        ensures turned { HasTurned self.old.number shared.old shared.new self.old.bodies.uses self.new.bodies.uses }
     {
-        self.bodies.end(program);
+        self.bodies.end(program, self.number, shared);
         self.done = Some(outcome);
     }
 
     /// The request that waits is given up, or the body that waits is ended: the machine ends the thread by InternalError.
-    pub(crate) fn give_up(&mut self, program: &Program, log: &EventLog) -> Option<Outcome>
-        requires paused { IsPaused program.now (B.making program.now) log.now self.old }
-        ensures going { GoesOrEnds program.now (B.making program.now) log.now self.new result }
+    pub(crate) fn give_up(
+        &mut self,
+        program: &Program,
+        log: &EventLog,
+        shared: &mut Shared<H>,
+    ) -> Option<Outcome>
+        requires paused { IsPaused program.now (lent_bodies B.lending (B.making program.now)) (WaitsAt B.lending (B.making program.now) shared.old.state) log.now self.old }
+        ensures going { GoesOrEnds program.now (lent_bodies B.lending (B.making program.now)) log.now self.new result }
         ensures same { IsSameThread (record self.old { gave_up = true }) self.new }
+        ensures turned { HasTurned self.old.number shared.old shared.new self.old.bodies.uses self.new.bodies.uses }
     {
         let error = program.built_in(BuiltIn::InternalError);
         match self.procedure.next() {
@@ -252,7 +295,7 @@ impl<B: Bodies> Thread<B> {
                 self.gave_up = true;
                 None
             }
-            _ => self.leave(program, log, error, true),
+            _ => self.leave(program, log, shared, error, true),
         }
     }
 }

@@ -1,4 +1,4 @@
--- Bodies of which nothing is said.
+-- Bodies of which nothing is said but where they wait.
 use Rattle.std.specs.Prelude.{Option}
 use Rattle.hierarchy.specs.LinkedProgram.{LinkedProgram}
 use Rattle.init_core.specs.declared.frames.Completed.{Completed}
@@ -6,12 +6,12 @@ use Rattle.bodies.specs.declared.does.Does.{Does}
 use Rattle.bodies.specs.Making.{Making}
 
 -- whatever they do
-abbrev pub any_bodies : {S : Type 0} → Making S
-any_bodies = record {
+abbrev pub any_bodies : {S : Type 0} → (S → Type 0) → Making S
+any_bodies waits = record {
   starts = λ s c z. Unit {0};
   enters = λ s c z. Unit {0};
   does = λ s last d z. Unit {0};
-  waits = λ s. Unit {0};
+  waits = waits;
   gets = λ s v z. Unit {0};
   is_ended = λ s z. Unit {0};
   replaces = λ s thrown e z. Unit {0};

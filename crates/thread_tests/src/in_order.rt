@@ -37,7 +37,7 @@ fn has_text(alloc: Global, program: &Program, main: usize, expected: &[u8]) -> b
     if bodies.push(NoCode).is_err() {
         return false;
     }
-    match run_ordered(alloc, program, &[ClassId { number: main }], &[], bodies) {
+    match run_ordered(alloc, program, &[ClassId { number: main }], &[], bodies, ()) {
         Ok(report) => text_of(alloc, program, &report).is_ok_and(|text| text.as_slice()
             == expected),
         Err(_) => false,
@@ -124,7 +124,7 @@ fn text_in_order(alloc: Global, order: &[usize]) -> Option<Vec<u8>>
     let mut bodies = Vec::new(alloc);
     bodies.push(NoCode).ok()?;
     bodies.push(NoCode).ok()?;
-    let report = run_ordered(alloc, &program, &[main, main], order, bodies).ok()?;
+    let report = run_ordered(alloc, &program, &[main, main], order, bodies, ()).ok()?;
     text_of(alloc, &program, &report).ok()
 }
 

@@ -13,7 +13,7 @@ ghost use Rattle.thread_tests.specs.AnyBodies.{any_bodies};
 ghost use Rattle.thread_tests.specs.declared.scripted.Scripted.{Scripted as ScriptedFacts};
 
 use crate::runs::{are_of_files, linked};
-use bodies::{Bodies, Does};
+use bodies::{Bodies, Does, Lends};
 use descriptors::BaseType;
 use exceptions::replacement;
 use guest_threads::{NoGate, run_threads};
@@ -59,8 +59,8 @@ impl Scripted {
 
 /// A class whose first static field may be used: an int without a constant.
 fn ready(alloc: Global, program: &Program, last: Option<Completed>) -> Option<ClassId>
-    ensures gets { IfSome result (λ c. MayDo program.now (any_bodies {S = ScriptedFacts}) last (Gets c 0)) }
-    ensures puts { IfSome result (λ c. MayDo program.now (any_bodies {S = ScriptedFacts}) last (Puts c 0 (Int (pos 7)))) }
+    ensures gets { IfSome result (λ c. MayDo program.now (any_bodies (λ (s : ScriptedFacts). s.done ≡ 5)) last (Gets c 0)) }
+    ensures puts { IfSome result (λ c. MayDo program.now (any_bodies (λ (s : ScriptedFacts). s.done ≡ 5)) last (Puts c 0 (Int (pos 7)))) }
 {
     let Completed {
         class,
@@ -88,7 +88,7 @@ fn ready(alloc: Global, program: &Program, last: Option<Completed>) -> Option<Cl
 
 /// The use of a class.
 fn ask(program: &Program, _last: Option<Completed>) -> Does
-    ensures { MayDo program.now (any_bodies {S = ScriptedFacts}) _last result }
+    ensures { MayDo program.now (any_bodies (λ (s : ScriptedFacts). s.done ≡ 5)) _last result }
 {
     if USED.number < program.len() {
         Does::Asks(USED)
@@ -99,7 +99,7 @@ fn ask(program: &Program, _last: Option<Completed>) -> Does
 
 /// The write of a field.
 fn write(alloc: Global, program: &Program, last: Option<Completed>) -> Does
-    ensures { MayDo program.now (any_bodies {S = ScriptedFacts}) last result }
+    ensures { MayDo program.now (any_bodies (λ (s : ScriptedFacts). s.done ≡ 5)) last result }
 {
     match ready(alloc, program, last) {
         Some(class) => Does::Puts {
@@ -113,7 +113,7 @@ fn write(alloc: Global, program: &Program, last: Option<Completed>) -> Does
 
 /// The read of a field.
 fn read(alloc: Global, program: &Program, last: Option<Completed>) -> Does
-    ensures { MayDo program.now (any_bodies {S = ScriptedFacts}) last result }
+    ensures { MayDo program.now (any_bodies (λ (s : ScriptedFacts). s.done ≡ 5)) last result }
 {
     match ready(alloc, program, last) {
         Some(class) => Does::Gets { class, field: 0 },
@@ -124,7 +124,7 @@ fn read(alloc: Global, program: &Program, last: Option<Completed>) -> Does
 /// The print of a text.
 fn print(alloc: Global, _program: &Program, _last: Option<Completed>, text: &[u8]) -> Does
     requires { IsTrue (is_utf8 text.now) }
-    ensures { MayDo _program.now (any_bodies {S = ScriptedFacts}) _last result }
+    ensures { MayDo _program.now (any_bodies (λ (s : ScriptedFacts). s.done ≡ 5)) _last result }
 {
     match Text::copied(alloc, text) {
         Ok(text) => Does::Prints(text),
@@ -135,7 +135,7 @@ fn print(alloc: Global, _program: &Program, _last: Option<Completed>, text: &[u8
 /// The end of an initializer.
 #[tactic(auto, using(hierarchy::specs::Subclasses::itself))]
 fn end(program: &Program, _last: Option<Completed>, throws: bool) -> Does
-    ensures { MayDo program.now (any_bodies {S = ScriptedFacts}) _last result }
+    ensures { MayDo program.now (any_bodies (λ (s : ScriptedFacts). s.done ≡ 5)) _last result }
 {
     if throws {
         return Does::Over(Some(program.built_in(BuiltIn::Throwable)));
@@ -146,7 +146,7 @@ fn end(program: &Program, _last: Option<Completed>, throws: bool) -> Does
 impl Bodies for Scripted {
     ghost use Rattle.thread_tests.specs.AnyBodies.{any_bodies, may_wait};
 
-    ghost making = { λ p. any_bodies };
+    ghost making = { λ p. any_bodies (λ s. s.done ≡ 5) };
 
     fn start(&mut self, _alloc: Global, _program: &Program, _class: ClassId) {
         self.depth = self.depth.saturating_add(1);
@@ -172,10 +172,6 @@ impl Bodies for Scripted {
         }
     }
 
-    fn waits(&self, _program: &Program) -> bool {
-        self.done == 5
-    }
-
     fn get(&mut self, _program: &Program, value: Value) {
         self.read = Some(value);
     }
@@ -188,9 +184,21 @@ impl Bodies for Scripted {
         replacement(program, thrown)
     }
 
-    fn end(&mut self, _program: &Program) {}
-
     ghost waits_on = { may_wait };
+}
+
+impl Lends<()> for Scripted {
+    ghost use Rattle.bodies.specs.Lending.{nothing_shared};
+
+    ghost lending = { nothing_shared };
+
+    fn exchange(&mut self, _shared: &mut ()) {}
+
+    fn waits(&self, _program: &Program, _shared: &()) -> bool {
+        self.done == 5
+    }
+
+    fn end(&mut self, _program: &Program) {}
 }
 
 /// The run of a main class by such bodies.
@@ -243,7 +251,7 @@ fn ordered_run_of(alloc: Global, throws: bool) -> Option<Report> {
     }
     let mut bodies = Vec::new(alloc);
     bodies.push(Scripted::new(throws)).ok()?;
-    run_ordered(alloc, &program, &[main], &[], bodies).ok()
+    run_ordered(alloc, &program, &[main], &[], bodies, ()).ok()
 }
 
 #[test]

@@ -1,0 +1,56 @@
+//! What the threads of a run share.
+
+ghost use Rattle.std.specs.Prelude.{◌≡◌, ◌↔◌, IsTrue};
+ghost use Rattle.interpreter.specs.TurnRun.{IsKeptOut, objects_at_start, objects_lent};
+
+use crate::interpreter::Interpreter;
+use crate::phase::Phase;
+use heap::{Heap, Monitors};
+use std::alloc::Global;
+use std::mem::swap;
+
+/// What was made, and who holds which monitor.
+#[derive(Debug, Drop)]
+pub struct Objects {
+    /// What was made.
+    pub(crate) heap: Heap,
+    /// Who holds which monitor.
+    pub(crate) monitors: Monitors,
+}
+
+impl Objects {
+    /// Nothing was made yet, and nobody holds a monitor. Takes no memory.
+    pub fn new(alloc: Global) -> Self
+        ensures { result ≡ objects_at_start }
+    {
+        Objects {
+            heap: Heap::new(alloc),
+            monitors: Monitors::new(alloc),
+        }
+    }
+}
+
+impl Interpreter {
+    /// Takes these objects, and gives its own in their place.
+    pub(crate) fn exchange(&mut self, objects: &mut Objects)
+        ensures own { self.new ≡ objects_lent.with_shared self.old objects.old }
+        ensures given { objects.new ≡ objects_lent.shared_of self.old }
+    {
+        swap(&mut self.heap, &mut objects.heap);
+        swap(&mut self.monitors, &mut objects.monitors);
+    }
+
+    /// Whether it is to enter a monitor that another thread holds, where it has these objects.
+    #[tactic(auto, using(crate::proofs::TakingTurns::not_at_a_monitor, crate::proofs::TakingTurns::at_a_held_monitor, crate::proofs::TakingTurns::at_a_free_monitor))]
+    pub(crate) fn is_kept_out(&self, objects: &Objects) -> bool
+        ensures { IsTrue result ↔ IsKeptOut (objects_lent.with_shared self.now objects.now) }
+    {
+        let Phase::Locks(monitor, _) = self.phase else {
+            return false;
+        };
+        match objects.monitors.holder(monitor) {
+            Some(holder) => holder.thread != self.thread,
+            None => false,
+        }
+    }
+}

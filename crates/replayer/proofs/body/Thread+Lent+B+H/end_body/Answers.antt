@@ -1,0 +1,16 @@
+use Rattle.bodies.specs.Lending.{lent_bodies}
+use Rattle.std.proofs.Common.{sym}
+use Rattle.replayer.proofs.Acting.{none_of, main_returns, main_throws, class_returns, class_throws}
+use Rattle.replayer.proofs.body.Thread+Lent+B+H.end_body.Goals as goal
+
+pub returns-in-None-clause-going : goal.returns-in-None-clause-going
+returns-in-None-clause-going g c = main_returns c.args.program.now (lent_bodies g.B.Lends.lending (g.B.Bodies.making c.args.program.now)) c.args.log.now c.args.self.now c.args.thrown c.in-None.is (sym c.if-not-is_running.ensures) c.requires
+
+pub returns-in-Some-clause-going : goal.returns-in-Some-clause-going
+returns-in-Some-clause-going g c = main_throws c.args.program.now (lent_bodies g.B.Lends.lending (g.B.Bodies.making c.args.program.now)) c.args.log.now c.args.self.now c.args.thrown c.in-Some.throwable c.in-Some.is (sym c.if-not-is_running.ensures) c.requires
+
+pub returns-in_default-clause-going : goal.returns-in_default-clause-going
+returns-in_default-clause-going g c = class_returns c.args.program.now (lent_bodies g.B.Lends.lending (g.B.Bodies.making c.args.program.now)) c.args.log.now c.args.self.now c.end_body.new.self c.args.thrown (none_of c.args.thrown c.in_default.not-Some) (sym c.if-not-is_running.ensures) c.end_body.ensures.standing c.requires
+
+pub returns-clause-going : goal.returns-clause-going
+returns-clause-going g c = class_throws c.args.program.now (lent_bodies g.B.Lends.lending (g.B.Bodies.making c.args.program.now)) c.args.log.now c.args.self.now c.end_body-2.new.self c.replace-error.new.self c.args.thrown c.in-Some-thrown.throwable c.replace-error.result c.in-Some-thrown.is (sym c.if-not-is_running.ensures) c.end_body-2.ensures.standing c.replace-error.ensures.error c.replace-error.ensures.replaces c.requires

@@ -1,0 +1,16 @@
+use Rattle.bodies.specs.Lending.{lent_bodies}
+use Rattle.std.proofs.Common.{◌≡◌, List, Some, sym, subst, ◌∙◌}
+use Rattle.statics.specs.declared.static_field.StaticField.{StaticField}
+use Rattle.init_core.specs.Interleaving.{of_class}
+use Rattle.init_core.specs.StaticValue.{value_of}
+use Rattle.replayer.proofs.Acting.{read_done, read_was_made}
+use Rattle.replayer.proofs.body.Thread+Lent+B+H.read.Goals as goal
+
+pub add-requires-clause-done : goal.add-requires-clause-done
+add-requires-clause-done g c =
+    let st = c.state.ensures c.args.program.now c.requires.going.log in
+    read_done c.args.program.now (lent_bodies g.B.Lends.lending (g.B.Bodies.making c.args.program.now)) c.args.log.now c.args.self.now c.args.class c.args.field c.value-value.result c.requires
+    (subst (λ (fs : List StaticField). value_of fs c.args.field (of_class c.args.class c.args.log.now.events.items) ≡ Some c.value-value.result) st.fields (sym (st.state.values c.args.field) ∙ c.value-value.ensures))
+
+pub returns-clause-stepped : goal.returns-clause-stepped
+returns-clause-stepped g c = read_was_made c.args.program.now (lent_bodies g.B.Lends.lending (g.B.Bodies.making c.args.program.now)) c.args.log.now c.args.self.now c.add.new.self c.forget_last.new.self c.get.new.self c.args.class c.args.field c.value-value.result c.requires c.get.ensures.gets c.in_ok-add.ensures.threads c.in_ok-add.ensures.log c.in_ok-add.ensures.events c.forget_last.ensures.standing

@@ -1,0 +1,63 @@
+use Rattle.std.proofs.Common.{ℕ, refl, subst, ◌∙◌}
+use Rattle.bodies.specs.Lending.{lent_bodies}
+use Rattle.replayer.specs.declared.thread.Turn.TheVariants as turn
+use Rattle.replayer.specs.Going.{TurnsTo}
+use Rattle.replayer.specs.OrderedRun.{HasUsed, WaitsAfter, WaitsAt}
+use Rattle.replayer.specs.Turning.{HasTurned}
+use Rattle.replayer.proofs.Replaced.{IsReplaced, came, ended_now, none_else, number_is, went_on}
+use Rattle.replayer.proofs.Others.{turns_by}
+use Rattle.replayer.proofs.Turned.{has_used, replaced_in_turn, shared_now, then_by}
+use Rattle.replayer.proofs.run.Run+Lent+B+H+H.go.Goals as goal
+
+pub returns-in-Ended : goal.returns-in-Ended
+returns-in-Ended g c =
+    let p = c.args.program.now in
+    let M = lent_bodies g.B.Lends.lending (g.B.Bodies.making p) in
+    let U = HasUsed c.args.self.now.shared.first.value in
+    let W = WaitsAfter g.B.Lends.lending (g.B.Bodies.making p) c.args.self.now.shared.first.value in
+    let w = c.index_mut-thread.result.now in
+    let same = c.in_ok-turn.ensures.same in
+    let left = c.end.ensures.same in
+    let h : IsReplaced p M U W c.args.number c.args.self.now _ w c.end.new.self = record { within = c.requires.number; was = c.index_mut-thread.ensures.value; now = refl; number = left.number ∙ same.number; main = left.main ∙ same.main; start = left.start ∙ same.start } in
+    let both = then_by same.number c.in_ok-turn.ensures.turned c.end.ensures.turned in
+    let turned = subst (λ (n : ℕ). HasTurned n c.args.self.now.shared c.end.new.shared w.bodies.uses c.end.new.self.bodies.uses) (number_is p M U W h c.requires.going) both in
+    let step = subst (TurnsTo p M (WaitsAt g.B.Lends.lending (g.B.Bodies.making p) c.advance.new.shared.state) c.args.self.now.log w c.advance.new.log c.advance.new.self) c.in-Ended.is c.in_ok-turn.ensures.turn in
+    let x = ended_now p M U W c.args.number c.args.self.now _ w c.advance.new.self c.end.new.self c.in-Ended.done h same left (none_else w.done (λ o q. c.in_default.not-Some o q)) c.end.ensures.ends
+    step.0 step.1 c.requires.going in
+    record { going = x.going; in_turn = replaced_in_turn p M U W h turned c.requires.in_turn; first = turned.first; turned = (turned.turned, turned.own, turned.turns); gone = x.gone; others = x.others; there = x.there }
+
+pub returns-in-Comes : goal.returns-in-Comes
+returns-in-Comes g c =
+    let p = c.args.program.now in
+    let M = lent_bodies g.B.Lends.lending (g.B.Bodies.making p) in
+    let U = HasUsed c.args.self.now.shared.first.value in
+    let W = WaitsAfter g.B.Lends.lending (g.B.Bodies.making p) c.args.self.now.shared.first.value in
+    let w = c.index_mut-thread.result.now in
+    let same = c.in_ok-turn.ensures.same in
+    let h : IsReplaced p M U W c.args.number c.args.self.now _ w c.advance.new.self = record { within = c.requires.number; was = c.index_mut-thread.ensures.value; now = refl; number = same.number; main = same.main; start = same.start } in
+    let turned = subst (λ (n : ℕ). HasTurned n c.args.self.now.shared c.advance.new.shared w.bodies.uses c.advance.new.self.bodies.uses) (number_is p M U W h c.requires.going) c.in_ok-turn.ensures.turned in
+    let in_turn = replaced_in_turn p M U W h turned c.requires.in_turn in
+    let used = has_used p M U W h turned.first in_turn in
+    let x = came p M U W c.args.number c.args.self.now _ w c.advance.new.self h same (none_else w.done (λ o q. c.in_default.not-Some o q))
+    (turns_by p M (WaitsAt g.B.Lends.lending (g.B.Bodies.making p) c.advance.new.shared.state) (W c.advance.new.shared.turns.items c.args.number) c.args.self.now.log w c.advance.new.log c.advance.new.self turn.Comes
+    (λ waits. (used, subst (λ m. WaitsAt g.B.Lends.lending (g.B.Bodies.making p) m c.advance.new.self.bodies) (shared_now c.args.self.now _ turned.first in_turn) waits))
+    (subst (TurnsTo p M (WaitsAt g.B.Lends.lending (g.B.Bodies.making p) c.advance.new.shared.state) c.args.self.now.log w c.advance.new.log c.advance.new.self) c.in-Comes.is c.in_ok-turn.ensures.turn)) c.requires.going in
+    record { going = x.going; in_turn = in_turn; first = turned.first; turned = (turned.turned, turned.own, turned.turns); gone = x.gone; others = x.others; there = x.there }
+
+pub returns-in_default-2 : goal.returns-in_default-2
+returns-in_default-2 g c =
+    let p = c.args.program.now in
+    let M = lent_bodies g.B.Lends.lending (g.B.Bodies.making p) in
+    let U = HasUsed c.args.self.now.shared.first.value in
+    let W = WaitsAfter g.B.Lends.lending (g.B.Bodies.making p) c.args.self.now.shared.first.value in
+    let w = c.index_mut-thread.result.now in
+    let same = c.in_ok-turn.ensures.same in
+    let h : IsReplaced p M U W c.args.number c.args.self.now _ w c.advance.new.self = record { within = c.requires.number; was = c.index_mut-thread.ensures.value; now = refl; number = same.number; main = same.main; start = same.start } in
+    let turned = subst (λ (n : ℕ). HasTurned n c.args.self.now.shared c.advance.new.shared w.bodies.uses c.advance.new.self.bodies.uses) (number_is p M U W h c.requires.going) c.in_ok-turn.ensures.turned in
+    let in_turn = replaced_in_turn p M U W h turned c.requires.in_turn in
+    let used = has_used p M U W h turned.first in_turn in
+    let x = went_on p M U W c.args.number c.args.self.now _ w c.advance.new.self c.in_ok-turn.turn h same.gave_up same.done (none_else w.done (λ o q. c.in_default.not-Some o q)) c.in_ok-turn.ensures.moves c.in_default-2.not-Comes c.in_default-2.not-Ended c.in_ok-turn.ensures.still used
+    (turns_by p M (WaitsAt g.B.Lends.lending (g.B.Bodies.making p) c.advance.new.shared.state) (W c.advance.new.shared.turns.items c.args.number) c.args.self.now.log w c.advance.new.log c.advance.new.self c.in_ok-turn.turn
+    (λ waits. (used, subst (λ m. WaitsAt g.B.Lends.lending (g.B.Bodies.making p) m c.advance.new.self.bodies) (shared_now c.args.self.now _ turned.first in_turn) waits))
+    c.in_ok-turn.ensures.turn) c.requires.going in
+    record { going = x.going; in_turn = in_turn; first = turned.first; turned = (turned.turned, turned.own, turned.turns); gone = x.gone; others = x.others; there = x.there }

@@ -1,0 +1,35 @@
+use Rattle.std.proofs.Common.{rules, ◌≡◌, subst, ◌∙◌}
+use Rattle.bodies.specs.Lending.{lent_bodies}
+use Rattle.replayer.specs.declared.thread.Turn.TheVariants as turn
+use Rattle.replayer.specs.Going.{TurnsTo}
+use Rattle.replayer.specs.OrderedRun.{WaitsAt}
+use Rattle.replayer.proofs.Acting.{turns_from}
+use Rattle.replayer.proofs.Turned.{then_by}
+use Rattle.replayer.proofs.thread.Thread+Lent+B+H.advance.Goals as goal
+
+pub returns-then-eq-clause-turn : goal.returns-then-eq-clause-turn
+returns-then-eq-clause-turn g c =
+    let p = c.args.program.now in
+    let is : c.in_ok-turn.turn ≡ turn.Waits = search rules in
+    let x = subst (TurnsTo p (lent_bodies g.B.Lends.lending (g.B.Bodies.making p)) (WaitsAt g.B.Lends.lending (g.B.Bodies.making p) c.turn.new.shared.state) c.turns.log c.turns.self c.turn.new.log c.turn.new.self) is c.in_ok-turn.ensures.turn in
+    (x.0, x.1 ∙ c.turns.invariant.log)
+
+pub returns-else-has_gone_on-clause-turn : goal.returns-else-has_gone_on-clause-turn
+returns-else-has_gone_on-clause-turn g c =
+    let p = c.args.program.now in
+    turns_from p (lent_bodies g.B.Lends.lending (g.B.Bodies.making p)) (WaitsAt g.B.Lends.lending (g.B.Bodies.making p) c.turn.new.shared.state) c.args.log.now c.turns.log c.args.self.now c.turns.self c.turn.new.log c.turn.new.self c.in_ok-turn.turn c.turns.invariant.log c.turns.invariant.same c.in_ok-turn.ensures.turn
+
+pub turns-preserved : goal.turns-preserved
+turns-preserved g c =
+    let p = c.args.program.now in
+    let is : c.in_ok-turn.turn ≡ turn.Silent = search rules in
+    let x = subst (TurnsTo p (lent_bodies g.B.Lends.lending (g.B.Bodies.making p)) (WaitsAt g.B.Lends.lending (g.B.Bodies.making p) c.turn.new.shared.state) c.turns.log c.turns.self c.turn.new.log c.turn.new.self) is c.in_ok-turn.ensures.turn in
+    let before = c.turns.invariant.same in
+    let same = c.in_ok-turn.ensures.same in
+    record {
+      rests = x.0;
+      log = x.1 ∙ c.turns.invariant.log;
+      same = record { number = same.number ∙ before.number; main = same.main ∙ before.main; start = same.start ∙ before.start; gave_up = same.gave_up ∙ before.gave_up; done = same.done ∙ before.done };
+      turned = then_by before.number c.turns.invariant.turned c.in_ok-turn.ensures.turned;
+      still = λ q. absurd cc;
+    }

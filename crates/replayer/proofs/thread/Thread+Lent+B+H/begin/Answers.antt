@@ -1,0 +1,11 @@
+use Rattle.bodies.specs.Lending.{lent_bodies}
+use Rattle.std.proofs.Common.{rules, ◌≡◌, ◌∷◌, [], None, false, refl}
+use Rattle.init_core.specs.declared.frames.Phase.TheVariants.{Looking}
+use Rattle.init_core.specs.Leads.{frame, standing}
+use Rattle.replayer.proofs.Stepping.{starts}
+use Rattle.replayer.proofs.thread.Thread+Lent+B+H.begin.Goals as goal
+
+pub returns-clause-going : goal.returns-clause-going
+returns-clause-going g c =
+    let is : c.request.new.self ≡ standing (frame c.args.main (Looking false) ∷ []) None = search rules in
+    starts c.args.program.now (lent_bodies g.B.Lends.lending (g.B.Bodies.making c.args.program.now)) c.args.log.now _ c.requires.number c.requires.main c.requires.log c.requires.none is c.of.ensures refl refl

@@ -1,5 +1,0 @@
-use Rattle.replayer.proofs.Stepping.{ran}
-use Rattle.replayer.proofs.thread.Thread.run_body.Goals as goal
-
-pub returns-clause-stepped : goal.returns-clause-stepped
-returns-clause-stepped g c = ran c.args.program.now (g.B.Bodies.making c.args.program.now) c.args.log.now c.args.self.now c.add.new.self c.run_body.new.self c.start.new.self c.args.class c.requires.next c.requires.before c.run_body.ensures.standing c.start.ensures c.in_ok-add.ensures.threads c.in_ok-add.ensures.log c.in_ok-add.ensures.events c.requires.going

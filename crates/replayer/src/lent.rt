@@ -1,0 +1,182 @@
+//! What runs the bodies of a thread, which has what all threads share for each of its steps.
+
+ghost use Rattle.std.specs.Prelude.{◌≡◌, ◌↔◌, ◌++◌, ◌∷◌, [], IsTrue};
+ghost use Rattle.hierarchy.specs.Subclasses.{IsError, IsThrowable};
+ghost use Rattle.init_core.specs.ProcedureWord.{GoesOn, IsOfFiles};
+ghost use Rattle.bodies.specs.Doing.{MayDo};
+ghost use Rattle.bodies.specs.Lending.{lent_at_start, lent_bodies};
+ghost use Rattle.replayer.specs.Turning.{HasTurned};
+
+use crate::shared::Shared;
+use bodies::{Does, Lends};
+use hierarchy::{ClassId, Program, Value};
+use http_server::Log;
+use init_core::Completed;
+use std::alloc::Global;
+use std::marker::Model;
+use std::snapshot::Snapshot;
+
+/// What runs the bodies of a thread, and, in proofs alone, what it met and left at each of its steps.
+#[derive(Drop)]
+pub(crate) struct Lent<B, H> {
+    bodies: B,
+    uses: Log<Snapshot<H>, H>,
+}
+
+impl<B, H> Model for Lent<B, H> {
+    ghost use Rattle.std.specs.Prelude.{map};
+    ghost use Rattle.bodies.specs.Lending.{Lent};
+
+    ghost Value = { Lent B H };
+
+    ghost view = { λ l. record { state = l.bodies; uses = map (λ u. (u.0.value, u.1)) l.uses.items } };
+}
+
+impl<H, B: Lends<H>> Lent<B, H> {
+    pub(crate) fn new(bodies: B) -> Self
+        ensures { result ≡ lent_at_start bodies }
+    {
+        Lent {
+            bodies,
+            uses: Log::new(),
+        }
+    }
+
+    /// The thread of this number met this, and has left what is there now.
+    fn note(&mut self, number: usize, met: Snapshot<H>, shared: &mut Shared<H>)
+        ensures bodies { self.new.state ≡ self.old.state }
+        ensures uses { self.new.uses ≡ self.old.uses ++ (met.value, shared.old.state) ∷ [] }
+        ensures first { shared.new.first ≡ shared.old.first }
+        ensures state { shared.new.state ≡ shared.old.state }
+        ensures turns { shared.new.turns.items ≡ shared.old.turns.items ++ (number, shared.old.state) ∷ [] }
+    {
+        self.uses = self.uses.and(&met, &shared.state);
+        shared.note(number);
+    }
+
+    pub(crate) fn start(
+        &mut self,
+        alloc: Global,
+        program: &Program,
+        number: usize,
+        shared: &mut Shared<H>,
+        class: ClassId,
+    )
+        requires { IsOfFiles program.now class }
+        ensures starts { (lent_bodies B.lending (B.making program.now)).starts self.old class self.new }
+        ensures turned { HasTurned number shared.old shared.new self.old.uses self.new.uses }
+    {
+        let met = Snapshot::of(&shared.state);
+        self.bodies.exchange(&mut shared.state);
+        self.bodies.start(alloc, program, class);
+        self.bodies.exchange(&mut shared.state);
+        self.note(number, met, shared);
+    }
+
+    pub(crate) fn enter(
+        &mut self,
+        alloc: Global,
+        program: &Program,
+        number: usize,
+        shared: &mut Shared<H>,
+        class: ClassId,
+    )
+        requires { IsOfFiles program.now class }
+        ensures enters { (lent_bodies B.lending (B.making program.now)).enters self.old class self.new }
+        ensures turned { HasTurned number shared.old shared.new self.old.uses self.new.uses }
+    {
+        let met = Snapshot::of(&shared.state);
+        self.bodies.exchange(&mut shared.state);
+        self.bodies.enter(alloc, program, class);
+        self.bodies.exchange(&mut shared.state);
+        self.note(number, met, shared);
+    }
+
+    pub(crate) fn next(
+        &mut self,
+        alloc: Global,
+        program: &Program,
+        number: usize,
+        shared: &mut Shared<H>,
+        last: Option<Completed>,
+    ) -> Does
+        requires { GoesOn last }
+        ensures does { (lent_bodies B.lending (B.making program.now)).does self.old last result self.new }
+        ensures fits { MayDo program.now (lent_bodies B.lending (B.making program.now)) last result }
+        ensures turned { HasTurned number shared.old shared.new self.old.uses self.new.uses }
+    {
+        let met = Snapshot::of(&shared.state);
+        self.bodies.exchange(&mut shared.state);
+        let does = self.bodies.next(alloc, program, last);
+        self.bodies.exchange(&mut shared.state);
+        self.note(number, met, shared);
+        does
+    }
+
+    /// Whether the innermost body stands at something that another thread holds, and so can't go on.
+    pub(crate) fn waits(&self, program: &Program, shared: &Shared<H>) -> bool
+        ensures { IsTrue result ↔ (B.making program.now).waits (B.lending.with_shared self.now.state shared.now.state) }
+    {
+        self.bodies.waits(program, &shared.state)
+    }
+
+    pub(crate) fn get(
+        &mut self,
+        program: &Program,
+        number: usize,
+        shared: &mut Shared<H>,
+        value: Value,
+    )
+        ensures gets { (lent_bodies B.lending (B.making program.now)).gets self.old value self.new }
+        ensures turned { HasTurned number shared.old shared.new self.old.uses self.new.uses }
+    {
+        let met = Snapshot::of(&shared.state);
+        self.bodies.exchange(&mut shared.state);
+        self.bodies.get(program, value);
+        self.bodies.exchange(&mut shared.state);
+        self.note(number, met, shared);
+    }
+
+    pub(crate) fn leave(&mut self, program: &Program, number: usize, shared: &mut Shared<H>)
+        ensures ended { (lent_bodies B.lending (B.making program.now)).is_ended self.old self.new }
+        ensures turned { HasTurned number shared.old shared.new self.old.uses self.new.uses }
+    {
+        let met = Snapshot::of(&shared.state);
+        self.bodies.exchange(&mut shared.state);
+        self.bodies.leave(program);
+        self.bodies.exchange(&mut shared.state);
+        self.note(number, met, shared);
+    }
+
+    pub(crate) fn replace(
+        &mut self,
+        alloc: Global,
+        program: &Program,
+        number: usize,
+        shared: &mut Shared<H>,
+        thrown: ClassId,
+    ) -> ClassId
+        requires { IsThrowable program.now thrown }
+        ensures replaces { (lent_bodies B.lending (B.making program.now)).replaces self.old thrown result self.new }
+        ensures error { IsError program.now result }
+        ensures turned { HasTurned number shared.old shared.new self.old.uses self.new.uses }
+    {
+        let met = Snapshot::of(&shared.state);
+        self.bodies.exchange(&mut shared.state);
+        let error = self.bodies.replace(alloc, program, thrown);
+        self.bodies.exchange(&mut shared.state);
+        self.note(number, met, shared);
+        error
+    }
+
+    pub(crate) fn end(&mut self, program: &Program, number: usize, shared: &mut Shared<H>)
+        ensures ends { (lent_bodies B.lending (B.making program.now)).ends self.old self.new }
+        ensures turned { HasTurned number shared.old shared.new self.old.uses self.new.uses }
+    {
+        let met = Snapshot::of(&shared.state);
+        self.bodies.exchange(&mut shared.state);
+        self.bodies.end(program);
+        self.bodies.exchange(&mut shared.state);
+        self.note(number, met, shared);
+    }
+}

@@ -1,0 +1,38 @@
+//! What all threads of a run share.
+
+ghost use Rattle.std.specs.Prelude.{◌≡◌, ◌++◌, ◌∷◌, []};
+
+use http_server::Log;
+use std::snapshot::Snapshot;
+
+/// What all threads share, and how they left it, turn by turn. The turns and the first state are there in proofs alone.
+#[derive(Drop)]
+pub(crate) struct Shared<H> {
+    pub first: Snapshot<H>,
+    pub state: H,
+    pub turns: Log<usize, H>,
+}
+
+impl<H> Shared<H> {
+    /// No thread had a turn.
+    pub(crate) fn new(state: H) -> Self
+        ensures first { result.first.value ≡ state }
+        ensures state { result.state ≡ state }
+        ensures turns { result.turns.items ≡ [] }
+    {
+        Shared {
+            first: Snapshot::of(&state),
+            state,
+            turns: Log::new(),
+        }
+    }
+
+    /// The thread of this number has left it so.
+    pub(crate) fn note(&mut self, number: usize)
+        ensures first { self.new.first ≡ self.old.first }
+        ensures state { self.new.state ≡ self.old.state }
+        ensures turns { self.new.turns.items ≡ self.old.turns.items ++ (number, self.old.state) ∷ [] }
+    {
+        self.turns = self.turns.and(&number, &self.state);
+    }
+}
