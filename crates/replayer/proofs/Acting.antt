@@ -202,7 +202,6 @@ module _ {S : Type 0} (p : LinkedProgram) (M : Making S) where
         number = h.going.number;
         word = stops_at M p w.number w.start.value w.main w.procedure.last e (of_thread w.number l.events.items) h.from z fits (w.bodies, h.come, ended) (in_main_leads l w h.from none (h.body.main none) h.going.stands);
         reason = λ y r. let it : e ≡ y = cc in subst (IsWhy p M l.threads.value gave_up) it why;
-        gave_up = λ y. (e, refl);
       }
 
   -- the body of a class is over
@@ -231,7 +230,6 @@ module _ {S : Type 0} (p : LinkedProgram) (M : Making S) where
         number = x.going.number;
         word = ends_main p w.number (maker_of p M) w.start.value w.main r x.goes_on is made (in_main_leads l w x.from none (x.body.main none) x.going.stands);
         reason = λ e z. absurd (other e z);
-        gave_up = λ y. absurd (x.going.gone y (goes_so w x.body x.goes_on));
       }
 
   pub main_returns : (l : EventLog) (w : Thread S) (thrown : Option ClassId) → thrown ≡ None → is_running w.procedure.frames ≡ false → IsDoing p M l (does.Over thrown) w → IsOver p M l Normal w

@@ -28,7 +28,7 @@ use Rattle.trace.specs.declared.report.ThreadOutcome.TheVariants as outcome
 use Rattle.trace.specs.Output.{output_of}
 use Rattle.bodies.specs.Lending.{Lending, Lent, lent_at_start, lent_bodies}
 use Rattle.bodies.specs.Making.{Making, maker_of}
-use Rattle.bodies.specs.Runs.{IsOutcome}
+use Rattle.bodies.specs.Runs.{IsOutcome, IsThreadRun, AreOutcomes}
 use Rattle.replayer.specs.declared.log.EventLog.{EventLog}
 use Rattle.replayer.specs.declared.run.Run.{Run}
 use Rattle.replayer.specs.declared.thread.Thread.{Thread}
@@ -201,7 +201,7 @@ module _ {S H : Type 0} (p : LinkedProgram) (M : Making (Lent S H)) where
         let inside : t < length r.threads.items = omega (arith, many, low) in
         let any = some_of r.threads.items t inside in
         let d = all t any inside in
-        done_ended p M U W later t r any d.0 (outcomes_of r) [] [] inside going gone d.1 none_to_come) in
+        done_ended p M U W later t r any d.0 (outcomes_of r) [] [] inside gone d.1 none_to_come) in
         let events : leads.made ++ [] ≡ r.log.events.items = append-nil leads.made ∙ sym (leads.events ∙ ap (λ (es : List Event). es ++ leads.made) none) in
         let turns : leads.turned ++ [] ≡ r.shared.turns.items = append-nil leads.turned ∙ sym (leads.turns ∙ ap (λ (xs : List (ℕ × H)). xs ++ leads.turned) no_turns) in
         subst (λ (es : List Event). Follows p M U W (starts_of r) (mains_of r) (outcomes_of r) order [] es [] r.log.events.items r.shared.turns.items) none

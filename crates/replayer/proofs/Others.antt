@@ -63,7 +63,6 @@ module _ {S : Type 0} (p : LinkedProgram) (M : Making S) where
     word = subst (λ (es : List Event). ThreadWordOf p w.number (maker_of p M) w.start.value w.main es r o.end) (sym (own_as_was t w.number l m made other)) o.word;
     ends = o.ends;
     reason = λ e q. subst (λ x. IsWhy p M x.value w.gave_up e) (sym made.threads) (o.reason e q);
-    gave_up = o.gave_up;
   }
 
   pub others_there : (t : ℕ) (l m : EventLog) (w : Thread S) → HasMade t l m → IsLog p m → w.number ≢ t → IsThere p M l w → IsThere p M m w
@@ -82,7 +81,6 @@ module _ {S : Type 0} (p : LinkedProgram) (M : Making S) where
         (subst (λ (m : ClassId). ThreadWordOf p w.number (maker_of p M) w.start.value m (of_thread w.number l.events.items) r w.bodies) (sym same.main) h.word));
     ends = ends;
     reason = λ e q. subst (λ (b : Bool). IsWhy p M l.threads.value b e) (sym same.gave_up) (h.reason e q);
-    gave_up = λ y. h.gave_up (sym same.gave_up ∙ y);
   })
 
   -- a thread that can't go on, or does

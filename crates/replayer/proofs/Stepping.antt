@@ -16,7 +16,7 @@ use Rattle.init_core.specs.declared.frames.Ending.{Ending}
 use Rattle.init_core.specs.declared.frames.Ending.TheVariants as ending
 use Rattle.init_core.specs.declared.frames.Frame.{Frame}
 use Rattle.init_core.specs.declared.frames.Outcome.{Outcome}
-use Rattle.init_core.specs.declared.frames.Outcome.TheVariants.{Normal, Abrupt, Ended}
+use Rattle.init_core.specs.declared.frames.Outcome.TheVariants.{Normal, Ended}
 use Rattle.init_core.specs.declared.frames.Phase.{Phase}
 use Rattle.init_core.specs.declared.frames.Phase.TheVariants.{Looking, Needing, Running, EndingBy}
 use Rattle.init_core.specs.declared.procedure.Answer.{Answer}
@@ -376,12 +376,7 @@ module _ {S : Type 0} (p : LinkedProgram) (M : Making S) where
         number = g.number;
         word = main_threw p w.number (maker_of p M) w.start.value w.main d.outcome other (before_stands l w (Some d) none last b g).leads;
         reason = λ e r. g.reason e (ap (λ (fs : List Frame). ending_error (standing fs w.procedure.last)) none ∙ (ap given_up last ∙ ap ended_by r));
-        gave_up = λ y. by d.outcome (λ n. g.gone y (ap (λ (fs : List Frame). ending_error (standing fs w.procedure.last)) none ∙ (ap given_up last ∙ n)));
-      } where
-        by : (r : Outcome) → ended_by r ≢ None → (e : ClassId) × (r ≡ Ended e)
-        by Normal n = absurd (n refl)
-        by (Abrupt e) n = absurd (n refl)
-        by (Ended e) n = (e, refl)
+      }
 
   -- something was completed
   pub has_begun : (l : EventLog) (w : Thread S) → next_of w.procedure.frames ≡ next.Idle → w.in_main ≡ false → w.procedure.last ≡ None → Going p M l w → ⊥

@@ -96,7 +96,6 @@ pub record IsOver {S : Type 0} (p : LinkedProgram) (M : Making S) (l : EventLog)
   pub number : w.number < l.threads.value
   pub word : ThreadWordOf p w.number (maker_of p M) w.start.value w.main (of_thread w.number l.events.items) r w.bodies
   pub reason : (e : ClassId) → r ≡ Ended e → IsWhy p M l.threads.value w.gave_up e
-  pub gave_up : w.gave_up ≡ true → (e : ClassId) × (r ≡ Ended e)
 
 -- and has left what it held
 pub record HasLeft {S : Type 0} (p : LinkedProgram) (M : Making S) (l : EventLog) (r : Outcome) (w : Thread S) : Type 0 where
@@ -105,7 +104,6 @@ pub record HasLeft {S : Type 0} (p : LinkedProgram) (M : Making S) (l : EventLog
   pub word : ThreadWordOf p w.number (maker_of p M) w.start.value w.main (of_thread w.number l.events.items) r end
   pub ends : M.ends end w.bodies
   pub reason : (e : ClassId) → r ≡ Ended e → IsWhy p M l.threads.value w.gave_up e
-  pub gave_up : w.gave_up ≡ true → (e : ClassId) × (r ≡ Ended e)
 
 -- it waits in a body; W says which bodies wait
 pub record WaitsInside {S : Type 0} (p : LinkedProgram) (M : Making S) (W : S → Type 0) (l : EventLog) (w : Thread S) : Type 0 where

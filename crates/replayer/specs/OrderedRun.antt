@@ -9,7 +9,7 @@ use Rattle.init_core.specs.Decisions.{waits}
 use Rattle.init_core.specs.Interleaving.{of_thread, of_class, label_at}
 use Rattle.init_core.specs.Lawful.{IsInProgressByOther}
 use Rattle.init_core.specs.Standing.{Standing}
-use Rattle.trace.specs.declared.report.Limit.TheVariants.{Memory, Patience}
+use Rattle.trace.specs.declared.report.Limit.TheVariants.{Memory, Patience, Steps}
 use Rattle.trace.specs.declared.report.Limits.{Limits}
 use Rattle.trace.specs.declared.report.Report.{Report}
 use Rattle.trace.specs.declared.report.ThreadOutcome.{ThreadOutcome}
@@ -64,7 +64,7 @@ pub record HasEnded {H : Type 0} (outcomes : List ThreadOutcome) (gone : List �
   pub none : of_thread t rest ≡ []
   pub turns : AllByRecursion (λ turn. turn.0 ≢ t) more
   pub patient : slice_get outcomes t ≡ Some (outcome.Ended Patience) → Contains gone t
-  pub gave_up : Contains gone t → slice_get outcomes t ≡ Some (outcome.Ended Patience)
+  pub impatient : Contains gone t → slice_get outcomes t ≢ Some (outcome.Ended Steps)
 
 -- after the events h, with these events and turns to come, t can't go on
 abbrev pub IsStuck : {S H : Type 0} → LinkedProgram → Making S → (ℕ → S → Type 0) → List S → List ClassId → List ThreadOutcome → List ℕ → ℕ → List Event → List Event → List (ℕ × H) → Type 0

@@ -42,28 +42,14 @@ impl<H, B: Lends<H>> Lent<B, H> {
         }
     }
 
-    /// Takes what all threads share for a step.
-    fn take(&mut self, shared: &mut Shared<H>) -> Snapshot<H>
-        ensures met { result.value ≡ shared.old.state }
-        ensures own { self.new ≡ record self.old { state = B.lending.with_shared self.old.state shared.old.state } }
-        ensures state { shared.new.state ≡ B.lending.shared_of self.old.state }
+    /// The thread of this number met this, and has left what is there now.
+    fn note(&mut self, number: usize, met: Snapshot<H>, shared: &mut Shared<H>)
+        ensures bodies { self.new.state ≡ self.old.state }
+        ensures uses { self.new.uses ≡ self.old.uses ++ (met.value, shared.old.state) ∷ [] }
         ensures first { shared.new.first ≡ shared.old.first }
-        ensures turns { shared.new.turns ≡ shared.old.turns }
+        ensures state { shared.new.state ≡ shared.old.state }
+        ensures turns { shared.new.turns.items ≡ shared.old.turns.items ++ (number, shared.old.state) ∷ [] }
     {
-        let met = Snapshot::of(&shared.state);
-        self.bodies.exchange(&mut shared.state);
-        met
-    }
-
-    /// Gives it back after the step of the thread of this number, which met this.
-    fn give_back(&mut self, number: usize, met: Snapshot<H>, shared: &mut Shared<H>)
-        ensures own { self.new.state ≡ B.lending.with_shared self.old.state shared.old.state }
-        ensures uses { self.new.uses ≡ self.old.uses ++ (met.value, B.lending.shared_of self.old.state) ∷ [] }
-        ensures state { shared.new.state ≡ B.lending.shared_of self.old.state }
-        ensures first { shared.new.first ≡ shared.old.first }
-        ensures turns { shared.new.turns.items ≡ shared.old.turns.items ++ (number, B.lending.shared_of self.old.state) ∷ [] }
-    {
-        self.bodies.exchange(&mut shared.state);
         self.uses = self.uses.and(&met, &shared.state);
         shared.note(number);
     }
@@ -80,9 +66,11 @@ impl<H, B: Lends<H>> Lent<B, H> {
         ensures starts { (lent_bodies B.lending (B.making program.now)).starts self.old class self.new }
         ensures turned { HasTurned number shared.old shared.new self.old.uses self.new.uses }
     {
-        let met = self.take(shared);
+        let met = Snapshot::of(&shared.state);
+        self.bodies.exchange(&mut shared.state);
         self.bodies.start(alloc, program, class);
-        self.give_back(number, met, shared);
+        self.bodies.exchange(&mut shared.state);
+        self.note(number, met, shared);
     }
 
     pub(crate) fn enter(
@@ -97,9 +85,11 @@ impl<H, B: Lends<H>> Lent<B, H> {
         ensures enters { (lent_bodies B.lending (B.making program.now)).enters self.old class self.new }
         ensures turned { HasTurned number shared.old shared.new self.old.uses self.new.uses }
     {
-        let met = self.take(shared);
+        let met = Snapshot::of(&shared.state);
+        self.bodies.exchange(&mut shared.state);
         self.bodies.enter(alloc, program, class);
-        self.give_back(number, met, shared);
+        self.bodies.exchange(&mut shared.state);
+        self.note(number, met, shared);
     }
 
     pub(crate) fn next(
@@ -115,9 +105,11 @@ impl<H, B: Lends<H>> Lent<B, H> {
         ensures fits { MayDo program.now (lent_bodies B.lending (B.making program.now)) last result }
         ensures turned { HasTurned number shared.old shared.new self.old.uses self.new.uses }
     {
-        let met = self.take(shared);
+        let met = Snapshot::of(&shared.state);
+        self.bodies.exchange(&mut shared.state);
         let does = self.bodies.next(alloc, program, last);
-        self.give_back(number, met, shared);
+        self.bodies.exchange(&mut shared.state);
+        self.note(number, met, shared);
         does
     }
 
@@ -138,18 +130,22 @@ impl<H, B: Lends<H>> Lent<B, H> {
         ensures gets { (lent_bodies B.lending (B.making program.now)).gets self.old value self.new }
         ensures turned { HasTurned number shared.old shared.new self.old.uses self.new.uses }
     {
-        let met = self.take(shared);
+        let met = Snapshot::of(&shared.state);
+        self.bodies.exchange(&mut shared.state);
         self.bodies.get(program, value);
-        self.give_back(number, met, shared);
+        self.bodies.exchange(&mut shared.state);
+        self.note(number, met, shared);
     }
 
     pub(crate) fn leave(&mut self, program: &Program, number: usize, shared: &mut Shared<H>)
         ensures ended { (lent_bodies B.lending (B.making program.now)).is_ended self.old self.new }
         ensures turned { HasTurned number shared.old shared.new self.old.uses self.new.uses }
     {
-        let met = self.take(shared);
+        let met = Snapshot::of(&shared.state);
+        self.bodies.exchange(&mut shared.state);
         self.bodies.leave(program);
-        self.give_back(number, met, shared);
+        self.bodies.exchange(&mut shared.state);
+        self.note(number, met, shared);
     }
 
     pub(crate) fn replace(
@@ -165,9 +161,11 @@ impl<H, B: Lends<H>> Lent<B, H> {
         ensures error { IsError program.now result }
         ensures turned { HasTurned number shared.old shared.new self.old.uses self.new.uses }
     {
-        let met = self.take(shared);
+        let met = Snapshot::of(&shared.state);
+        self.bodies.exchange(&mut shared.state);
         let error = self.bodies.replace(alloc, program, thrown);
-        self.give_back(number, met, shared);
+        self.bodies.exchange(&mut shared.state);
+        self.note(number, met, shared);
         error
     }
 
@@ -175,8 +173,10 @@ impl<H, B: Lends<H>> Lent<B, H> {
         ensures ends { (lent_bodies B.lending (B.making program.now)).ends self.old self.new }
         ensures turned { HasTurned number shared.old shared.new self.old.uses self.new.uses }
     {
-        let met = self.take(shared);
+        let met = Snapshot::of(&shared.state);
+        self.bodies.exchange(&mut shared.state);
         self.bodies.end(program);
-        self.give_back(number, met, shared);
+        self.bodies.exchange(&mut shared.state);
+        self.note(number, met, shared);
     }
 }
