@@ -6,13 +6,14 @@ up to so many events whose events but the last are a beginning.
    tests/threads/check.py --all LENGTH
 
 A list goes on by events that leave it a beginning; sometimes it ends with any event, or with one that fits what its thread does and
-not its class. The last line is 'N passed, M failed'."""
+not its class. The lists are parted among the processors. The last line is 'N passed, M failed'."""
 import os
 import random
 import subprocess
 import sys
 import tempfile
 from collections import Counter
+from concurrent.futures import ProcessPoolExecutor
 from itertools import product
 from pathlib import Path
 
@@ -31,6 +32,8 @@ PROGRAMS = [
     ([".class E\n.super java/lang/Error\n", ".class F\n.field static y Ljava/lang/Object;\n.field static z I\n"], ["F", "E"]),
 ]
 LENGTH = 14
+# Into so many parts are the lists parted, however many processors there are, so that a seed gives the same lists everywhere.
+PARTS = 16
 
 
 def events_of(program):
@@ -90,38 +93,52 @@ class Set:
         return ran.stdout.removesuffix("\n") if right else f"{ran.stdout}{ran.stderr}status {ran.returncode}"
 
 
-def at_random(sets, count, seed):
-    """So many lists, each with its program."""
-    choices = random.Random(seed)
-    for _ in range(count):
+def at_random(sets, part, parts, count, seed):
+    """One part of so many lists, each with its program."""
+    choices = random.Random(f"{seed} {part} {parts}")
+    for _ in range(part, count, parts):
         of = choices.choice(sets)
         yield of, of.made(choices)
 
 
-def all_up_to(sets, length):
-    """All lists of up to so many events whose events but the last are a beginning, each with its program."""
+def all_up_to(sets, part, parts, length):
+    """One part, by the second event, of all lists of up to so many events whose events but the last are a beginning, each with its
+    program."""
     for of in sets:
         fronts = [[]]
-        for _ in range(length):
+        for count in range(length):
             longer = []
             for front in fronts:
-                for last in product(range(len(of.mains)), of.events):
+                for at, last in enumerate(product(range(len(of.mains)), of.events)):
+                    if count == 1 and at % parts != part:
+                        continue
                     events = [*front, last]
-                    yield of, events
+                    if count or not part:
+                        yield of, events
                     if not of.breaks(events):
                         longer.append(events)
             fronts = longer
 
 
-def compared(lists):
-    """Compares lists of events, which a call makes for the programs: what differed, and how many had which verdict."""
+def part_compared(lists, part, *given):
+    """Compares one part of the lists of events that a call makes for the programs: what differed, and how many had which verdict."""
     wrong, verdicts = [], Counter()
     with tempfile.TemporaryDirectory() as folder:
-        for of, events in lists([Set(number, folder) for number in range(len(PROGRAMS))]):
+        for of, events in lists([Set(number, folder) for number in range(len(PROGRAMS))], part, PARTS, *given):
             said, wanted = of.said(events), definitions.verdict_on(of.program, of.needs, of.mains, events)
             verdicts[wanted.split()[-1]] += 1
             if said != wanted:
                 wrong.append(f"{','.join(of.mains)}:\n{trace_of(events)}wanted: {wanted}\ncame: {said}")
+    return wrong, verdicts
+
+
+def compared(lists, *given):
+    """Compares all lists that a call makes so."""
+    wrong, verdicts = [], Counter()
+    with ProcessPoolExecutor() as pool:
+        for differed, found in pool.map(part_compared, *zip(*[(lists, part, *given) for part in range(PARTS)])):
+            wrong += differed
+            verdicts += found
     return wrong, verdicts
 
 
@@ -135,10 +152,9 @@ def main(words):
     if len(numbers) > 2 - is_all or len(numbers) < is_all or not all(word.isdigit() for word in numbers):
         sys.exit(__doc__)
     if is_all:
-        wrong, verdicts = compared(lambda sets: all_up_to(sets, int(numbers[0])))
+        wrong, verdicts = compared(all_up_to, int(numbers[0]))
     else:
-        count, seed = [*map(int, numbers), *(1000, 1)[len(numbers):]]
-        wrong, verdicts = compared(lambda sets: at_random(sets, count, seed))
+        wrong, verdicts = compared(at_random, *map(int, numbers), *(1000, 1)[len(numbers):])
     for it in wrong[:10]:
         print(it)
     print(f"check: {counts_of(verdicts)}", flush=True)

@@ -46,7 +46,7 @@ lent_bodies {H = H} L M = record {
   is_ended = λ s z. StepsWith L M.is_ended s z;
   replaces = λ s thrown e z. StepsWith L (λ u v. M.replaces u thrown e v) s z;
   ends = λ s z. StepsWith L M.ends s z;
-  limits = M.limits;
+  limits = λ l s. M.limits l s.state;
 }
 
 -- what a body does that has waited it does in the end

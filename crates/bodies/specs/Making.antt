@@ -9,7 +9,7 @@ use Rattle.init_core.specs.declared.event.Kind.TheVariants as kind
 use Rattle.init_core.specs.declared.frames.Completed.{Completed}
 use Rattle.init_core.specs.declared.frames.Outcome.{Outcome}
 use Rattle.init_core.specs.declared.frames.Outcome.TheVariants.{Normal, Abrupt, Ended}
-use Rattle.init_core.specs.ProcedureWord.{Maker, completed}
+use Rattle.init_core.specs.ProcedureWord.{GoesOn, Maker, completed}
 use Rattle.trace.specs.declared.report.Limit.{Limit}
 use Rattle.bodies.specs.declared.does.Does.{Does}
 use Rattle.bodies.specs.declared.does.Does.TheVariants.{Asks, Gets, Puts, Prints, Waits, Over}
@@ -32,13 +32,13 @@ pub record Making (S : Type 0) : Type 1 where
   pub replaces : S → ClassId → ClassId → S → Type 0
   -- the thread has ended
   pub ends : S → S → Type 0
-  -- a body may come to this limit
-  pub limits : Limit → Type 0
+  -- the machine has ended a body at this limit
+  pub limits : Limit → S → Type 0
 
--- Where the machine may end a body: where it stands, or at what it does next.
+-- Where the machine may end a body: where it stands, or, unless it has ended an active use in it, at what it does next.
 pub data HasCome {S : Type 0} (M : Making S) (s : S) (last : Option Completed) : S → Type 0 where
   stays : HasCome M s last s
-  comes : {u : S} (d : Does) → M.does s last d u → HasCome M s last u
+  comes : {u : S} (d : Does) → GoesOn last → M.does s last d u → HasCome M s last u
 
 -- a body reads a field of the class whose procedure was completed directly before, or writes one
 abbrev pub UsesField : {S : Type 0} → LinkedProgram → Making S → S → ClassId → Kind → S → Type 0
@@ -76,8 +76,12 @@ empty_bodies = record {
   is_ended = λ s z. s ≡ z;
   replaces = λ s thrown e z. s ≡ z;
   ends = λ s z. s ≡ z;
-  limits = λ l. ⊥;
+  limits = λ l s. ⊥;
 }
+
+-- an empty body comes to no limit
+pub comes_to_no_limit : {S : Type 0} (p : LinkedProgram) (l : Limit) (s z : S) → ⊥ → s ≡ z → ⊥
+comes_to_no_limit p l s z h same = h
 
 -- an empty body never waits
 pub waits_for_nothing : {S : Type 0} (p : LinkedProgram) (s u z : S) (last : Option Completed) (d : Does) →

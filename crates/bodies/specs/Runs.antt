@@ -26,17 +26,17 @@ AreMains p mains = AllByRecursion (λ m. IsOfFiles p m) mains
 
 -- the machine ends a thread at this limit, by this error: at one that its bodies have, or its patience, which has one, by
 -- InternalError; for want of memory by OutOfMemoryError
-abbrev pub IsEndedAt : {S : Type 0} → LinkedProgram → Making S → Limits → Limit → ClassId → Type 0
-IsEndedAt p M limits Steps e = (e ≡ built_in p InternalError) × M.limits Steps
-IsEndedAt p M limits Patience e = (e ≡ built_in p InternalError) × (limits.patience ≢ 0)
-IsEndedAt p M limits Memory e = e ≡ built_in p OutOfMemoryError
+abbrev pub IsEndedAt : {S : Type 0} → LinkedProgram → Making S → Limits → S → Limit → ClassId → Type 0
+IsEndedAt p M limits s Steps e = (e ≡ built_in p InternalError) × M.limits Steps s
+IsEndedAt p M limits s Patience e = (e ≡ built_in p InternalError) × (limits.patience ≢ 0)
+IsEndedAt p M limits s Memory e = e ≡ built_in p OutOfMemoryError
 
 -- how a thread ended, by the result of what it did
-abbrev pub IsOutcome : {S : Type 0} → LinkedProgram → Making S → Limits → Outcome → ThreadOutcome → Type 0
-IsOutcome p M limits Normal o = o ≡ outcome.Normal
-IsOutcome p M limits (Abrupt e) o = o ≡ outcome.Abrupt e
-IsOutcome p M limits (Ended e) (outcome.Ended l) = IsEndedAt p M limits l e
-IsOutcome p M limits (Ended e) o = ⊥
+abbrev pub IsOutcome : {S : Type 0} → LinkedProgram → Making S → Limits → S → Outcome → ThreadOutcome → Type 0
+IsOutcome p M limits s Normal o = o ≡ outcome.Normal
+IsOutcome p M limits s (Abrupt e) o = o ≡ outcome.Abrupt e
+IsOutcome p M limits s (Ended e) (outcome.Ended l) = IsEndedAt p M limits s l e
+IsOutcome p M limits s (Ended e) o = ⊥
 
 -- Thread t of main class m did this and ended so, by bodies that M makes from this start: the procedure for m, and then the
 -- method main.
@@ -44,7 +44,7 @@ pub record IsThreadRun {S : Type 0} (p : LinkedProgram) (M : Making S) (start : 
   pub result : Outcome
   pub end : S
   pub word : ThreadWordOf p t (maker_of p M) start m events result end
-  pub outcome : IsOutcome p M limits result o
+  pub outcome : IsOutcome p M limits end result o
 
 -- how each thread ended, by what it did of these events
 abbrev pub AreOutcomes : {S : Type 0} → LinkedProgram → Making S → List S → List ClassId → Limits → List Event → List ThreadOutcome → Type 0

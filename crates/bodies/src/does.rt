@@ -1,10 +1,11 @@
 //! What a body does next, and what runs bodies.
 
-ghost use Rattle.std.specs.Prelude.{Option};
+ghost use Rattle.std.specs.Prelude.{Option, IfOk, OnErr};
 ghost use Rattle.hierarchy.specs.LinkedProgram.{LinkedProgram};
 ghost use Rattle.hierarchy.specs.Subclasses.{IsError, IsThrowable};
 ghost use Rattle.init_core.specs.declared.frames.Completed.{Completed as CompletedFacts};
 ghost use Rattle.init_core.specs.ProcedureWord.{GoesOn, IsOfFiles};
+ghost use Rattle.trace.specs.declared.report.Limit.{Limit as LimitFacts};
 ghost use Rattle.bodies.specs.Making.{Making};
 ghost use Rattle.bodies.specs.Doing.{MayDo};
 ghost use Rattle.bodies.specs.declared.does.Does.{Does as DoesFacts};
@@ -13,7 +14,7 @@ ghost use Rattle.bodies.specs.declared.does.Does.TheVariants.{Waits};
 use hierarchy::{ClassId, Program, Value};
 use init_core::Completed;
 use sequence::Text;
-use std::alloc::Global;
+use std::alloc::{AllocError, Global};
 use trace::Limit;
 
 /// What a body does next.
@@ -63,7 +64,7 @@ pub trait Bodies: Drop {
     fn next(&mut self, alloc: Global, program: &Program, last: Option<Completed>) -> Does
         requires goes_on { GoesOn last }
         ensures does { (making program.now).does self.old last result self.new }
-        ensures fits { MayDo program.now (making program.now) last result };
+        ensures fits { MayDo program.now (making program.now) last result self.new };
 
     /// The value of the field that is read.
     fn get(&mut self, program: &Program, value: Value)
@@ -73,13 +74,23 @@ pub trait Bodies: Drop {
     fn leave(&mut self, program: &Program)
         ensures { (making program.now).is_ended self.old self.new };
 
-    /// Step 11: the class of the error by which the class fails, for a throwable that its initializer threw.
-    fn replace(&mut self, alloc: Global, program: &Program, thrown: ClassId) -> ClassId
+    /// Step 11: the class of the error by which the class fails, for a throwable that its initializer threw. An `Err` is out of memory;
+    /// what a body has done before it has still done.
+    fn replace(
+        &mut self,
+        alloc: Global,
+        program: &Program,
+        thrown: ClassId,
+    ) -> Result<ClassId, AllocError>
         requires thrown { IsThrowable program.now thrown }
-        ensures replaces { (making program.now).replaces self.old thrown result self.new }
-        ensures error { IsError program.now result };
+        ensures replaces { IfOk result (λ error. (making program.now).replaces self.old thrown error self.new) }
+        ensures error { IfOk result (λ error. IsError program.now error) }
+        ensures err { OnErr result ((s : Self) (last : Option CompletedFacts) (d : DoesFacts) → (making program.now).does s last d self.old → (making program.now).does s last d self.new) };
 
     /// What a body does that has waited it may do at once, where nothing has to be waited for.
     ghost waits_on: { (p : LinkedProgram) (s u z : Self) (last : Option CompletedFacts) (d : DoesFacts) →
         (making p).does s last Waits u → (making p).does u last d z → (making p).does s last d z };
+
+    /// Where the machine has ended a body at a limit, and then ends the next, it has ended that one at the limit too.
+    ghost limits_stay: { (p : LinkedProgram) (l : LimitFacts) (s z : Self) → (making p).limits l s → (making p).is_ended s z → (making p).limits l z };
 }

@@ -1,6 +1,8 @@
 //! What runs the bodies of one of several threads that share something.
 
 ghost use Rattle.std.specs.Prelude.{◌≡◌, ◌↔◌, IsTrue};
+ghost use Rattle.hierarchy.specs.LinkedProgram.{LinkedProgram};
+ghost use Rattle.trace.specs.declared.report.Limit.{Limit as LimitFacts};
 ghost use Rattle.bodies.specs.Lending.{Lending};
 
 use crate::does::Bodies;
@@ -23,4 +25,7 @@ pub trait Lends<H>: Bodies {
     /// The thread has ended, and leaves all that it holds.
     fn end(&mut self, program: &Program)
         ensures { (Self.making program.now).ends self.old self.new };
+
+    /// At which limit the machine has ended a body doesn't depend on what is shared.
+    ghost limits_lent: { (p : LinkedProgram) (l : LimitFacts) (s : Self) (shared : H) → (Self.making p).limits l s → (Self.making p).limits l (lending.with_shared s shared) };
 }

@@ -8,14 +8,14 @@ use crate::does::{Bodies, Does};
 use crate::lends::Lends;
 use hierarchy::{BuiltIn, ClassId, Program, Value};
 use init_core::Completed;
-use std::alloc::Global;
+use std::alloc::{AllocError, Global};
 
 /// Each class is run as if it had no initializer, and a main class as if it had no `main`.
 #[derive(Clone, Copy, Debug, PartialEq, Eq, Drop)]
 pub struct NoCode;
 
 impl Bodies for NoCode {
-    ghost use Rattle.bodies.specs.Making.{empty_bodies, waits_for_nothing};
+    ghost use Rattle.bodies.specs.Making.{comes_to_no_limit, empty_bodies, waits_for_nothing};
 
     ghost making = { λ p. empty_bodies };
 
@@ -31,11 +31,18 @@ impl Bodies for NoCode {
 
     fn leave(&mut self, _program: &Program) {}
 
-    fn replace(&mut self, _alloc: Global, program: &Program, _thrown: ClassId) -> ClassId {
-        program.built_in(BuiltIn::ExceptionInInitializerError)
+    fn replace(
+        &mut self,
+        _alloc: Global,
+        program: &Program,
+        _thrown: ClassId,
+    ) -> Result<ClassId, AllocError> {
+        Ok(program.built_in(BuiltIn::ExceptionInInitializerError))
     }
 
     ghost waits_on = { waits_for_nothing };
+
+    ghost limits_stay = { comes_to_no_limit };
 }
 
 impl Lends<()> for NoCode {
@@ -50,4 +57,6 @@ impl Lends<()> for NoCode {
     }
 
     fn end(&mut self, _program: &Program) {}
+
+    ghost limits_lent = { λ p l s shared h. h };
 }

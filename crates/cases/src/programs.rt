@@ -136,6 +136,42 @@ fn compare(threaded: &ThreadedRun, files: &Texts, came: &mut Texts) -> Result<()
     Ok(())
 }
 
+/// Runs a command line over the files: its exit status, and what came of it.
+fn served<R: Threads + Wait + Sync>(
+    rt: &R,
+    alloc: Global,
+    words: &[&str],
+    files: &mut Texts,
+) -> Result<(u8, Texts), AllocError> {
+    let mut out = Vec::new(alloc);
+    let mut err = Vec::new(alloc);
+    let status = serve(rt, alloc, words, files, &mut out, &mut err);
+    let line = format!(in alloc; "{status}\n")?;
+    let came = outcome_of(
+        alloc,
+        out.as_slice(),
+        err.as_slice(),
+        line.as_bytes(),
+        files,
+    )?;
+    Ok((status, came))
+}
+
+/// Adds what is said of the trace that a run wrote, where it isn't judged legal.
+fn judge_trace<R: Threads + Wait + Sync>(
+    rt: &R,
+    alloc: Global,
+    words: &[&str],
+    files: &mut Texts,
+    came: &mut Texts,
+) -> Result<(), AllocError> {
+    let said = said_of_trace(rt, alloc, words, files)?;
+    if said.as_slice() == b"legal\n".as_slice() {
+        return Ok(());
+    }
+    came.put("verdict", said.as_slice())
+}
+
 /// Runs a command line over the files, and answers what came of it.
 fn run<R: Threads + Wait + Sync>(
     rt: &R,
@@ -144,21 +180,14 @@ fn run<R: Threads + Wait + Sync>(
     files: &mut Texts,
 ) -> Result<Texts, AllocError> {
     let words = words_of(alloc, command)?;
-    let patient = threaded_run(rt, alloc, words.as_slice(), files, 0)?;
-    let hasty = threaded_run(rt, alloc, words.as_slice(), files, 1)?;
-    let mut out = Vec::new(alloc);
-    let mut err = Vec::new(alloc);
-    let status = serve(rt, alloc, words.as_slice(), files, &mut out, &mut err);
-    let line = format!(in alloc; "{status}\n")?;
-    let (out, err) = (out.as_slice(), err.as_slice());
-    let mut came = outcome_of(alloc, out, err, line.as_bytes(), files)?;
+    let words = words.as_slice();
+    let patient = threaded_run(rt, alloc, words, files, 0)?;
+    let hasty = threaded_run(rt, alloc, words, files, 1)?;
+    let (status, mut came) = served(rt, alloc, words, files)?;
     if status > 1 {
         return Ok(came);
     }
-    let said = said_of_trace(rt, alloc, words.as_slice(), files)?;
-    if said.as_slice() != b"legal\n".as_slice() {
-        came.put("verdict", said.as_slice())?;
-    }
+    judge_trace(rt, alloc, words, files, &mut came)?;
     if let Some(threaded) = patient {
         compare(&threaded, files, &mut came)?;
     }

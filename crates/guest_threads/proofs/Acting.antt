@@ -34,6 +34,7 @@ use Rattle.init_core.proofs.Mains.{main_threw, ends_main}
 use Rattle.init_lock.specs.declared.journal.Stamped.{Stamped}
 use Rattle.init_lock.specs.Known.{HeldFacts, IsSamePass}
 use Rattle.trace.specs.declared.report.Limit.{Limit}
+use Rattle.trace.specs.declared.report.Limit.TheVariants.{Steps, Patience, Memory}
 use Rattle.bodies.specs.declared.does.Does.{Does}
 use Rattle.bodies.specs.declared.does.Does.TheVariants as does
 use Rattle.bodies.specs.Doing.{MayDo}
@@ -67,6 +68,10 @@ range_of_last c before e now is a = (last_of (λ x. IsEventOf c x) before e (sub
 pub data HasWaited {S : Type 0} (M : Making S) (last : Option Completed) (from : S) : S → Type 0 where
   not_yet : HasWaited M last from from
   so_far : {now : S} → M.does from last does.Waits now → HasWaited M last from now
+
+-- where the machine has ended a body at a limit, and then ends the next, it has ended that one at the limit too
+abbrev pub LimitsStay : {S : Type 0} → Making S → Type 0
+LimitsStay {S} M = (l : Limit) (s z : S) → M.limits l s → M.is_ended s z → M.limits l z
 
 module _ {S : Type 0} (M : Making S) (k : TaskFacts S) where
   -- ---- the work
@@ -156,16 +161,22 @@ module _ {S : Type 0} (M : Making S) (k : TaskFacts S) where
 
   -- ---- the end of a body
 
+  -- what the machine may end the thread for stays, where it ends a body
+  why_stays : (s z : S) (l : Limit) (e : ClassId) → LimitsStay M → M.is_ended s z → IsWhy M k s l e → IsWhy M k z l e
+  why_stays s z Steps e stay ended why = (why.0, stay Steps s z why.1 ended)
+  why_stays s z Patience e stay ended why = why
+  why_stays s z Memory e stay ended why = why
+
   -- the machine ended the body of a class
-  pub left : (w : Work S) (s : Standing) (z : S) (e : ClassId) → is_running w.procedure.frames ≡ true → ((f : Frame) (fs : List Frame) → w.procedure.frames ≡ f ∷ fs → s ≡ after_body f.class fs (Ended e)) → FitsBody k.program (given_up w.procedure.last) (Ended e) → IsWhy M k w.why e →
-      M.is_ended w.bodies z → HasComeTo M k w → Working M k (record w { procedure = s; bodies = z })
-  left w s z e q is fits why ended h =
+  pub left : (w : Work S) (s : Standing) (z : S) (e : ClassId) → is_running w.procedure.frames ≡ true → ((f : Frame) (fs : List Frame) → w.procedure.frames ≡ f ∷ fs → s ≡ after_body f.class fs (Ended e)) → FitsBody k.program (given_up w.procedure.last) (Ended e) →
+      LimitsStay M → IsWhy M k w.bodies w.why e → M.is_ended w.bodies z → HasComeTo M k w → Working M k (record w { procedure = s; bodies = z })
+  left w s z e q is fits stay why ended h =
       let at = running_at w.procedure.frames q in
       let to : s ≡ after_body at.0 at.1 (Ended e) = is (frame at.0 (Running true)) at.1 at.2 in
       let step : Advances k.program k.number w.procedure (answer.BodyEnded (Ended e)) [] s = subst (λ (v : Standing). Advances k.program k.number w.procedure (answer.BodyEnded (Ended e)) [] v) (sym to)
       (subst (λ (fs : List Frame). Advances k.program k.number (standing fs w.procedure.last) (answer.BodyEnded (Ended e)) [] (after_body at.0 at.1 (Ended e))) (sym at.2) (leaves_body fits)) in
       told M k (record w { bodies = h.from }) s (answer.BodyEnded (Ended e)) z w.why step (makes_ended M k.program k.number k.start k.main w.procedure.last (given_up w.procedure.last) e h.from z (w.bodies, h.come, ended))
-      (λ y r. let same : Some e ≡ Some y = ap ending_error (sym to) ∙ r in let it : e ≡ y = cc in subst (IsWhy M k w.why) it why) h.working
+      (λ y r. let same : Some e ≡ Some y = ap ending_error (sym to) ∙ r in let it : e ≡ y = cc in subst (IsWhy M k z w.why) it (why_stays w.bodies z w.why e stay ended why)) h.working
 
   in_main_leads : (w : Work S) (y : S) → w.procedure.frames ≡ [] → w.in_main ≡ true → StandsAt M k w.in_main w.procedure (drawn w.pass.journal) (seen_of w.pass) y → LeadsOf k.program k.number (maker_of k.program M) (OuterOf M k true) (IdleOf M k true) (standing [] w.procedure.last) (drawn w.pass.journal) y
   in_main_leads w y e b st =
@@ -173,14 +184,15 @@ module _ {S : Type 0} (M : Making S) (k : TaskFacts S) where
       (subst (λ (x : Bool). LeadsOf k.program k.number (maker_of k.program M) (OuterOf M k x) (IdleOf M k x) w.procedure (drawn w.pass.journal) y) b st.leads)
 
   -- the machine ended that of main
-  pub left_main : (w : Work S) (z : S) (e : ClassId) → is_running w.procedure.frames ≡ false → FitsBody k.program (given_up w.procedure.last) (Ended e) → IsWhy M k w.why e → M.is_ended w.bodies z → HasComeTo M k w → IsOver M k (Ended e) (record w { bodies = z })
-  left_main w z e q fits why ended h =
+  pub left_main : (w : Work S) (z : S) (e : ClassId) → is_running w.procedure.frames ≡ false → FitsBody k.program (given_up w.procedure.last) (Ended e) →
+      LimitsStay M → IsWhy M k w.bodies w.why e → M.is_ended w.bodies z → HasComeTo M k w → IsOver M k (Ended e) (record w { bodies = z })
+  left_main w z e q fits stay why ended h =
       let none : w.procedure.frames ≡ [] = not_running w.procedure.frames h.body.requests q in
       record {
         works = h.working.works;
         word = stops_at M k.program k.number k.start k.main w.procedure.last e (drawn w.pass.journal) h.from z fits (w.bodies, h.come, ended) (in_main_leads w h.from none (h.body.main none) h.working.stands);
         events = h.working.events;
-        reason = λ y r. let it : e ≡ y = cc in subst (IsWhy M k w.why) it why;
+        reason = λ y r. let it : e ≡ y = cc in subst (IsWhy M k z w.why) it (why_stays w.bodies z w.why e stay ended why);
       }
 
   -- the body of a class is over
@@ -282,7 +294,11 @@ module _ {S : Type 0} (M : Making S) (k : TaskFacts S) where
 
   -- or at what it does next
   pub has_come_on : (w : Work S) (d : Does) → IsDoing M k d w → HasComeTo M k w
-  has_come_on w d x = record { from = x.from; working = x.working; body = x.body; come = comes d x.does }
+  has_come_on w d x = record { from = x.from; working = x.working; body = x.body; come = comes d x.goes_on x.does }
+
+  -- or there, where it has done since nothing but what leaves that done
+  pub has_come_still : (w : Work S) (d : Does) (z : S) → ((s : S) (last : Option Completed) (e : Does) → M.does s last e w.bodies → M.does s last e z) → IsDoing M k d w → HasComeTo M k (record w { bodies = z })
+  has_come_still w d z still x = record { from = x.from; working = x.working; body = record { requests = x.body.requests; main = x.body.main }; come = comes d x.goes_on (still x.from w.procedure.last d x.does) }
 
   -- the machine ended an active use in the body
   pub was_ended : (w : Work S) (e : ClassId) → IsInBody w → ending_error w.procedure ≡ Some e → FitsBody k.program (given_up w.procedure.last) (Ended e)
@@ -323,7 +339,7 @@ module _ {S : Type 0} (M : Making S) (k : TaskFacts S) where
   asked_next w d y z on not_yet does = does
   asked_next w d y z on (so_far waits) does = on w.bodies y z waits does
 
-  pub is_doing : (w : Work S) (d : Does) (z : S) → Working M k w → IsInBody w → GoesOn w.procedure.last → M.does w.bodies w.procedure.last d z → MayDo k.program M w.procedure.last d → IsDoing M k d (record w { bodies = z })
+  pub is_doing : (w : Work S) (d : Does) (z : S) → Working M k w → IsInBody w → GoesOn w.procedure.last → M.does w.bodies w.procedure.last d z → MayDo k.program M w.procedure.last d z → IsDoing M k d (record w { bodies = z })
   is_doing w d z o body on does fits = record { from = w.bodies; working = o; body = record { requests = body.requests; main = body.main }; goes_on = on; does = does; fits = fits }
 
   pub body_on : (w v : Work S) → IsRoomier w v → IsInBody w → IsInBody v
@@ -334,10 +350,10 @@ module _ {S : Type 0} (M : Making S) (k : TaskFacts S) where
 
   -- what it does next after it has waited so
   pub next_is_doing : (w v : Work S) (last : Option Completed) (d : Does) (z : S) → ((s u x : S) → M.does s w.procedure.last does.Waits u → M.does u w.procedure.last d x → M.does s w.procedure.last d x) → HasWaited M w.procedure.last w.bodies v.bodies → v ≡ record w { bodies = v.bodies } → last ≡ w.procedure.last →
-      M.does v.bodies last d z → MayDo k.program M last d → Working M k w → IsInBody w → GoesOn w.procedure.last → IsDoing M k d (record v { bodies = z })
+      M.does v.bodies last d z → MayDo k.program M last d z → Working M k w → IsInBody w → GoesOn w.procedure.last → IsDoing M k d (record v { bodies = z })
   next_is_doing w v last d z on waited same is made fits o body goes =
       subst (λ (x : Work S). IsDoing M k d x) (sym (ap (λ (x : Work S). let y : Work S = record x { bodies = z } in y) same))
-      (is_doing w d z o body goes (asked_next w d v.bodies z on waited (subst (λ (l : Option Completed). M.does v.bodies l d z) is made)) (subst (λ (l : Option Completed). MayDo k.program M l d) is fits))
+      (is_doing w d z o body goes (asked_next w d v.bodies z on waited (subst (λ (l : Option Completed). M.does v.bodies l d z) is made)) (subst (λ (l : Option Completed). MayDo k.program M l d z) is fits))
 
   pub still_waits : (w v : Work S) (last : Option Completed) (z : S) → ((s u x : S) → M.does s w.procedure.last does.Waits u → M.does u w.procedure.last does.Waits x → M.does s w.procedure.last does.Waits x) → HasWaited M w.procedure.last w.bodies v.bodies → v ≡ record w { bodies = v.bodies } → last ≡ w.procedure.last →
       M.does v.bodies last does.Waits z → HasWaited M w.procedure.last w.bodies z × (let x : Work S = record v { bodies = z } in let y : Work S = record w { bodies = z } in x ≡ y)

@@ -129,7 +129,7 @@ module _ {S : Type 0} (M : Making S) (k : TaskFacts S) where
   -- a step of the work
   pub stepped : (w : Work S) (y : View) (s : Standing) (z : S) (why : Limit) (slack looks : ℕ) (made : List Event) → Working M k w → IsSamePass w.pass y → IsAway y.places → drawn y.journal ≡ drawn w.pass.journal ++ made →
       AllByRecursion (λ e. IsProgramEvent k.program k.table.threads e) made → StandsAt M k w.in_main s (drawn w.pass.journal ++ made) (seen_of y) z →
-      (w.in_main ≡ false → s.frames ≡ [] → s.last ≢ None) → ((e : ClassId) → ending_error s ≡ Some e → IsWhy M k why e) → length (begun_classes s.frames) + slack ≤ y.room →
+      (w.in_main ≡ false → s.frames ≡ [] → s.last ≢ None) → ((e : ClassId) → ending_error s ≡ Some e → IsWhy M k z why e) → length (begun_classes s.frames) + slack ≤ y.room →
       Working M k (record { pass = y; procedure = s; bodies = z; in_main = w.in_main; why = why; slack = slack; looks = looks })
   stepped w y s z why slack looks made o same away own done st begun reason room = record {
     main = o.main;
@@ -142,7 +142,7 @@ module _ {S : Type 0} (M : Making S) (k : TaskFacts S) where
   }
 
   -- nothing is drawn
-  pub still : (w : Work S) (s : Standing) (z : S) (why : Limit) → Working M k w → StandsAt M k w.in_main s (drawn w.pass.journal) (seen_of w.pass) z → (w.in_main ≡ false → s.frames ≡ [] → s.last ≢ None) → ((e : ClassId) → ending_error s ≡ Some e → IsWhy M k why e) →
+  pub still : (w : Work S) (s : Standing) (z : S) (why : Limit) → Working M k w → StandsAt M k w.in_main s (drawn w.pass.journal) (seen_of w.pass) z → (w.in_main ≡ false → s.frames ≡ [] → s.last ≢ None) → ((e : ClassId) → ending_error s ≡ Some e → IsWhy M k z why e) →
       length (begun_classes s.frames) ≤ length (begun_classes w.procedure.frames) → Working M k (record w { procedure = s; bodies = z; why = why })
   still w s z why o st begun reason few = record {
     main = o.main;
@@ -156,7 +156,7 @@ module _ {S : Type 0} (M : Making S) (k : TaskFacts S) where
 
   -- the procedure is told an answer that adds no event
   pub told : (w : Work S) (s : Standing) (a : Answer) (z : S) (why : Limit) → Advances k.program k.number w.procedure a [] s → Makes k.program (maker_of k.program M) w.procedure.last a w.bodies z →
-      ((e : ClassId) → ending_error s ≡ Some e → IsWhy M k why e) → Working M k w → Working M k (record w { procedure = s; bodies = z; why = why })
+      ((e : ClassId) → ending_error s ≡ Some e → IsWhy M k z why e) → Working M k w → Working M k (record w { procedure = s; bodies = z; why = why })
   told w s a z why step makes reason o =
       let outer = outer_of w.in_main w.procedure (drawn w.pass.journal) (seen_of w.pass) w.bodies o.stands in
       let st : StandsAt M k w.in_main s (drawn w.pass.journal) (seen_of w.pass) z = subst (λ (es : List Event). StandsAt M k w.in_main s es (seen_of w.pass) z) (append-nil (drawn w.pass.journal))
@@ -178,7 +178,7 @@ module _ {S : Type 0} (M : Making S) (k : TaskFacts S) where
   pub visited : (w : Work S) (s : Standing) (z : S) (slack looks : ℕ) (c : ClassId) (y v : View) (h : HeldFacts Guarded) (n : ℕ) (events made : List Event) → n ≡ c.number → Took k.program c w.pass y h → GaveBack n events y v →
       events ≡ h.kept.record.events ++ made → drawn v.journal ≡ drawn y.journal ++ made → IsMade k.program k.number c h.kept.record.events made → IsOfFiles k.program c →
       (SeesMore (seen_of y) (λ d. of_class d made) (seen_of v) → StandsAt M k w.in_main w.procedure (drawn w.pass.journal) (seen_of y) w.bodies → StandsAt M k w.in_main s (drawn w.pass.journal ++ made) (seen_of v) z) →
-      (w.in_main ≡ false → s.frames ≡ [] → s.last ≢ None) → ((e : ClassId) → ending_error s ≡ Some e → IsWhy M k w.why e) → length (begun_classes s.frames) + slack ≤ v.room → Working M k w →
+      (w.in_main ≡ false → s.frames ≡ [] → s.last ≢ None) → ((e : ClassId) → ending_error s ≡ Some e → IsWhy M k z w.why e) → length (begun_classes s.frames) + slack ≤ v.room → Working M k w →
       Working M k (record { pass = v; procedure = s; bodies = z; in_main = w.in_main; why = w.why; slack = slack; looks = looks })
   visited w s z slack looks c y v h n events made place took back more journal is_made within step begun reason room o =
       let own : drawn v.journal ≡ drawn w.pass.journal ++ made = journal ∙ ap (λ (js : List (Stamped Event)). drawn js ++ made) took.journal in
@@ -189,7 +189,7 @@ module _ {S : Type 0} (M : Making S) (k : TaskFacts S) where
   -- an event was drawn under no lock
   pub drew : (w : Work S) (s : Standing) (z : S) (slack looks : ℕ) (y : View) (made : Stamped Event) (e : Event) → made.event ≡ e → IsSamePass w.pass y → y.journal ≡ w.pass.journal ++ made ∷ [] → y.places ≡ w.pass.places → IsProgramEvent k.program k.table.threads e →
       (StandsAt M k w.in_main w.procedure (drawn w.pass.journal) (seen_of w.pass) w.bodies → StandsAt M k w.in_main s (drawn w.pass.journal ++ e ∷ []) (seen_of w.pass) z) →
-      (w.in_main ≡ false → s.frames ≡ [] → s.last ≢ None) → ((x : ClassId) → ending_error s ≡ Some x → IsWhy M k w.why x) → length (begun_classes s.frames) + slack ≤ y.room → Working M k w →
+      (w.in_main ≡ false → s.frames ≡ [] → s.last ≢ None) → ((x : ClassId) → ending_error s ≡ Some x → IsWhy M k z w.why x) → length (begun_classes s.frames) + slack ≤ y.room → Working M k w →
       Working M k (record { pass = y; procedure = s; bodies = z; in_main = w.in_main; why = w.why; slack = slack; looks = looks })
   drew w s z slack looks y made e is same journal places done step begun reason room o =
       let own : drawn y.journal ≡ drawn w.pass.journal ++ e ∷ [] = ap drawn journal ∙ (drawn_more w.pass.journal made ∙ ap (λ (x : Event). drawn w.pass.journal ++ x ∷ []) is) in

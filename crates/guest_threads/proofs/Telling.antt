@@ -84,12 +84,12 @@ module _ {S : Type 0} (M : Making S) (k : TaskFacts S) where
       ap (λ (fs : List Frame). ending_error (standing fs w.procedure.last)) l.1.frames ∙ ap given_up (look_last l.1 o.stands.leads)
 
   -- the request gave up
-  pub gave_up : (w : Work S) (s : Standing) (c : ClassId) (l : Limit) → next_of w.procedure.frames ≡ next.Look c → IsLimitOf M k l → s ≡ thread_ended w.procedure (error_of k.program l) → Working M k w → Working M k (record w { procedure = s; why = l })
+  pub gave_up : (w : Work S) (s : Standing) (c : ClassId) (l : Limit) → next_of w.procedure.frames ≡ next.Look c → IsLimitOf M k w.bodies l → s ≡ thread_ended w.procedure (error_of k.program l) → Working M k w → Working M k (record w { procedure = s; why = l })
   gave_up w s c l q limit is o =
       let e = error_of k.program l in
       let step : Advances k.program k.number w.procedure (answer.GaveUp e false) [] s = gives_up k.program k.number w.procedure c e s q (machine_of k.program l) is in
       let none = look_goes_on w c q o in
-      told M k w s (answer.GaveUp e false) w.bodies l step refl (λ y r. ⊎_elim (λ z. absurd (let no_way : None ≡ Some y = sym none ∙ z in cc)) (λ z. subst (IsWhy M k l) z limit)
+      told M k w s (answer.GaveUp e false) w.bodies l step refl (λ y r. ⊎_elim (λ z. absurd (let no_way : None ≡ Some y = sym none ∙ z in cc)) (λ z. subst (IsWhy M k w.bodies l) z limit)
       (error_after k.program k.number step (outer_of M k w.in_main w.procedure (drawn w.pass.journal) (seen_of w.pass) w.bodies o.stands) y r)) o
 
   -- step 9 can't be made for want of memory
@@ -224,7 +224,7 @@ module _ {S : Type 0} (M : Making S) (k : TaskFacts S) where
       result = Ended (built_in k.program OutOfMemoryError);
       end = k.start;
       word = subst (λ (js : List (Stamped Event)). ThreadWordOf k.program w.pass.number (maker_of k.program M) k.start k.main (drawn js) (Ended (built_in k.program OutOfMemoryError)) k.start) (sym none) (was_ended (word false (gave_up_word (inr refl))));
-      outcome = subst (λ (x : ThreadOutcome). IsOutcome k.program M k.limits (Ended (built_in k.program OutOfMemoryError)) x) (sym how) refl;
+      outcome = subst (λ (x : ThreadOutcome). IsOutcome k.program M k.limits k.start (Ended (built_in k.program OutOfMemoryError)) x) (sym how) refl;
     };
     events = subst (λ (js : List (Stamped Event)). AllByRecursion (λ e. IsProgramEvent k.program k.table.threads e) (drawn js)) (sym none) tt;
   }

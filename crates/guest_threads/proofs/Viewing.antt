@@ -26,11 +26,11 @@ module _ {S : Type 0} (F : LinkedProgram → Making S) {k j : TaskFacts S} (e : 
   pub over_at : {r : Outcome} {w : Work S} → IsOver (F k.program) k r w → IsOver (F j.program) j r w
   over_at {r = r} {w = w} o = subst (λ (x : TaskFacts S). IsOver (F x.program) x r w) e o
 
-  pub limit_at : (l : Limit) → IsLimitOf (F k.program) k l → IsLimitOf (F j.program) j l
-  limit_at l o = subst (λ (x : TaskFacts S). IsLimitOf (F x.program) x l) e o
+  pub limit_at : (s : S) (l : Limit) → IsLimitOf (F k.program) k s l → IsLimitOf (F j.program) j s l
+  limit_at s l o = subst (λ (x : TaskFacts S). IsLimitOf (F x.program) x s l) e o
 
-  pub why_at : (l : Limit) (c : ClassId) → IsWhy (F k.program) k l c → IsWhy (F j.program) j l c
-  why_at l c o = subst (λ (x : TaskFacts S). IsWhy (F x.program) x l c) e o
+  pub why_at : (s : S) (l : Limit) (c : ClassId) → IsWhy (F k.program) k s l c → IsWhy (F j.program) j s l c
+  why_at s l c o = subst (λ (x : TaskFacts S). IsWhy (F x.program) x s l c) e o
 
   pub fits_at : (o : Option ClassId) (r : Outcome) → FitsBody k.program o r → FitsBody j.program o r
   fits_at o r f = subst (λ (x : TaskFacts S). FitsBody x.program o r) e f

@@ -1,5 +1,5 @@
 -- What one thread is to do, and for what the machine ends it.
-use Rattle.std.specs.Prelude.{◌≡◌, ℕ}
+use Rattle.std.specs.Prelude.{ℕ}
 use Rattle.hierarchy.specs.declared.built_in.BuiltIn.TheVariants.{InternalError, OutOfMemoryError}
 use Rattle.hierarchy.specs.declared.class.ClassId.{ClassId}
 use Rattle.hierarchy.specs.LinkedProgram.{LinkedProgram, built_in}
@@ -29,13 +29,13 @@ error_of p Memory = built_in p OutOfMemoryError
 error_of p Steps = built_in p InternalError
 error_of p Patience = built_in p InternalError
 
--- the machine may end the thread at this limit, by this error
-abbrev pub IsWhy : {S : Type 0} → Making S → TaskFacts S → Limit → ClassId → Type 0
-IsWhy M k l e = IsEndedAt k.program M k.limits l e
+-- the machine may end the thread at this limit, by this error, where its bodies stand so
+abbrev pub IsWhy : {S : Type 0} → Making S → TaskFacts S → S → Limit → ClassId → Type 0
+IsWhy M k s l e = IsEndedAt k.program M k.limits s l e
 
--- the machine may end the thread at this limit
-abbrev pub IsLimitOf : {S : Type 0} → Making S → TaskFacts S → Limit → Type 0
-IsLimitOf M k l = IsWhy M k l (error_of k.program l)
+-- the machine may end the thread at this limit, where its bodies stand so
+abbrev pub IsLimitOf : {S : Type 0} → Making S → TaskFacts S → S → Limit → Type 0
+IsLimitOf M k s l = IsWhy M k s l (error_of k.program l)
 
 -- how a thread ended, by the result of what it did, and by what the machine ended it for, if it did
 abbrev pub outcome_by : Limit → Outcome → ThreadOutcome

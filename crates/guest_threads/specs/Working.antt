@@ -112,7 +112,7 @@ pub record Working {S : Type 0} (M : Making S) (k : TaskFacts S) (w : Work S) : 
   pub events : AllByRecursion (λ e. IsProgramEvent k.program k.table.threads e) (drawn w.pass.journal)
   -- its first request was made
   pub begun : w.in_main ≡ false → w.procedure.frames ≡ [] → w.procedure.last ≢ None
-  pub reason : (e : ClassId) → ending_error w.procedure ≡ Some e → IsWhy M k w.why e
+  pub reason : (e : ClassId) → ending_error w.procedure ≡ Some e → IsWhy M k w.bodies w.why e
   pub room : length (begun_classes w.procedure.frames) + w.slack ≤ w.pass.room
 
 -- it has room for more events than before, and else nothing changed
@@ -144,11 +144,11 @@ pub record IsDoing {S : Type 0} (M : Making S) (k : TaskFacts S) (d : Does) (w :
   pub body : IsInBody w
   pub goes_on : GoesOn w.procedure.last
   pub does : M.does from w.procedure.last d w.bodies
-  pub fits : MayDo k.program M w.procedure.last d
+  pub fits : MayDo k.program M w.procedure.last d w.bodies
 
 -- the thread has ended with this result
 pub record IsOver {S : Type 0} (M : Making S) (k : TaskFacts S) (r : Outcome) (w : Work S) : Type 0 where
   pub works : Works k.program k.table k.number w.pass
   pub word : ThreadWordOf k.program k.number (maker_of k.program M) k.start k.main (drawn w.pass.journal) r w.bodies
   pub events : AllByRecursion (λ e. IsProgramEvent k.program k.table.threads e) (drawn w.pass.journal)
-  pub reason : (e : ClassId) → r ≡ Ended e → IsWhy M k w.why e
+  pub reason : (e : ClassId) → r ≡ Ended e → IsWhy M k w.bodies w.why e

@@ -53,7 +53,7 @@ impl<'a, G: Gate, B: Bodies> Task<'a, G, B> {
     fn leave(&self, work: &mut Work<B>, error: ClassId) -> Option<Outcome>
         requires come { HasComeTo (B.making self.now.program) self.now work.old }
         requires fits { FitsBody self.now.program (given_up work.old.procedure.last) (Ended error) }
-        requires why { IsWhy (B.making self.now.program) self.now work.old.why error }
+        requires why { IsWhy (B.making self.now.program) self.now work.old.bodies work.old.why error }
         ensures { MatchOption result (Working (B.making self.now.program) self.now work.new) (λ r. IsOver (B.making self.now.program) self.now r work.new) }
     {
         work.bodies.leave(self.program);
@@ -68,7 +68,7 @@ impl<'a, G: Gate, B: Bodies> Task<'a, G, B> {
     fn leave_at(&self, work: &mut Work<B>, limit: Limit) -> Option<Outcome>
         requires come { HasComeTo (B.making self.now.program) self.now work.old }
         requires goes_on { GoesOn work.old.procedure.last }
-        requires limit { IsLimitOf (B.making self.now.program) self.now limit }
+        requires limit { IsLimitOf (B.making self.now.program) self.now work.old.bodies limit }
         ensures { MatchOption result (Working (B.making self.now.program) self.now work.new) (λ r. IsOver (B.making self.now.program) self.now r work.new) }
     {
         work.why = limit;
@@ -169,7 +169,8 @@ impl<'a, G: Gate, B: Bodies> Task<'a, G, B> {
         None
     }
 
-    /// The body is over: it returned, or it threw, and then step 11 comes. In `main` that is how the thread ends.
+    /// The body is over: it returned, or it threw, and then step 11 comes. In `main` that is how the thread ends. Where memory is refused
+    /// the machine ends the thread.
     fn end_body(&self, work: &mut Work<B>, thrown: Option<ClassId>) -> Option<Outcome>
         requires doing { IsDoing (B.making self.now.program) self.now (does.Over thrown) work.old }
         ensures { MatchOption result (Working (B.making self.now.program) self.now work.new) (λ r. IsOver (B.making self.now.program) self.now r work.new) }
@@ -184,7 +185,10 @@ impl<'a, G: Gate, B: Bodies> Task<'a, G, B> {
             work.procedure.end_body(Outcome::Normal);
             return None;
         };
-        let error = work.bodies.replace(self.alloc, self.program, throwable);
+        let replaced = work.bodies.replace(self.alloc, self.program, throwable);
+        let Ok(error) = replaced else {
+            return self.leave_at(work, Limit::Memory);
+        };
         work.procedure.end_body(Outcome::Abrupt(error));
         None
     }

@@ -20,7 +20,7 @@ impl<'a, G: Gate, B: Bodies> Task<'a, G, B> {
     pub(crate) fn give_up(&self, work: &mut Work<B>, class: ClassId, limit: Limit)
         requires working { Working (B.making self.now.program) self.now work.old }
         requires next { next_of work.old.procedure.frames ≡ nexts.Look class }
-        requires limit { IsLimitOf (B.making self.now.program) self.now limit }
+        requires limit { IsLimitOf (B.making self.now.program) self.now work.old.bodies limit }
         ensures working { Working (B.making self.now.program) self.now work.new }
     {
         work.procedure.end_thread(error_at(self.program, limit));

@@ -5,7 +5,7 @@ ghost use Rattle.hierarchy.specs.Subclasses.{IsError, IsThrowable};
 ghost use Rattle.hierarchy.specs.declared.class.ClassId.{ClassId as ClassFacts};
 ghost use Rattle.heap.specs.Objects.{no_texts, reference_of_new, with_new};
 ghost use Rattle.init_core.specs.ProcedureWord.{GoesOn};
-ghost use Rattle.interpreter.specs.CodeRun.{Begins, Enters, IsAnswer, IsTold, Replaces, Starts, below_body, fails_by, first_phase as first_phase_of, interpreter_at_start};
+ghost use Rattle.interpreter.specs.CodeRun.{Begins, Enters, IsAnswer, IsTold, Replaces, Starts, below_body, fails_by, first_phase as first_phase_of, interpreter_at_start, left_phase as left_phase_of};
 ghost use Rattle.interpreter.specs.Says.{IsSayable, SaysNext};
 
 use crate::fitting::{built_in_type, cell_of};
@@ -64,6 +64,16 @@ fn first_phase(takes_monitor: bool, code: &MethodCode, class: ClassId) -> Phase
         phase_of(code, Monitor::Class(class))
     } else {
         Phase::Runs
+    }
+}
+
+/// Where the body below stands once the innermost one is ended: that one was ended for its steps stays known.
+fn left_phase(phase: Phase) -> Phase
+    ensures { result ≡ left_phase_of phase }
+{
+    match phase {
+        Phase::Spent => Phase::Spent,
+        _ => Phase::Runs,
     }
 }
 
@@ -184,17 +194,24 @@ impl Interpreter {
         }
     }
 
-    /// Step 11 for a throwable that is no Error.
-    fn wrap(&mut self, program: &Program) -> ClassId
-        ensures { (thrown : ClassFacts) → (IsError program.now thrown → ⊥) → Replaces program.now self.old thrown result self.new }
+    /// Step 11. An `Err` is out of memory, and changes nothing.
+    #[tactic(auto, using(crate::proofs::CodeBodies::wrapped_error))]
+    pub(crate) fn replaced(
+        &mut self,
+        program: &Program,
+        thrown: ClassId,
+    ) -> Result<ClassId, AllocError>
+        ensures replaces { IfOk result (λ error. Replaces program.now self.old thrown error self.new) }
+        ensures error { IfOk result (λ error. IsError program.now error) }
+        ensures err { OnErr result (self.new ≡ self.old) }
     {
+        if is_error(program, thrown) {
+            return Ok(thrown);
+        }
         // (room for the error was kept when what was thrown was made)
-        let wrapped = match self.heap.initializer_error(program) {
-            Ok(wrapped) => wrapped,
-            Err(_) => out_of_memory(program),
-        };
+        let wrapped = self.heap.initializer_error(program)?;
         self.thrown = Some(wrapped);
-        wrapped.class
+        Ok(wrapped.class)
     }
 
     /// Goes on up to what the innermost body does next, where there is no other thread.
@@ -224,7 +241,7 @@ impl Interpreter {
 }
 
 impl Bodies for Interpreter {
-    ghost use Rattle.interpreter.specs.CodeRun.{code_bodies, never_waits};
+    ghost use Rattle.interpreter.specs.CodeRun.{code_bodies, never_waits, stays_ended};
 
     ghost making = { λ p. code_bodies p };
 
@@ -240,7 +257,7 @@ impl Bodies for Interpreter {
         }
     }
 
-    #[tactic(auto, using(crate::proofs::CodeBodies::told_may_do))]
+    #[tactic(auto, using(crate::proofs::TakingTurns::alone_may_do))]
     fn next(&mut self, alloc: Global, program: &Program, last: Option<Completed>) -> Does {
         self.tell(program, last);
         self.say_alone(alloc, program)
@@ -254,21 +271,27 @@ impl Bodies for Interpreter {
 
     fn leave(&mut self, _program: &Program) {
         match self.phase {
-            Phase::Runs | Phase::Ready(_) | Phase::Locks(_, _) => self.leave_frames(),
+            Phase::Runs | Phase::Ready(_) | Phase::Locks(_, _) | Phase::Spent => {
+                self.leave_frames();
+            }
             Phase::Over(_) | Phase::Refused => {}
         }
-        self.release(Phase::Runs);
+        self.release(left_phase(self.phase));
     }
 
-    fn replace(&mut self, _alloc: Global, program: &Program, thrown: ClassId) -> ClassId {
-        if is_error(program, thrown) {
-            thrown
-        } else {
-            self.wrap(program)
-        }
+    #[tactic(auto, using(crate::proofs::CodeBodies::does_still))]
+    fn replace(
+        &mut self,
+        _alloc: Global,
+        program: &Program,
+        thrown: ClassId,
+    ) -> Result<ClassId, AllocError> {
+        self.replaced(program, thrown)
     }
 
     ghost waits_on = { never_waits };
+
+    ghost limits_stay = { stays_ended };
 }
 
 impl Lends<()> for Interpreter {
@@ -283,4 +306,6 @@ impl Lends<()> for Interpreter {
     }
 
     fn end(&mut self, _program: &Program) {}
+
+    ghost limits_lent = { λ p l s shared h. h };
 }

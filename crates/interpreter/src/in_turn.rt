@@ -8,7 +8,7 @@ use crate::objects::Objects;
 use bodies::{Bodies, Does, Lends};
 use hierarchy::{ClassId, Program, Value};
 use init_core::Completed;
-use std::alloc::Global;
+use std::alloc::{AllocError, Global};
 use std::marker::Model;
 
 /// What runs the code of one of several threads of which one goes on at a time. It has the [`Objects`] that they share for a step of its
@@ -38,6 +38,7 @@ impl TurnInterpreter {
 }
 
 impl Bodies for TurnInterpreter {
+    ghost use Rattle.interpreter.specs.CodeRun.{stays_ended};
     ghost use Rattle.interpreter.specs.TurnRun.{turn_bodies, turn_waits_once};
 
     ghost making = { λ p. turn_bodies p };
@@ -64,15 +65,23 @@ impl Bodies for TurnInterpreter {
         self.inside.leave(program);
     }
 
-    fn replace(&mut self, alloc: Global, program: &Program, thrown: ClassId) -> ClassId {
-        self.inside.replace(alloc, program, thrown)
+    #[tactic(auto, using(crate::proofs::CodeBodies::does_still))]
+    fn replace(
+        &mut self,
+        _alloc: Global,
+        program: &Program,
+        thrown: ClassId,
+    ) -> Result<ClassId, AllocError> {
+        self.inside.replaced(program, thrown)
     }
 
     ghost waits_on = { turn_waits_once };
+
+    ghost limits_stay = { stays_ended };
 }
 
 impl Lends<Objects> for TurnInterpreter {
-    ghost use Rattle.interpreter.specs.TurnRun.{objects_lent};
+    ghost use Rattle.interpreter.specs.TurnRun.{ended_with_any, objects_lent};
 
     ghost lending = { objects_lent };
 
@@ -87,4 +96,6 @@ impl Lends<Objects> for TurnInterpreter {
     fn end(&mut self, _program: &Program) {
         self.inside.monitors.release_all(self.inside.thread);
     }
+
+    ghost limits_lent = { ended_with_any };
 }

@@ -17,4 +17,6 @@ pub(crate) enum Phase {
     Over(Option<Thrown>),
     /// It was refused the memory for its first frame.
     Refused,
+    /// It came to an instruction that would be one more than its thread may begin, or a body above it did, which was ended for that.
+    Spent,
 }

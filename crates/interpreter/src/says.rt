@@ -251,7 +251,9 @@ impl Interpreter {
         loop {
             match self.phase {
                 Phase::Over(thrown) => return self.over(program, thrown),
-                Phase::Refused | Phase::Ready(_) => return Does::Ended(Limit::Memory),
+                Phase::Refused | Phase::Spent | Phase::Ready(_) => {
+                    return Does::Ended(Limit::Memory);
+                }
                 Phase::Locks(monitor, of_method) => match self.lock(program, monitor, of_method) {
                     Ok(true) => {}
                     Ok(false) => return Does::Waits,

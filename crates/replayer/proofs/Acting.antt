@@ -34,6 +34,8 @@ use Rattle.init_core.specs.Stands.{SeesMore, ending_error}
 use Rattle.init_core.proofs.Knowing.{others_go_on, request_calm}
 use Rattle.init_core.proofs.Leading.{MakesEnd}
 use Rattle.init_core.proofs.Mains.{ends_main}
+use Rattle.trace.specs.declared.report.Limit.{Limit}
+use Rattle.trace.specs.declared.report.Limit.TheVariants.{Steps}
 use Rattle.bodies.specs.declared.does.Does.{Does}
 use Rattle.bodies.specs.declared.does.Does.TheVariants as does
 use Rattle.bodies.specs.Doing.{MayDo}
@@ -49,7 +51,8 @@ use Rattle.replayer.specs.Going.{Going, HasStepped, IsWhy, IsInBody, HasComeTo, 
 use Rattle.replayer.specs.declared.thread.Turn.{Turn}
 use Rattle.replayer.specs.declared.thread.Turn.TheVariants as turn
 use Rattle.replayer.specs.Logged.{IsLog, HasMade, IsStateAfter, histories}
-use Rattle.replayer.specs.OrderedRun.{WaitsFor}
+use Rattle.replayer.proofs.JustMade.{body_just, use_of_body}
+use Rattle.replayer.specs.OrderedRun.{HasJustMade, WaitsFor}
 use Rattle.replayer.proofs.Logged.{all_more, own_more, sees_one, writes_held}
 use Rattle.replayer.proofs.Stepping.{At, goes_on, told, made_one, free_of, not_both, gave_up_look, main_body}
 
@@ -106,6 +109,7 @@ module _ {S : Type 0} (p : LinkedProgram) (M : Making S) where
             (subst (λ (o : Option Completed). At p M w w.in_main (standing w.procedure.frames o) l.events.items x.from) last x.going.stands)))
             (λ b e. not_of_main w x.body b e) x.going);
         made = made_one p M l m w.number c k ok threads more;
+        just = subst (HasJustMade k) (sym to) (body_just k w.procedure.frames (body_at w.procedure.frames x.body.requests) (use_of_body k is));
         free = body_free l w d x;
       }
 
@@ -133,8 +137,8 @@ module _ {S : Type 0} (p : LinkedProgram) (M : Making S) where
   sees_print : (t : ℕ) (events : List Event) (text : List ℕ) → SeesMore (histories events) (λ d. []) (histories (events ++ printed t text ∷ []))
   sees_print t events text = record { adds = λ d. filter-append (λ e. is_class d e.class) events (printed t text ∷ []); agrees = λ d. tt }
 
-  pub printed_log : (l m : EventLog) (t : ℕ) (text : List ℕ) → t < l.threads.value → IsLog p l → MayDo p M None (does.Prints text) → m.states ≡ l.states → m.threads ≡ l.threads → m.events.items ≡ l.events.items ++ printed t text ∷ [] → IsLog p m
-  printed_log l m t text low log is states threads more = record {
+  pub printed_log : (l m : EventLog) (t : ℕ) (text : List ℕ) → t < l.threads.value → IsLog p l → (z : S) → MayDo p M None (does.Prints text) z → m.states ≡ l.states → m.threads ≡ l.threads → m.events.items ≡ l.events.items ++ printed t text ∷ [] → IsLog p m
+  printed_log l m t text low log z is states threads more = record {
     few = subst (λ n. n.value ≤ THREADS) (sym threads) log.few;
     count = ap (λ ss. length ss.items) states ∙ log.count;
     states = λ n other below.
@@ -151,7 +155,7 @@ module _ {S : Type 0} (p : LinkedProgram) (M : Making S) where
       let st = prints_at M p w.number w.start.value w.main w.in_main w.procedure.frames w.procedure.last (of_thread w.number l.events.items) (histories l.events.items) x.from w.bodies text (body_at w.procedure.frames x.body.requests) x.body.main x.goes_on x.does x.going.stands in
       record {
         going = subst (λ (v : Standing). Going p M m (record w { procedure = v })) (sym to)
-            (goes_on p M l (record w { bodies = x.from }) m (standing w.procedure.frames None) w.bodies w.in_main events (goes_so w x.body x.goes_on) (body_error w.procedure.frames None x.body.requests) threads (printed_log l m w.number text x.going.number x.going.log x.fits states threads more) more
+            (goes_on p M l (record w { bodies = x.from }) m (standing w.procedure.frames None) w.bodies w.in_main events (goes_so w x.body x.goes_on) (body_error w.procedure.frames None x.body.requests) threads (printed_log l m w.number text x.going.number x.going.log w.bodies x.fits states threads more) more
             (others_go_on p w.number (maker_of p M) (OutsideOf p w.number M w.start.value w.main w.in_main) (NoneOpenOf p w.number M w.start.value w.main w.in_main) (goes_of M p w.number w.start.value w.main w.in_main) (sees_print w.number l.events.items text) (λ d. tt)
             (subst (λ (es : List Event). ThreadStands p w.number M w.start.value w.main w.in_main (standing w.procedure.frames None) es (histories l.events.items) w.bodies) (sym (own_more w.number l.events.items (printed w.number text) refl)) st))
             (λ b e. not_of_main w x.body b e) x.going);
@@ -162,6 +166,7 @@ module _ {S : Type 0} (p : LinkedProgram) (M : Making S) where
           sees = subst (λ (es : List Event). SeesMore (histories l.events.items) (λ d. of_class d (printed w.number text ∷ [])) (histories es)) (sym more) (sees_print w.number l.events.items text);
           threads = threads;
         };
+        just = subst (HasJustMade (kind.Prints text)) (sym to) (body_just (kind.Prints text) w.procedure.frames (body_at w.procedure.frames x.body.requests) tt);
         free = body_free l w (does.Prints text) x;
       }
 
@@ -175,16 +180,24 @@ module _ {S : Type 0} (p : LinkedProgram) (M : Making S) where
   so_before : (l : EventLog) (w : Thread S) (gave_up : Bool) → ((w.gave_up ≡ false) ⊎ (gave_up ≡ w.gave_up)) → gave_up ≡ false → w.gave_up ≡ false
   so_before l w gave_up h n = ⊎_elim (λ x. x) (λ x. sym x ∙ n) h
 
+  -- where the machine has ended a body at a limit, it has ended the next at this limit too
+  abbrev LimitsStay : Type 0
+  LimitsStay = (k : Limit) (s z : S) → M.limits k s → M.is_ended s z → M.limits k z
+
+  why_stays : LimitsStay → (threads : ℕ) (gave_up : Bool) (e : ClassId) (s z : S) → M.is_ended s z → IsWhy p M s threads gave_up e → IsWhy p M z threads gave_up e
+  why_stays stay threads true e s z ended why = why
+  why_stays stay threads false e s z ended why = λ limits may. (let x = why limits may in (x.0, stay Steps s z x.1 ended))
+
   -- the machine ended the body of a class
-  pub left : (l : EventLog) (w : Thread S) (s : Standing) (z : S) (e : ClassId) (gave_up : Bool) → ((w.gave_up ≡ false) ⊎ (gave_up ≡ w.gave_up)) → is_running w.procedure.frames ≡ true → ((f : Frame) (fs : List Frame) → w.procedure.frames ≡ f ∷ fs → s ≡ after_body f.class fs (Ended e)) → FitsBody p (given_up w.procedure.last) (Ended e) → IsWhy p M l.threads.value gave_up e →
+  pub left : LimitsStay → (l : EventLog) (w : Thread S) (s : Standing) (z : S) (e : ClassId) (gave_up : Bool) → ((w.gave_up ≡ false) ⊎ (gave_up ≡ w.gave_up)) → is_running w.procedure.frames ≡ true → ((f : Frame) (fs : List Frame) → w.procedure.frames ≡ f ∷ fs → s ≡ after_body f.class fs (Ended e)) → FitsBody p (given_up w.procedure.last) (Ended e) → IsWhy p M w.bodies l.threads.value gave_up e →
       M.is_ended w.bodies z → HasComeTo p M l w → Going p M l (record w { procedure = s; bodies = z; gave_up = gave_up })
-  left l w s z e gave_up was q is fits why ended h =
+  left stay l w s z e gave_up was q is fits why ended h =
       let at = running_at w.procedure.frames q in
       let to : s ≡ after_body at.0 at.1 (Ended e) = is (frame at.0 (Running true)) at.1 at.2 in
       let step : Advances p w.number w.procedure (answer.BodyEnded (Ended e)) [] s = subst (λ (v : Standing). Advances p w.number w.procedure (answer.BodyEnded (Ended e)) [] v) (sym to)
       (subst (λ (fs : List Frame). Advances p w.number (standing fs w.procedure.last) (answer.BodyEnded (Ended e)) [] (after_body at.0 at.1 (Ended e))) (sym at.2) (leaves_body fits)) in
       told p M l (record w { bodies = h.from }) s (answer.BodyEnded (Ended e)) z gave_up step (makes_ended M p w.number w.start.value w.main w.procedure.last (given_up w.procedure.last) e h.from z (w.bodies, h.come, ended))
-      (λ y r. let same : Some e ≡ Some y = ap ending_error (sym to) ∙ r in let it : e ≡ y = cc in subst (IsWhy p M l.threads.value gave_up) it why)
+      (λ y r. let same : Some e ≡ Some y = ap ending_error (sym to) ∙ r in let it : e ≡ y = cc in subst (IsWhy p M z l.threads.value gave_up) it (why_stays stay l.threads.value gave_up e w.bodies z ended why))
       (λ n. body_calm l (record w { bodies = h.from }) s.frames (record { requests = h.body.requests; main = h.body.main }) h.going (so_before l w gave_up was n))
       (λ y n. let no_way : None ≡ Some e = sym n ∙ ap ending_error to in cc) h.going
 
@@ -195,13 +208,14 @@ module _ {S : Type 0} (p : LinkedProgram) (M : Making S) where
       (subst (λ (x : Bool). LeadsOf p w.number (maker_of p M) (OutsideOf p w.number M w.start.value w.main x) (NoneOpenOf p w.number M w.start.value w.main x) w.procedure (of_thread w.number l.events.items) y) b st.leads)
 
   -- the machine ended that of main
-  pub left_main : (l : EventLog) (w : Thread S) (z : S) (e : ClassId) (gave_up : Bool) → is_running w.procedure.frames ≡ false → FitsBody p (given_up w.procedure.last) (Ended e) → IsWhy p M l.threads.value gave_up e → M.is_ended w.bodies z → HasComeTo p M l w → IsOver p M l (Ended e) (record w { bodies = z; gave_up = gave_up })
-  left_main l w z e gave_up q fits why ended h =
+  pub left_main : LimitsStay → (l : EventLog) (w : Thread S) (z : S) (e : ClassId) (gave_up : Bool) → is_running w.procedure.frames ≡ false → FitsBody p (given_up w.procedure.last) (Ended e) → IsWhy p M w.bodies l.threads.value gave_up e → M.is_ended w.bodies z → HasComeTo p M l w → IsOver p M l (Ended e) (record w { bodies = z; gave_up = gave_up })
+  left_main stay l w z e gave_up q fits why ended h =
       let none : w.procedure.frames ≡ [] = not_running w.procedure.frames h.body.requests q in
       record {
         number = h.going.number;
         word = stops_at M p w.number w.start.value w.main w.procedure.last e (of_thread w.number l.events.items) h.from z fits (w.bodies, h.come, ended) (in_main_leads l w h.from none (h.body.main none) h.going.stands);
-        reason = λ y r. let it : e ≡ y = cc in subst (IsWhy p M l.threads.value gave_up) it why;
+        reason = λ y r. let it : e ≡ y = cc in subst (IsWhy p M z l.threads.value gave_up) it (why_stays stay l.threads.value gave_up e w.bodies z ended why);
+        gave_up = λ y. (e, refl);
       }
 
   -- the body of a class is over
@@ -230,6 +244,7 @@ module _ {S : Type 0} (p : LinkedProgram) (M : Making S) where
         number = x.going.number;
         word = ends_main p w.number (maker_of p M) w.start.value w.main r x.goes_on is made (in_main_leads l w x.from none (x.body.main none) x.going.stands);
         reason = λ e z. absurd (other e z);
+        gave_up = λ y. absurd (x.going.gone y (goes_so w x.body x.goes_on));
       }
 
   pub main_returns : (l : EventLog) (w : Thread S) (thrown : Option ClassId) → thrown ≡ None → is_running w.procedure.frames ≡ false → IsDoing p M l (does.Over thrown) w → IsOver p M l Normal w
@@ -256,13 +271,13 @@ module _ {S : Type 0} (p : LinkedProgram) (M : Making S) where
   -- ---- a body that goes on
 
   -- what it does next, also after it has waited
-  pub next_does : (l : EventLog) (w : Thread S) (last : Option Completed) (d : Does) (z : S) → ((s u x : S) (o : Option Completed) → M.does s o does.Waits u → M.does u o d x → M.does s o d x) → last ≡ w.procedure.last → M.does w.bodies last d z → MayDo p M last d → IsInBody w → GoesOn w.procedure.last → Resting p M l w → IsDoing p M l d (record w { bodies = z })
+  pub next_does : (l : EventLog) (w : Thread S) (last : Option Completed) (d : Does) (z : S) → ((s u x : S) (o : Option Completed) → M.does s o does.Waits u → M.does u o d x → M.does s o d x) → last ≡ w.procedure.last → M.does w.bodies last d z → MayDo p M last d z → IsInBody w → GoesOn w.procedure.last → Resting p M l w → IsDoing p M l d (record w { bodies = z })
   next_does l w last d z law is made fits body on resting = ⊎_elim fresh again resting where
     does_now : M.does w.bodies w.procedure.last d z
     does_now = subst (λ (o : Option Completed). M.does w.bodies o d z) is made
 
-    fits_now : MayDo p M w.procedure.last d
-    fits_now = subst (λ (o : Option Completed). MayDo p M o d) is fits
+    fits_now : MayDo p M w.procedure.last d z
+    fits_now = subst (λ (o : Option Completed). MayDo p M o d z) is fits
 
     fresh : Going p M l w → IsDoing p M l d (record w { bodies = z })
     fresh g = record { from = w.bodies; going = g; body = record { requests = body.requests; main = body.main }; goes_on = on; does = does_now; fits = fits_now }
@@ -278,18 +293,19 @@ module _ {S : Type 0} (p : LinkedProgram) (M : Making S) where
 
   -- where it stands
   pub has_come : (l : EventLog) (w : Thread S) → IsInBody w → Resting p M l w → HasComeTo p M l w
-  has_come l w body resting = ⊎_elim (λ g. record { from = w.bodies; going = g; body = body; come = stays }) (λ x. record { from = x.from; going = x.going; body = body; come = comes does.Waits x.does }) resting
+  has_come l w body resting = ⊎_elim (λ g. record { from = w.bodies; going = g; body = body; come = stays }) (λ x. record { from = x.from; going = x.going; body = body; come = comes does.Waits x.goes_on x.does }) resting
 
   -- or at what it does next
   pub has_come_on : (l : EventLog) (w : Thread S) (d : Does) → IsDoing p M l d w → HasComeTo p M l w
-  has_come_on l w d x = record { from = x.from; going = x.going; body = record { requests = x.body.requests; main = x.body.main }; come = comes d x.does }
-
-  going_at : (l : EventLog) (w : Thread S) → Resting p M l w → (y : S) × Going p M l (record w { bodies = y })
-  going_at l w resting = ⊎_elim (λ g. (w.bodies, g)) (λ x. (x.from, x.going)) resting
+  has_come_on l w d x = record { from = x.from; going = x.going; body = record { requests = x.body.requests; main = x.body.main }; come = comes d x.goes_on x.does }
 
   -- why the machine is ending it
-  pub why_ended : (l : EventLog) (w : Thread S) (e : ClassId) → ending_error w.procedure ≡ Some e → Resting p M l w → IsWhy p M l.threads.value w.gave_up e
-  why_ended l w e q resting = (going_at l w resting).1.reason e q
+  pub why_ended : (l : EventLog) (w : Thread S) (e : ClassId) → ending_error w.procedure ≡ Some e → Resting p M l w → IsWhy p M w.bodies l.threads.value w.gave_up e
+  why_ended l w e q resting = ⊎_elim (λ g. g.reason e q) (λ x. absurd (let z : None ≡ Some e = sym (goes_so w x.body x.goes_on) ∙ q in cc)) resting
+
+  -- where it came to the limit of its steps
+  pub why_spent : (l : EventLog) (w : Thread S) (e : ClassId) → e ≡ limit_error p → IsDoing p M l (does.Ended Steps) w → IsWhy p M w.bodies l.threads.value false e
+  why_spent l w e is x = λ limits may. (is, x.fits.0)
 
   -- the machine ended an active use in the body
   pub was_ended : (w : Thread S) (e : ClassId) → IsInBody w → ending_error w.procedure ≡ Some e → FitsBody p (given_up w.procedure.last) (Ended e)
@@ -313,37 +329,38 @@ module _ {S : Type 0} (p : LinkedProgram) (M : Making S) where
   hasnt_given_up l w d x = not_gone w.gave_up (λ y. x.going.gone y (goes_so w x.body x.goes_on))
 
   -- nor one that stands at something that another thread holds
-  pub kept_calm : {W : S → Type 0} (l : EventLog) (w : Thread S) → WaitsInside p M W l w → w.gave_up ≡ false
+  pub kept_calm : {W : Bool → S → Type 0} (l : EventLog) (w : Thread S) → WaitsInside p M W l w → w.gave_up ≡ false
   kept_calm l w x = ⊎_elim (λ g. not_gone w.gave_up (λ y. g.gone y (goes_so w x.body x.goes_on))) (λ d. hasnt_given_up l w does.Waits d) x.resting
 
   -- where a body stands so
-  pub is_kept : {W : S → Type 0} (l : EventLog) (w : Thread S) → IsInBody w → ending_error w.procedure ≡ None → Resting p M l w → W w.bodies → IsPaused p M W l w
+  pub is_kept : {W : Bool → S → Type 0} (l : EventLog) (w : Thread S) → IsInBody w → ending_error w.procedure ≡ None → Resting p M l w → W true w.bodies → IsPaused p M W l w
   is_kept l w body q resting waits = in_body (record { resting = resting; body = body; goes_on = goes_on_in w body q; waits = waits })
 
   -- and then it may give up
-  pub gives_up_waiting : {W : S → Type 0} → ((s : S) → W s → M.waits s) → (l : EventLog) (w : Thread S) → WaitsInside p M W l w → IsWhy p M l.threads.value true (limit_error p)
+  pub gives_up_waiting : {W : Bool → S → Type 0} → ((s : S) → W true s → M.waits s) → (l : EventLog) (w : Thread S) → WaitsInside p M W l w → IsWhy p M w.bodies l.threads.value true (limit_error p)
   gives_up_waiting tells l w x limits may = (refl, λ none. (may none).1 w.bodies (tells w.bodies x.waits))
 
   -- the step of a thread whose bodies alone went on before
   pub stepped_from : (l : EventLog) (w v : Thread S) (m : EventLog) (x : Thread S) → IsSameThread w v → HasStepped p M l v m x → HasStepped p M l w m x
   stepped_from l w v m x same h = record {
     going = h.going;
-    made = subst (λ (t : ℕ). HasMade t l m) same.number h.made;
+    made = record { event = h.made.event; thread = h.made.thread ∙ same.number; events = h.made.events; sees = h.made.sees; threads = h.made.threads };
+    just = h.just;
     free = λ n c f. h.free (same.gave_up ∙ n) c (subst (λ (t : ℕ). WaitsFor t l.events.items c) (sym same.number) f);
   }
 
   -- ---- giving up
 
   -- where a look is asked for, the thread waits for that class
-  pub paused_look : {W : S → Type 0} (l : EventLog) (w : Thread S) (s : Standing) (c : ClassId) → next_of w.procedure.frames ≡ next.Look c → s ≡ thread_ended w.procedure (limit_error p) → IsPaused p M W l w → Going p M l (record w { procedure = s; gave_up = true })
-  paused_look l w s c q is (at_class d g r f) = gave_up_look p M l w s d r f is g
+  pub paused_look : {W : Bool → S → Type 0} (l : EventLog) (w : Thread S) (s : Standing) (c : ClassId) → next_of w.procedure.frames ≡ next.Look c → s ≡ thread_ended w.procedure (limit_error p) → IsPaused p M W l w → Going p M l (record w { procedure = s; gave_up = true })
+  paused_look l w s c q is (at_class d g r f used) = gave_up_look p M l w s d r f is g
   paused_look l w s c q is (in_body x) = absurd (no_look w.procedure.frames (body_at w.procedure.frames x.body.requests) c q)
 
   pub paused_may_end : (l : EventLog) (w : Thread S) (c : ClassId) → next_of w.procedure.frames ≡ next.Look c → MayEndThread w.procedure.frames
   paused_may_end l w c q = let x = looks_at w.procedure c q in subst MayEndThread (sym x.1.frames) tt
 
-  pub paused_body : {W : S → Type 0} (l : EventLog) (w : Thread S) → ((c : ClassId) → next_of w.procedure.frames ≢ next.Look c) → IsPaused p M W l w → WaitsInside p M W l w
-  paused_body l w other (at_class c g q f) = absurd (other c q)
+  pub paused_body : {W : Bool → S → Type 0} (l : EventLog) (w : Thread S) → ((c : ClassId) → next_of w.procedure.frames ≢ next.Look c) → IsPaused p M W l w → WaitsInside p M W l w
+  paused_body l w other (at_class c g q f used) = absurd (other c q)
   paused_body l w other (in_body x) = x
 
   -- ---- where a turn goes
@@ -373,20 +390,20 @@ module _ {S : Type 0} (p : LinkedProgram) (M : Making S) where
   main_rests l w q b resting = ⊎_elim (λ g. main_body p M l w q b g) (λ x. record { requests = x.body.requests; main = x.body.main }) resting
 
   -- and else the body that waits is ended
-  pub paused_come : {W : S → Type 0} (l : EventLog) (w : Thread S) → ((c : ClassId) → next_of w.procedure.frames ≢ next.Look c) → IsPaused p M W l w → HasComeTo p M l w
+  pub paused_come : {W : Bool → S → Type 0} (l : EventLog) (w : Thread S) → ((c : ClassId) → next_of w.procedure.frames ≢ next.Look c) → IsPaused p M W l w → HasComeTo p M l w
   paused_come l w other h = let x = paused_body l w other h in has_come l w x.body x.resting
 
-  pub paused_fits : {W : S → Type 0} (l : EventLog) (w : Thread S) (e : ClassId) → e ≡ limit_error p → ((c : ClassId) → next_of w.procedure.frames ≢ next.Look c) → IsPaused p M W l w → FitsBody p (given_up w.procedure.last) (Ended e)
+  pub paused_fits : {W : Bool → S → Type 0} (l : EventLog) (w : Thread S) (e : ClassId) → e ≡ limit_error p → ((c : ClassId) → next_of w.procedure.frames ≢ next.Look c) → IsPaused p M W l w → FitsBody p (given_up w.procedure.last) (Ended e)
   paused_fits l w e is other h = subst (λ (v : ClassId). FitsBody p (given_up w.procedure.last) (Ended v)) (sym is) (fits_limit w (paused_body l w other h).goes_on)
 
-  pub paused_why : {W : S → Type 0} → ((s : S) → W s → M.waits s) → (l : EventLog) (w : Thread S) (e : ClassId) → e ≡ limit_error p → ((c : ClassId) → next_of w.procedure.frames ≢ next.Look c) → IsPaused p M W l w → IsWhy p M l.threads.value true e
-  paused_why tells l w e is other h = subst (IsWhy p M l.threads.value true) (sym is) (gives_up_waiting tells l w (paused_body l w other h))
+  pub paused_why : {W : Bool → S → Type 0} → ((s : S) → W true s → M.waits s) → (l : EventLog) (w : Thread S) (e : ClassId) → e ≡ limit_error p → ((c : ClassId) → next_of w.procedure.frames ≢ next.Look c) → IsPaused p M W l w → IsWhy p M w.bodies l.threads.value true e
+  paused_why tells l w e is other h = subst (IsWhy p M w.bodies l.threads.value true) (sym is) (gives_up_waiting tells l w (paused_body l w other h))
 
-  pub paused_was : {W : S → Type 0} (l : EventLog) (w : Thread S) → ((c : ClassId) → next_of w.procedure.frames ≢ next.Look c) → IsPaused p M W l w → w.gave_up ≡ false
+  pub paused_was : {W : Bool → S → Type 0} (l : EventLog) (w : Thread S) → ((c : ClassId) → next_of w.procedure.frames ≢ next.Look c) → IsPaused p M W l w → w.gave_up ≡ false
   paused_was l w other h = kept_calm l w (paused_body l w other h)
 
   -- a turn after turns without an event
-  pub turns_from : (W : S → Type 0) (l k : EventLog) (w v : Thread S) (m : EventLog) (x : Thread S) (t : Turn) → k ≡ l → IsSameThread w v → TurnsTo p M W k v m x t → TurnsTo p M W l w m x t
+  pub turns_from : (W : Bool → S → Type 0) (l k : EventLog) (w v : Thread S) (m : EventLog) (x : Thread S) (t : Turn) → k ≡ l → IsSameThread w v → TurnsTo p M W k v m x t → TurnsTo p M W l w m x t
   turns_from W l k w v m x turn.Event is same h = stepped_from l w v m x same (subst (λ (y : EventLog). HasStepped p M y v m x) is h)
   turns_from W l k w v m x turn.Silent is same h = (h.0, h.1 ∙ is)
   turns_from W l k w v m x turn.Comes is same h = (h.0, h.1 ∙ is)

@@ -28,7 +28,7 @@ use Rattle.trace.specs.declared.report.ThreadOutcome.TheVariants as outcome
 use Rattle.trace.specs.Output.{output_of}
 use Rattle.bodies.specs.Lending.{Lending, Lent, lent_at_start, lent_bodies}
 use Rattle.bodies.specs.Making.{Making, maker_of}
-use Rattle.bodies.specs.Runs.{IsOutcome, IsThreadRun, AreOutcomes}
+use Rattle.bodies.specs.Runs.{IsOutcome}
 use Rattle.replayer.specs.declared.log.EventLog.{EventLog}
 use Rattle.replayer.specs.declared.run.Run.{Run}
 use Rattle.replayer.specs.declared.thread.Thread.{Thread}
@@ -81,10 +81,10 @@ mine_one : (t : ℕ) → mine t (InProgress t) ≡ 1
 mine_one t = rw (eq-eqb t t refl) refl
 
 module _ {S H : Type 0} (p : LinkedProgram) (M : Making (Lent S H)) where
-  outcome_is : (limits : Limits) (threads : ℕ) → MayGiveUp M threads limits → (r : Outcome) (gave_up : Bool) → ((e : ClassId) → r ≡ Ended e → IsWhy p M threads gave_up e) → IsOutcome p M limits r (outcome_by gave_up r)
-  outcome_is limits threads may Normal gave_up reason = refl
-  outcome_is limits threads may (Abrupt e) gave_up reason = refl
-  outcome_is limits threads may (Ended e) gave_up reason = reason e refl limits may
+  outcome_is : (limits : Limits) (threads : ℕ) → MayGiveUp M threads limits → (end : Lent S H) (r : Outcome) (gave_up : Bool) → ((e : ClassId) → r ≡ Ended e → IsWhy p M end threads gave_up e) → IsOutcome p M limits end r (outcome_by gave_up r)
+  outcome_is limits threads may end Normal gave_up reason = refl
+  outcome_is limits threads may end (Abrupt e) gave_up reason = refl
+  outcome_is limits threads may end (Ended e) gave_up reason = reason e refl limits may
 
   not_memory : (gave_up : Bool) (r : Outcome) → outcome_by gave_up r ≢ outcome.Ended Memory
   not_memory gave_up Normal q = cc
@@ -175,7 +175,7 @@ module _ {S H : Type 0} (p : LinkedProgram) (M : Making (Lent S H)) where
           subst (λ (c : ClassId). IsTurnsOf p M r.shared.first.value r.shared.turns.items start limits t c events o) main
               (subst (λ (s : Lent S H). IsTurnsOf p M r.shared.first.value r.shared.turns.items s limits t w.0.main events o) begin
               (record {
-                run = record { result = h.result; end = h.over.end; word = word_at r t w.0 h; outcome = outcome_is limits (length (mains_of r)) may h.result w.0.gave_up (λ e q. subst (λ (n : ℕ). IsWhy p M n w.0.gave_up e) (going.count ∙ sym many) (h.over.reason e q)) };
+                run = record { result = h.result; end = h.over.end; word = word_at r t w.0 h; outcome = outcome_is limits (length (mains_of r)) may h.over.end h.result w.0.gave_up (λ e q. subst (λ (n : ℕ). IsWhy p M h.over.end n w.0.gave_up e) (going.count ∙ sym many) (h.over.reason e q)) };
                 last = w.0.bodies;
                 ends = h.over.ends;
                 uses = ap (λ v. v.bodies.uses) (sym h.is) ∙ in_turn.uses t w.0 h.low;
@@ -192,7 +192,7 @@ module _ {S H : Type 0} (p : LinkedProgram) (M : Making (Lent S H)) where
     none_to_come : AreToCome (outcomes_of r) r [] []
     none_to_come t other low x done = (refl, tt, slice_get_map (λ v. outcome_in v.done (outcome_by v.gave_up)) r.threads.items t other (slice_index_or r.threads.items t other) low refl ∙ ap (λ (o : Option Outcome). Some (outcome_in o (outcome_by (slice_index_or r.threads.items t other).gave_up))) done)
 
-    follows : (U W : List (ℕ × H) → ℕ → Lent S H → Type 0) (order later : List ℕ) (begin : Run (Lent S H) H) → AreGone [] begin → begin.log.events.items ≡ [] → begin.shared.turns.items ≡ [] → Leads p M U W order [] begin [] later r →
+    follows : (U : List (ℕ × H) → ℕ → Lent S H → Type 0) (W : List (ℕ × H) → ℕ → Bool → Lent S H → Type 0) (order later : List ℕ) (begin : Run (Lent S H) H) → AreGone [] begin → begin.log.events.items ≡ [] → begin.shared.turns.items ≡ [] → Leads p M U W order [] begin [] later r →
         Follows p M U W (starts_of r) (mains_of r) (outcomes_of r) order [] [] [] r.log.events.items r.shared.turns.items
     follows U W order later begin fresh none no_turns leads =
         let gone = leads.have_gone fresh in
@@ -201,7 +201,7 @@ module _ {S H : Type 0} (p : LinkedProgram) (M : Making (Lent S H)) where
         let inside : t < length r.threads.items = omega (arith, many, low) in
         let any = some_of r.threads.items t inside in
         let d = all t any inside in
-        done_ended p M U W later t r any d.0 (outcomes_of r) [] [] inside gone d.1 none_to_come) in
+        done_ended p M U W later t r any d.0 (outcomes_of r) [] [] inside going gone d.1 none_to_come) in
         let events : leads.made ++ [] ≡ r.log.events.items = append-nil leads.made ∙ sym (leads.events ∙ ap (λ (es : List Event). es ++ leads.made) none) in
         let turns : leads.turned ++ [] ≡ r.shared.turns.items = append-nil leads.turned ∙ sym (leads.turns ∙ ap (λ (xs : List (ℕ × H)). xs ++ leads.turned) no_turns) in
         subst (λ (es : List Event). Follows p M U W (starts_of r) (mains_of r) (outcomes_of r) order [] es [] r.log.events.items r.shared.turns.items) none
@@ -235,7 +235,7 @@ ordered {S = S} {H = H} p L M first r begin starts mains order later report goin
   B : Making (Lent S H)
   B = lent_bodies L M
 
-  waits_so : List (ℕ × H) → ℕ → Lent S H → Type 0
+  waits_so : List (ℕ × H) → ℕ → Bool → Lent S H → Type 0
   waits_so = WaitsAfter L M first
 
   here : mains_of r ≡ mains

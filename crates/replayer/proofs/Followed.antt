@@ -1,6 +1,6 @@
 -- What the turns of threads keep of an order.
 use Rattle.std.proofs.Common.{◌≡◌, ◌≢◌, ◌⊎◌, inl, inr, ⊎_elim, ℕ, zero, suc, ◌+◌, ◌<◌, List, [], ◌∷◌, ◌++◌, Option, Some, None, Bool, true, false, length, map, refl, sym, ap, subst, ◌∙◌, append-nil, append_assoc, arith}
-use Rattle.std.specs.Prelude.{slice_get, slice_index_or}
+use Rattle.std.specs.Prelude.{MatchOption, slice_get, slice_index_or}
 use Rattle.std.specs.List.{AllByRecursion, Contains}
 use Rattle.std.proofs.lemmas.List.{length-map}
 use Rattle.std.proofs.lemmas.Bool.{ne_eqb}
@@ -8,10 +8,11 @@ use Rattle.std.proofs.lemmas.Bool.Decides.{eqb_tells}
 use Rattle.hierarchy.specs.declared.class.ClassId.{ClassId}
 use Rattle.hierarchy.specs.LinkedProgram.{LinkedProgram}
 use Rattle.init_core.specs.declared.event.Event.{Event}
+use Rattle.init_core.specs.declared.event.Kind.{Kind}
 use Rattle.init_core.specs.declared.frames.Outcome.{Outcome}
 use Rattle.init_core.specs.declared.frames.Outcome.TheVariants.{Normal, Abrupt, Ended}
 use Rattle.init_core.specs.Interleaving.{of_class, of_thread}
-use Rattle.trace.specs.declared.report.Limit.TheVariants.{Patience, Steps}
+use Rattle.trace.specs.declared.report.Limit.TheVariants.{Patience}
 use Rattle.trace.specs.declared.report.ThreadOutcome.{ThreadOutcome}
 use Rattle.trace.specs.declared.report.ThreadOutcome.TheVariants as outcome
 use Rattle.bodies.specs.Making.{Making}
@@ -21,8 +22,10 @@ use Rattle.replayer.specs.declared.thread.Thread.{Thread}
 use Rattle.replayer.specs.declared.thread.Turn.{Turn}
 use Rattle.replayer.specs.declared.thread.Turn.TheVariants as turn
 use Rattle.replayer.specs.AllGoing.{AreGoing, AreGone, AreToCome, HasDone, HasGone, IsHeld, IsSameBut, IsSameThere, Leads, ThreadAt, mains_of, starts_of}
-use Rattle.replayer.specs.Going.{Going, IsInBody, IsPaused, at_class, in_body, outcome_by}
-use Rattle.replayer.specs.OrderedRun.{Follows, HasEnded, IsAt, IsInBodyAt, IsStuck, IsWaiting, WaitsFor, WaitsInBody, made as makes, gives_up, goes_on, lowest, skipped}
+use Rattle.replayer.specs.Going.{Going, HasLeft, IsInBody, IsPaused, Resting, at_class, in_body, outcome_by}
+use Rattle.init_core.specs.Advance.{is_waiting}
+use Rattle.init_core.specs.Standing.{Standing}
+use Rattle.replayer.specs.OrderedRun.{HasJustMade, Follows, HasEnded, IsAt, IsInBodyAt, IsStuck, IsWaiting, WaitsFor, WaitsInBody, made as makes, gives_up, goes_on, lowest, skipped}
 use Rattle.replayer.specs.Turns.{AreOf}
 use Rattle.replayer.proofs.Acting.{not_gone}
 use Rattle.replayer.proofs.Stepping.{not_both}
@@ -40,11 +43,9 @@ not_patience Normal q = cc
 not_patience (Abrupt e) q = cc
 not_patience (Ended e) q = cc
 
--- one that gave up isn't ended for its steps
-not_steps : (x : Outcome) → outcome_by true x ≢ outcome.Ended Steps
-not_steps Normal q = cc
-not_steps (Abrupt e) q = cc
-not_steps (Ended e) q = cc
+-- and one that gave up and was ended is
+for_patience : (gave_up : Bool) (x : Outcome) → gave_up ≡ true → (e : ClassId) × (x ≡ Ended e) → outcome_by gave_up x ≡ outcome.Ended Patience
+for_patience gave_up x is ended = subst (λ (b : Bool). outcome_by b x ≡ outcome.Ended Patience) (sym is) (subst (λ (r : Outcome). outcome_by true r ≡ outcome.Ended Patience) (sym ended.1) refl)
 
 -- an item by its number
 pub slice_get_map : {A B : Type 0} (f : A → B) (xs : List A) (t : ℕ) (other x : A) → t < length xs → slice_index_or xs t other ≡ x → slice_get (map f xs) t ≡ Some (f x)
@@ -57,7 +58,7 @@ all_at P [] t other a low = absurd (omega (arith, low))
 all_at P (x ∷ xs) zero other a low = a.0
 all_at P (x ∷ xs) (suc t) other a low = all_at P xs t other a.1 (omega (arith, low))
 
-module _ {S H : Type 0} (p : LinkedProgram) (M : Making S) (U W : List (ℕ × H) → ℕ → S → Type 0) where
+module _ {S H : Type 0} (p : LinkedProgram) (M : Making S) (U : List (ℕ × H) → ℕ → S → Type 0) (W : List (ℕ × H) → ℕ → Bool → S → Type 0) where
   pub leads_nowhere : (order gone : List ℕ) (r : Run S H) → Leads p M U W order gone r order gone r
   leads_nowhere order gone r = record {
     mains = refl;
@@ -162,8 +163,8 @@ module _ {S H : Type 0} (p : LinkedProgram) (M : Making S) (U W : List (ℕ × H
   no_turns t r s same = record { turned = []; own = tt; turns = ap (λ x. x.turns.items) same ∙ sym (append-nil r.shared.turns.items) }
 
   -- where a thread stands
-  at_event : (t : ℕ) (s : Run S H) (other w : Thread S) → t < length s.threads.items → slice_index_or s.threads.items t other ≡ w → AreGoing p M s → Going p M s.log w → U s.shared.turns.items t w.bodies → IsAt p M (U s.shared.turns.items t) (starts_of s) (mains_of s) t s.log.events.items
-  at_event t s other w low is g going used = record {
+  at_event : (Such : Standing → Type 0) (V : S → Type 0) (t : ℕ) (s : Run S H) (other w : Thread S) → t < length s.threads.items → slice_index_or s.threads.items t other ≡ w → AreGoing p M s → Going p M s.log w → Such w.procedure → V w.bodies → IsAt p M Such V (starts_of s) (mains_of s) t s.log.events.items
+  at_event Such V t s other w low is g going such used = record {
     start = w.start.value;
     main = w.main;
     its_start = slice_get_map (λ v. v.start.value) s.threads.items t other w low is;
@@ -172,17 +173,20 @@ module _ {S H : Type 0} (p : LinkedProgram) (M : Making S) (U W : List (ℕ × H
     standing = w.procedure;
     state = w.bodies;
     stands = subst (λ (n : ℕ). ThreadStands p n M w.start.value w.main w.in_main w.procedure (of_thread n s.log.events.items) (λ c. of_class c s.log.events.items) w.bodies) (sym (ap (λ v. v.number) is) ∙ g.numbers t other low) going.stands;
+    such = such;
     used = used;
   }
 
   -- after its event, in the events and turns before it and its own
-  after_event : (t : ℕ) (r s : Run S H) (w : Thread S) → t < length r.threads.items → AreGoing p M s → (x : HasOwn t r s) (g : HasGone p M U W t r s turn.Event) → IsSameBut t r s → IsAt p M (U (r.shared.turns.items ++ x.turned) g.0.event.thread) (starts_of s) (mains_of s) g.0.event.thread (r.log.events.items ++ g.0.event ∷ [])
+  after_event : (t : ℕ) (r s : Run S H) (w : Thread S) → t < length r.threads.items → AreGoing p M s → (x : HasOwn t r s) (g : HasGone p M U W t r s turn.Event) → IsSameBut t r s →
+      IsAt p M (HasJustMade g.0.event.kind) (U (r.shared.turns.items ++ x.turned) g.0.event.thread) (starts_of s) (mains_of s) g.0.event.thread (r.log.events.items ++ g.0.event ∷ [])
   after_event t r s w low going x g o =
       let here = g.3 w in
-      subst (λ (n : ℕ). IsAt p M (U (r.shared.turns.items ++ x.turned) n) (starts_of s) (mains_of s) n (r.log.events.items ++ g.0.event ∷ [])) (sym g.0.thread)
-      (subst (λ (es : List Event). IsAt p M (U (r.shared.turns.items ++ x.turned) t) (starts_of s) (mains_of s) t es) g.0.events
-      (subst (λ (xs : List (ℕ × H)). IsAt p M (U xs t) (starts_of s) (mains_of s) t s.log.events.items) x.turns
-      (at_event t s w (slice_index_or s.threads.items t w) (let many = same_length o in omega (arith, many, low)) refl going here.0 here.1)))
+      let just = HasJustMade g.0.event.kind in
+      subst (λ (n : ℕ). IsAt p M just (U (r.shared.turns.items ++ x.turned) n) (starts_of s) (mains_of s) n (r.log.events.items ++ g.0.event ∷ [])) (sym g.0.thread)
+      (subst (λ (es : List Event). IsAt p M just (U (r.shared.turns.items ++ x.turned) t) (starts_of s) (mains_of s) t es) g.0.events
+      (subst (λ (xs : List (ℕ × H)). IsAt p M just (U xs t) (starts_of s) (mains_of s) t s.log.events.items) x.turns
+      (at_event just (U s.shared.turns.items t) t s w (slice_index_or s.threads.items t w) (let many = same_length o in omega (arith, many, low)) refl going here.0 here.2 here.1)))
 
   -- it makes an event
   event_made : (order : List ℕ) (t : ℕ) (r s : Run S H) → t < length r.threads.items → AreGoing p M s → HasOwn t r s → HasGone p M U W t r s turn.Event → IsSameBut t r s → IsSameThere t r s → Leads p M U W (t ∷ order) [] r order [] s
@@ -251,20 +255,27 @@ module _ {S H : Type 0} (p : LinkedProgram) (M : Making S) (U W : List (ℕ × H
   pub held_waits : (gone : List ℕ) (t : ℕ) (s : Run S H) (other : Thread S) → t < length s.threads.items → AreGoing p M s → AreGone gone s → IsHeld p M (W s.shared.turns.items t) s.log (slice_index_or s.threads.items t other) → IsWaiting p M (W s.shared.turns.items t) (starts_of s) (mains_of s) gone t s.log.events.items
   held_waits gone t s other low g a held = record {
     goes_on = λ c. not_both held.goes_on ((a t other low).1 c);
-    waits = by (slice_index_or s.threads.items t other) refl held.paused;
+    waits = by (slice_index_or s.threads.items t other) refl held.goes_on held.paused;
   } where
-    by : (w : Thread S) → slice_index_or s.threads.items t other ≡ w → IsPaused p M (W s.shared.turns.items t) s.log w → ((c : ClassId) × WaitsFor t s.log.events.items c) ⊎ WaitsInBody p M (W s.shared.turns.items t) (starts_of s) (mains_of s) t s.log.events.items
-    by w is (at_class c going q f) = inl (c, subst (λ (n : ℕ). WaitsFor n s.log.events.items c) (sym (ap (λ v. v.number) is) ∙ g.numbers t other low) f)
-    by w is (in_body x) = inr (⊎_elim
+    by : (w : Thread S) → slice_index_or s.threads.items t other ≡ w → w.gave_up ≡ false → IsPaused p M (W s.shared.turns.items t) s.log w →
+        ((c : ClassId) × WaitsFor t s.log.events.items c × IsAt p M (λ v. is_waiting c v.frames ≡ true) (W s.shared.turns.items t false) (starts_of s) (mains_of s) t s.log.events.items) ⊎ WaitsInBody p M (W s.shared.turns.items t true) (starts_of s) (mains_of s) t s.log.events.items
+    by w is calm (at_class c going q f used) = inl (
+      c,
+      subst (λ (n : ℕ). WaitsFor n s.log.events.items c) (sym (ap (λ v. v.number) is) ∙ g.numbers t other low) f,
+      at_event (λ v. is_waiting c v.frames ≡ true) (W s.shared.turns.items t false) t s other w low is g going (going.calm calm c f.last) used,
+    )
+    by w is calm (in_body x) = inr (⊎_elim
         (λ y. record { before = w.bodies; body = in_body_at t s other w w.bodies low is g y x.body; now = w.bodies; come = inl refl; waits = x.waits })
         (λ d. record { before = d.from; body = in_body_at t s other w d.from low is g d.going x.body; now = w.bodies; come = inr d.does; waits = x.waits })
         x.resting)
 
   -- a thread that has ended
-  pub done_ended : (gone : List ℕ) (t : ℕ) (s : Run S H) (other : Thread S) (x : Outcome) (outcomes : List ThreadOutcome) (rest : List Event) (more : List (ℕ × H)) → t < length s.threads.items → AreGone gone s → (slice_index_or s.threads.items t other).done ≡ Some x → AreToCome outcomes s rest more → HasEnded outcomes gone t rest more
-  done_ended gone t s other x outcomes rest more low a done c =
+  pub done_ended : (gone : List ℕ) (t : ℕ) (s : Run S H) (other : Thread S) (x : Outcome) (outcomes : List ThreadOutcome) (rest : List Event) (more : List (ℕ × H)) → t < length s.threads.items → AreGoing p M s → AreGone gone s → (slice_index_or s.threads.items t other).done ≡ Some x → AreToCome outcomes s rest more → HasEnded outcomes gone t rest more
+  done_ended gone t s other x outcomes rest more low g a done c =
+      let w = slice_index_or s.threads.items t other in
       let b = c t other low x done in
-      record { none = b.0; turns = b.1; patient = λ q. by (slice_index_or s.threads.items t other).gave_up refl (sym b.2 ∙ q); impatient = λ is q. not_steps x (let z : outcome_by (slice_index_or s.threads.items t other).gave_up x ≡ outcome.Ended Steps = (let y = sym b.2 ∙ q in cc) in subst (λ (y : Bool). outcome_by y x ≡ outcome.Ended Steps) ((a t other low).1 is) z) } where
+      let left : HasLeft p M s.log x w = subst (λ (o : Option Outcome). MatchOption o (Resting p M s.log w) (λ r. HasLeft p M s.log r w)) done (g.threads t other low) in
+      record { none = b.0; turns = b.1; patient = λ q. by w.gave_up refl (sym b.2 ∙ q); gave_up = λ is. (let y = (a t other low).1 is in b.2 ∙ ap Some (for_patience w.gave_up x y (left.gave_up y))) } where
         by : (y : Bool) → (slice_index_or s.threads.items t other).gave_up ≡ y → Some (outcome_by (slice_index_or s.threads.items t other).gave_up x) ≡ Some (outcome.Ended Patience) → Contains gone t
         by true is q = (a t other low).0 is
         by false is q = absurd (not_patience x (let z : outcome_by (slice_index_or s.threads.items t other).gave_up x ≡ outcome.Ended Patience = cc in subst (λ (y : Bool). outcome_by y x ≡ outcome.Ended Patience) is z))
@@ -272,7 +283,7 @@ module _ {S H : Type 0} (p : LinkedProgram) (M : Making S) (U W : List (ℕ × H
   -- one that has ended or waits can't go on
   stuck_there : (gone : List ℕ) (u : ℕ) (r : Run S H) (other : Thread S) (outcomes : List ThreadOutcome) (rest : List Event) (more : List (ℕ × H)) → u < length r.threads.items → AreGoing p M r → AreGone gone r → AreToCome outcomes r rest more → HasDone (slice_index_or r.threads.items u other) ⊎ IsHeld p M (W r.shared.turns.items u) r.log (slice_index_or r.threads.items u other) →
       IsStuck p M (W r.shared.turns.items) (starts_of r) (mains_of r) outcomes gone u r.log.events.items rest more
-  stuck_there gone u r other outcomes rest more low g a c (inl d) = inl (done_ended gone u r other d.0 outcomes rest more low a d.1 c)
+  stuck_there gone u r other outcomes rest more low g a c (inl d) = inl (done_ended gone u r other d.0 outcomes rest more low g a d.1 c)
   stuck_there gone u r other outcomes rest more low g a c (inr h) = inr (held_waits gone u r other low g a h)
 
   pub one_turn : (order : List ℕ) (t : ℕ) (r s : Run S H) (of_turn : Turn) → t < length r.threads.items → AreGoing p M s → HasOwn t r s → HasGone p M U W t r s of_turn → IsSameBut t r s → IsSameThere t r s → Leads p M U W (t ∷ order) [] r order [] s
@@ -436,7 +447,7 @@ module _ {S H : Type 0} (p : LinkedProgram) (M : Making S) (U W : List (ℕ × H
         let events = r.log.events.items in
         gives_up t own.turned own.own (subst (λ (n : ℕ). t < n) (sym (ap length o.mains ∙ count)) low)
         (subst (λ (ss : List S). IsWaiting p M (waits t) ss (mains_of s) gone t events) (sym o.starts) (subst (λ (ms : List ClassId). IsWaiting p M (waits t) (starts_of r) ms gone t events) (sym o.mains) (held_waits gone t r w low g a (held w))))
-        (λ u below. let x = under u w (omega (arith, below, low)) below in done_ended gone u r w x.0 outcomes rest (own.turned ++ more) (omega (arith, below, low)) a x.1 d)
+        (λ u below. let x = under u w (omega (arith, below, low)) below in done_ended gone u r w x.0 outcomes rest (own.turned ++ more) (omega (arith, below, low)) g a x.1 d)
         (λ u below.
         let inside : u < length r.threads.items = subst (λ (n : ℕ). u < n) (ap length o.mains ∙ count) below in
         subst (λ (ss : List S). IsStuck p M waits ss (mains_of s) outcomes gone u events rest (own.turned ++ more)) (sym o.starts)

@@ -1,4 +1,5 @@
 pub mod Turned
+pub mod JustMade
 pub mod Logged
 pub mod Stepping
 pub mod Acting

@@ -45,7 +45,7 @@ module _ {S : Type 0} (p : LinkedProgram) (M : Making S) where
     stands = others_go_on p w.number (maker_of p M) (OutsideOf p w.number M w.start.value w.main w.in_main) (NoneOpenOf p w.number M w.start.value w.main w.in_main) (goes_of M p w.number w.start.value w.main w.in_main) made.sees apart
         (subst (λ (es : List Event). ThreadStands p w.number M w.start.value w.main w.in_main w.procedure es (histories l.events.items) w.bodies) (sym (own_as_was t w.number l m made other)) g.stands);
     begun = g.begun;
-    reason = λ e q. subst (λ x. IsWhy p M x.value w.gave_up e) (sym made.threads) (g.reason e q);
+    reason = λ e q. subst (λ x. IsWhy p M w.bodies x.value w.gave_up e) (sym made.threads) (g.reason e q);
     calm = λ n c q. g.calm n c (sym (ap (waits w.number) (made.sees.adds c) ∙ waits_others_from false w.number (histories l.events.items c) (of_class c (made.event ∷ [])) (apart c)) ∙ q);
     gone = g.gone;
   } where
@@ -62,7 +62,8 @@ module _ {S : Type 0} (p : LinkedProgram) (M : Making S) where
     end = o.end;
     word = subst (λ (es : List Event). ThreadWordOf p w.number (maker_of p M) w.start.value w.main es r o.end) (sym (own_as_was t w.number l m made other)) o.word;
     ends = o.ends;
-    reason = λ e q. subst (λ x. IsWhy p M x.value w.gave_up e) (sym made.threads) (o.reason e q);
+    reason = λ e q. subst (λ x. IsWhy p M o.end x.value w.gave_up e) (sym made.threads) (o.reason e q);
+    gave_up = o.gave_up;
   }
 
   pub others_there : (t : ℕ) (l m : EventLog) (w : Thread S) → HasMade t l m → IsLog p m → w.number ≢ t → IsThere p M l w → IsThere p M m w
@@ -80,7 +81,8 @@ module _ {S : Type 0} (p : LinkedProgram) (M : Making S) where
         (subst (λ (s : S). ThreadWordOf p w.number (maker_of p M) s x.main (of_thread w.number l.events.items) r w.bodies) (sym (ap (λ s. s.value) same.start))
         (subst (λ (m : ClassId). ThreadWordOf p w.number (maker_of p M) w.start.value m (of_thread w.number l.events.items) r w.bodies) (sym same.main) h.word));
     ends = ends;
-    reason = λ e q. subst (λ (b : Bool). IsWhy p M l.threads.value b e) (sym same.gave_up) (h.reason e q);
+    reason = λ e q. subst (λ (b : Bool). IsWhy p M w.bodies l.threads.value b e) (sym same.gave_up) (h.reason e q);
+    gave_up = λ y. h.gave_up (sym same.gave_up ∙ y);
   })
 
   -- a thread that can't go on, or does
@@ -90,21 +92,21 @@ module _ {S : Type 0} (p : LinkedProgram) (M : Making S) where
   pub rests_of : (l : EventLog) (w : Thread S) → w.done ≡ None → IsThere p M l w → Resting p M l w
   rests_of l w none x = subst (λ (o : Option Outcome). MatchOption o (Resting p M l w) (λ r. HasLeft p M l r w)) none x
 
-  pub paused_rests : {W : S → Type 0} (l : EventLog) (w : Thread S) → IsPaused p M W l w → Resting p M l w
-  paused_rests l w (at_class c g q f) = inl g
+  pub paused_rests : {W : Bool → S → Type 0} (l : EventLog) (w : Thread S) → IsPaused p M W l w → Resting p M l w
+  paused_rests l w (at_class c g q f used) = inl g
   paused_rests l w (in_body x) = x.resting
 
   -- one that waits hasn't given up
-  pub paused_calm : {W : S → Type 0} (l : EventLog) (w : Thread S) → IsPaused p M W l w → w.gave_up ≡ false
-  paused_calm l w (at_class c g q f) = not_gone p M w.gave_up (λ y. g.gone y (look_goes_on p M l w c q g))
+  pub paused_calm : {W : Bool → S → Type 0} (l : EventLog) (w : Thread S) → IsPaused p M W l w → w.gave_up ≡ false
+  paused_calm l w (at_class c g q f used) = not_gone p M w.gave_up (λ y. g.gone y (look_goes_on p M l w c q g))
   paused_calm l w (in_body x) = kept_calm p M l w x
 
   -- and so by what else says that it waits
-  pub paused_by : {V W : S → Type 0} (l : EventLog) (w : Thread S) → (V w.bodies → W w.bodies) → IsPaused p M V l w → IsPaused p M W l w
-  paused_by l w f (at_class c g q x) = at_class c g q x
-  paused_by l w f (in_body x) = in_body (record { resting = x.resting; body = x.body; goes_on = x.goes_on; waits = f x.waits })
+  pub paused_by : {V W : Bool → S → Type 0} (l : EventLog) (w : Thread S) → ((in_body : Bool) → V in_body w.bodies → W in_body w.bodies) → IsPaused p M V l w → IsPaused p M W l w
+  paused_by l w f (at_class c g q x used) = at_class c g q x (f false used)
+  paused_by l w f (in_body x) = in_body (record { resting = x.resting; body = x.body; goes_on = x.goes_on; waits = f true x.waits })
 
-  pub turns_by : (V W : S → Type 0) (l : EventLog) (w : Thread S) (m : EventLog) (x : Thread S) (t : Turn) → (V x.bodies → W x.bodies) → TurnsTo p M V l w m x t → TurnsTo p M W l w m x t
+  pub turns_by : (V W : Bool → S → Type 0) (l : EventLog) (w : Thread S) (m : EventLog) (x : Thread S) (t : Turn) → ((in_body : Bool) → V in_body x.bodies → W in_body x.bodies) → TurnsTo p M V l w m x t → TurnsTo p M W l w m x t
   turns_by V W l w m x turn.Event f h = h
   turns_by V W l w m x turn.Silent f h = h
   turns_by V W l w m x turn.Comes f h = (paused_by m x f h.0, h.1)

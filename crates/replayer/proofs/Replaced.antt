@@ -1,5 +1,5 @@
 -- What stands of all threads where one of them is replaced.
-use Rattle.std.proofs.Common.{◌≡◌, ◌≢◌, ◌⊎◌, inl, inr, ℕ, ◌<◌, ◌==◌, List, Option, Some, None, true, false, map, length, refl, sym, ap, subst, ◌∙◌, arith}
+use Rattle.std.proofs.Common.{◌≡◌, ◌≢◌, ◌⊎◌, inl, inr, ℕ, ◌<◌, ◌==◌, List, Option, Some, None, Bool, true, false, map, length, refl, sym, ap, subst, ◌∙◌, arith}
 use Rattle.std.specs.Prelude.{slice_index_or, slice_set}
 use Rattle.std.proofs.Math.Seq.{map-set_same}
 use Rattle.std.proofs.lemmas.Bool.Decides.{eqb_tells}
@@ -14,7 +14,7 @@ use Rattle.replayer.specs.declared.thread.Turn.TheVariants as turn
 use Rattle.replayer.specs.AllGoing.{AreGoing, HasGone, IsHeld, IsSameBut, IsSameThere, IsThere}
 use Rattle.replayer.specs.Going.{Going, IsOver, IsPaused, IsSameThread, TurnsTo}
 use Rattle.replayer.specs.Logged.{IsLog, HasMade}
-use Rattle.replayer.specs.OrderedRun.{WaitsFor}
+use Rattle.replayer.specs.OrderedRun.{HasJustMade, WaitsFor}
 use Rattle.replayer.proofs.Others.{ended_over, others_there, paused_calm, paused_rests, there_of}
 
 pub item_at : {A : Type 0} (xs : List A) (t : ℕ) (x other : A) → t < length xs → x ≡ slice_index_or xs t x → slice_index_or xs t other ≡ x
@@ -24,7 +24,7 @@ pub none_else : {A : Type 0} (o : Option A) → ((x : A) → o ≢ Some x) → o
 none_else None f = refl
 none_else (Some x) f = absurd (f x refl)
 
-module _ {S H : Type 0} (p : LinkedProgram) (M : Making S) (U W : List (ℕ × H) → ℕ → S → Type 0) where
+module _ {S H : Type 0} (p : LinkedProgram) (M : Making S) (U : List (ℕ × H) → ℕ → S → Type 0) (W : List (ℕ × H) → ℕ → Bool → S → Type 0) where
   -- the same thread, which may have ended now
   pub record IsReplaced (t : ℕ) (r s : Run S H) (w x : Thread S) : Type 0 where
     pub within : t < length r.threads.items
@@ -108,10 +108,10 @@ module _ {S H : Type 0} (p : LinkedProgram) (M : Making S) (U W : List (ℕ × H
   }
   went_on t r s w x turn.Event h gave_up done none loud comes goes still used step g =
       let is = number_is h g in
-      let made : HasMade t r.log s.log = subst (λ (n : ℕ). HasMade n r.log s.log) is step.made in
+      let made : HasMade t r.log s.log = record { event = step.made.event; thread = step.made.thread ∙ is; events = step.made.events; sees = step.made.sees; threads = step.made.threads } in
       record {
         going = all_going h step.going.log made.threads (λ v n a. others_there p M t r.log s.log v made step.going.log n a) (there_of p M s.log x (done ∙ none) (inl step.going)) g;
-        gone = (made, was_none h none, (λ other n c f. step.free (sym (ap (λ v. v.gave_up) (was_there h other)) ∙ n) c (subst (λ (m : ℕ). WaitsFor m r.log.events.items c) (sym is) f)), λ other. subst (λ (v : Thread S). Going p M s.log v × U s.shared.turns.items t v.bodies) (sym (now_there h other)) (step.going, used));
+        gone = (made, was_none h none, (λ other n c f. step.free (sym (ap (λ v. v.gave_up) (was_there h other)) ∙ n) c (subst (λ (m : ℕ). WaitsFor m r.log.events.items c) (sym is) f)), λ other. subst (λ (v : Thread S). Going p M s.log v × U s.shared.turns.items t v.bodies × HasJustMade step.made.event.kind v.procedure) (sym (now_there h other)) (step.going, used, step.just));
         others = others_same h;
         there = still_there h gave_up (λ o q. done ∙ q);
       }

@@ -16,7 +16,7 @@ use Rattle.init_core.specs.declared.frames.Ending.{Ending}
 use Rattle.init_core.specs.declared.frames.Ending.TheVariants as ending
 use Rattle.init_core.specs.declared.frames.Frame.{Frame}
 use Rattle.init_core.specs.declared.frames.Outcome.{Outcome}
-use Rattle.init_core.specs.declared.frames.Outcome.TheVariants.{Normal, Ended}
+use Rattle.init_core.specs.declared.frames.Outcome.TheVariants.{Normal, Abrupt, Ended}
 use Rattle.init_core.specs.declared.frames.Phase.{Phase}
 use Rattle.init_core.specs.declared.frames.Phase.TheVariants.{Looking, Needing, Running, EndingBy}
 use Rattle.init_core.specs.declared.procedure.Answer.{Answer}
@@ -48,7 +48,8 @@ use Rattle.replayer.specs.declared.log.EventLog.{EventLog}
 use Rattle.replayer.specs.declared.thread.Thread.{Thread}
 use Rattle.replayer.specs.Going.{Going, HasStepped, IsWhy, IsInBody, IsOver, IsPaused, at_class, limit_error}
 use Rattle.replayer.specs.Logged.{IsLog, HasMade, IsStateAfter, histories}
-use Rattle.replayer.specs.OrderedRun.{WaitsFor}
+use Rattle.replayer.specs.OrderedRun.{HasJustMade, WaitsFor}
+use Rattle.replayer.proofs.JustMade.{begun_just, looked_just, word_just}
 use Rattle.replayer.proofs.Logged.{sees_one, sees_none, own_more, all_low, low_owner}
 
 -- a look that isn't in vain makes one event
@@ -103,7 +104,7 @@ module _ {S : Type 0} (p : LinkedProgram) (M : Making S) where
   calm_of w b s events z none st c q = sym (st.waiting none c) ∙ q
 
   -- where it stands after a step
-  pub stepped : (l : EventLog) (w : Thread S) (m : EventLog) (s : Standing) (z : S) (b gave_up : Bool) (events : List Event) → w.number < l.threads.value → m.threads ≡ l.threads → IsOfFiles p w.main → IsLog p m → m.events.items ≡ events → At w b s events z → (b ≡ false → s.frames ≡ [] → s.last ≢ None) → ((e : ClassId) → ending_error s ≡ Some e → IsWhy p M l.threads.value gave_up e) →
+  pub stepped : (l : EventLog) (w : Thread S) (m : EventLog) (s : Standing) (z : S) (b gave_up : Bool) (events : List Event) → w.number < l.threads.value → m.threads ≡ l.threads → IsOfFiles p w.main → IsLog p m → m.events.items ≡ events → At w b s events z → (b ≡ false → s.frames ≡ [] → s.last ≢ None) → ((e : ClassId) → ending_error s ≡ Some e → IsWhy p M z l.threads.value gave_up e) →
       (gave_up ≡ false → (c : ClassId) → waits w.number (histories events c) ≡ true → is_waiting c s.frames ≡ true) → (gave_up ≡ true → ending_error s ≢ None) → Going p M m (record w { procedure = s; bodies = z; in_main = b; gave_up = gave_up })
   stepped l w m s z b gave_up events low threads within log is st begun reason calm gone = record {
     number = subst (λ x. w.number < x.value) (sym threads) low;
@@ -111,7 +112,7 @@ module _ {S : Type 0} (p : LinkedProgram) (M : Making S) where
     log = log;
     stands = subst (λ (es : List Event). At w b s es z) (sym is) st;
     begun = begun;
-    reason = λ e q. subst (λ x. IsWhy p M x.value gave_up e) (sym threads) (reason e q);
+    reason = λ e q. subst (λ x. IsWhy p M z x.value gave_up e) (sym threads) (reason e q);
     calm = λ n c q. calm n c (subst (λ (es : List Event). waits w.number (histories es c) ≡ true) is q);
     gone = gone;
   }
@@ -122,7 +123,7 @@ module _ {S : Type 0} (p : LinkedProgram) (M : Making S) where
   goes_on l w m s z b events before after threads log is st begun g =
       stepped l w m s z b w.gave_up events g.number threads g.main log is st begun (λ e q. absurd (let x : None ≡ Some e = sym after ∙ q in cc)) (λ n. calm_of w b s events z after st) (λ y. absurd (g.gone y before))
 
-  pub made_one : (l m : EventLog) (t : ℕ) (c : ClassId) (k : Kind) → Allows (label_at l.events.items c) t k → m.threads ≡ l.threads → m.events.items ≡ l.events.items ++ event t c k ∷ [] → HasMade t l m
+  abbrev pub made_one : (l m : EventLog) (t : ℕ) (c : ClassId) (k : Kind) → Allows (label_at l.events.items c) t k → m.threads ≡ l.threads → m.events.items ≡ l.events.items ++ event t c k ∷ [] → HasMade t l m
   made_one l m t c k ok threads more = record {
     event = event t c k;
     thread = refl;
@@ -153,7 +154,7 @@ module _ {S : Type 0} (p : LinkedProgram) (M : Making S) where
       (answered_at l w s a [] (histories l.events.items) z step makes (sees_none l.events.items) g)
 
   -- the procedure is told an answer without an event, after which the machine may end the thread
-  pub told : (l : EventLog) (w : Thread S) (s : Standing) (a : Answer) (z : S) (gave_up : Bool) → Advances p w.number w.procedure a [] s → Makes p (maker_of p M) w.procedure.last a w.bodies z → ((e : ClassId) → ending_error s ≡ Some e → IsWhy p M l.threads.value gave_up e) →
+  pub told : (l : EventLog) (w : Thread S) (s : Standing) (a : Answer) (z : S) (gave_up : Bool) → Advances p w.number w.procedure a [] s → Makes p (maker_of p M) w.procedure.last a w.bodies z → ((e : ClassId) → ending_error s ≡ Some e → IsWhy p M z l.threads.value gave_up e) →
       (gave_up ≡ false → (c : ClassId) → waits w.number (histories l.events.items c) ≡ true → is_waiting c s.frames ≡ true) → (gave_up ≡ true → ending_error s ≢ None) → Going p M l w → Going p M l (record w { procedure = s; bodies = z; gave_up = gave_up })
   told l w s a z gave_up step makes reason calm gone g =
       stepped l w l s z w.in_main gave_up l.events.items g.number refl g.main g.log refl (answered_none l w s a z step makes g) (λ b. has_last p w.number step) reason calm gone
@@ -184,11 +185,11 @@ module _ {S : Type 0} (p : LinkedProgram) (M : Making S) where
   look_allowed l t c d r k of_d st ok = subst (λ (j : Kind). Allows (label_at l.events.items c) t j) (sym of_d) (decides_at l t c d r st ok)
 
   -- a look in vain again
-  pub still_waits : {W : S → Type 0} (l : EventLog) (w : Thread S) (c : ClassId) (d : Decision) (r : State) → d ≡ decision.Waits false → next_of w.procedure.frames ≡ next.Look c → IsStateAfter p l.events.items c r → Decides r.label w.number d → (d ≡ decision.Waits false → is_waiter r w.number ≡ true) → Going p M l w → IsPaused p M W l w
-  still_waits l w c d r is q st ok again g = at_class c g q (record {
+  pub still_waits : {W : Bool → S → Type 0} (l : EventLog) (w : Thread S) (c : ClassId) (d : Decision) (r : State) → d ≡ decision.Waits false → next_of w.procedure.frames ≡ next.Look c → IsStateAfter p l.events.items c r → Decides r.label w.number d → (d ≡ decision.Waits false → is_waiter r w.number ≡ true) → Going p M l w → W false w.bodies → IsPaused p M W l w
+  still_waits l w c d r is q st ok again g used = at_class c g q (record {
     last = sym (st.state.waiting w.number (let few = g.log.few in let low = g.number in omega arith)) ∙ again is;
     other = subst (λ (x : Decision). Decides (label_at l.events.items c) w.number x) is (decides_at l w.number c d r st ok);
-  })
+  }) used
 
   same_class : (c d : ClassId) → d.number ≡ c.number → d ≡ c
   same_class c d e = ap id e
@@ -218,6 +219,7 @@ module _ {S : Type 0} (p : LinkedProgram) (M : Making S) where
         going = goes_on l w m s w.bodies w.in_main (l.events.items ++ event w.number c (kind_of d) ∷ []) none (no_error s (λ e z. ⊎_elim (λ y. let no_way : None ≡ Some e = sym none ∙ y in cc) (λ y. y) (error_after p w.number step (outer_of l w g) e z))) threads log more
             (answered_one l w s (answer.Decided d) c (kind_of d) w.bodies step refl ok g) (λ b. has_last p w.number step) g;
         made = made_one l m w.number c (kind_of d) ok threads more;
+        just = looked_just (kind_of d) step n (outer_of l w g);
         free = look_free l w c d r n q st okay first g;
       } where
         none_else : (o : Option ClassId) → ((e : ClassId) → o ≡ Some e → ⊥) → o ≡ None
@@ -233,7 +235,7 @@ module _ {S : Type 0} (p : LinkedProgram) (M : Making S) where
       let e = limit_error p in
       let step : Advances p w.number w.procedure (answer.GaveUp e false) [] s = gives_up p w.number w.procedure c e s q (inl refl) is in
       told l w s (answer.GaveUp e false) w.bodies true step refl
-      (λ y z. ⊎_elim (λ u. absurd (let no_way : None ≡ Some y = sym (look_goes_on l w c q g) ∙ u in cc)) (λ u. subst (IsWhy p M l.threads.value true) u (λ limits may. (refl, λ none. other (label_at l.events.items c) refl vain.other (may none).0))) (error_after p w.number step (outer_of l w g) y z))
+      (λ y z. ⊎_elim (λ u. absurd (let no_way : None ≡ Some y = sym (look_goes_on l w c q g) ∙ u in cc)) (λ u. subst (IsWhy p M w.bodies l.threads.value true) u (λ limits may. (refl, λ none. other (label_at l.events.items c) refl vain.other (may none).0))) (error_after p w.number step (outer_of l w g) y z))
       (λ n. cc) (λ y. ends_so) g where
         other : (x : Label) → label_at l.events.items c ≡ x → IsInProgressByOther w.number x → l.threads.value ≡ 1 → ⊥
         other (InProgress u) is_so n one = let a : u < l.threads.value = low_owner l.threads.value l.events.items c u (all_low p l.threads.value l.events.items g.log.events) is_so in let b = g.number in n (omega (arith, a, b, one))
@@ -289,6 +291,7 @@ module _ {S : Type 0} (p : LinkedProgram) (M : Making S) where
             (subst (λ (es : List Event). ThreadStands p w.number M w.start.value w.main w.in_main (standing (frame c (Running true) ∷ at.below) None) es (histories l.events.items) z) (sym (own_more w.number l.events.items (event w.number c kind.Runs) refl)) st)))
             (λ b e. absurd (let gone : frame c (Running true) ∷ at.below ≡ [] = ap (λ (v : Standing). v.frames) (sym to) ∙ e in cc)) g;
         made = made_one l m w.number c kind.Runs (run_allowed l w c q n g) threads more;
+        just = subst (HasJustMade kind.Runs) (sym to) (begun_just c at.below);
         free = free_of l w (λ d r. let z : next.Body c ≡ next.Look d = sym q ∙ r in cc) g;
       }
 
@@ -330,6 +333,7 @@ module _ {S : Type 0} (p : LinkedProgram) (M : Making S) where
             (λ n d r. not_both (calm w.number c (kind_of_ending j) sees (ending_is_no_wait j) (λ y u. not_waits n y (still y)) d) r)
             (λ y r. g.gone y (sym same ∙ r));
         made = made_one l m w.number c (kind_of_ending j) may threads here;
+        just = subst (HasJustMade (kind_of_ending j)) (sym to) (word_just (kind_of_ending j) x.1.below c (outcome_of j x.0) (subst AreOuterBelow x.1.frames (outer_of l w g)));
         free = free_of l w (λ d r. let z : next.End c j ≡ next.Look d = sym q ∙ r in cc) g;
       } where
         by : (n : w.gave_up ≡ false) (y : ClassId) (b : Bool) → waits w.number (histories l.events.items y) ≡ b → is_waiting y w.procedure.frames ≡ false → b ≡ false
@@ -376,7 +380,12 @@ module _ {S : Type 0} (p : LinkedProgram) (M : Making S) where
         number = g.number;
         word = main_threw p w.number (maker_of p M) w.start.value w.main d.outcome other (before_stands l w (Some d) none last b g).leads;
         reason = λ e r. g.reason e (ap (λ (fs : List Frame). ending_error (standing fs w.procedure.last)) none ∙ (ap given_up last ∙ ap ended_by r));
-      }
+        gave_up = λ y. by d.outcome (λ n. g.gone y (ap (λ (fs : List Frame). ending_error (standing fs w.procedure.last)) none ∙ (ap given_up last ∙ n)));
+      } where
+        by : (r : Outcome) → ended_by r ≢ None → (e : ClassId) × (r ≡ Ended e)
+        by Normal n = absurd (n refl)
+        by (Abrupt e) n = absurd (n refl)
+        by (Ended e) n = (e, refl)
 
   -- something was completed
   pub has_begun : (l : EventLog) (w : Thread S) → next_of w.procedure.frames ≡ next.Idle → w.in_main ≡ false → w.procedure.last ≡ None → Going p M l w → ⊥

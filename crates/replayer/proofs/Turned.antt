@@ -1,9 +1,10 @@
 -- The turns that threads have had, one after the other.
 use Rattle.std.proofs.Common.{◌≡◌, ◌≢◌, ◌⊎◌, inl, inr, ℕ, ◌<◌, ◌==◌, List, [], ◌∷◌, ◌++◌, Bool, true, false, length, refl, sym, ap, subst, ◌∙◌, append-nil, append_assoc, arith}
 use Rattle.std.specs.Prelude.{slice_index_or}
-use Rattle.std.proofs.lemmas.Bool.{eq-eqb, ne_eqb}
+use Rattle.std.proofs.lemmas.Bool.{ne_eqb}
 use Rattle.std.proofs.lemmas.Bool.Decides.{eqb_tells}
 use Rattle.hierarchy.specs.LinkedProgram.{LinkedProgram}
+use Rattle.trace.specs.declared.report.Limit.{Limit}
 use Rattle.bodies.specs.Lending.{Lending, Lent, StepsWith}
 use Rattle.bodies.specs.Making.{Making}
 use Rattle.replayer.specs.declared.run.Run.{Run}
@@ -27,9 +28,6 @@ module _ {H : Type 0} where
     at true q h = rw q (ap (λ (us : List (H × H)). (met, x.1) ∷ us) h)
     at false q h = rw q h
 
-  one_use : (t : ℕ) (met left : H) → uses_of t met ((t, left) ∷ []) ≡ (met, left) ∷ []
-  one_use t met left = rw (eq-eqb t t refl) refl
-
   no_use : (t u : ℕ) (met : H) (turns : List (ℕ × H)) → u ≢ t → AreOf t turns → uses_of u met turns ≡ []
   no_use t u met [] apart own = refl
   no_use t u met (x ∷ turns) apart own = rw (ne_eqb x.0 u (λ q. apart (sym q ∙ own.0))) (no_use t u x.1 turns apart own.1)
@@ -46,18 +44,7 @@ module _ {H : Type 0} where
   pub none_turned : {S : Type 0} (t : ℕ) (s : Shared H) (before after : Lent S H) → after ≡ before → HasTurned t s s before.uses after.uses
   none_turned t s before after same = subst (λ z. HasTurned t s s before.uses z.uses) (sym same) (no_turn t s before.uses)
 
-  -- one turn
-  pub has_turned : (t : ℕ) (before after : Shared H) (uses used : List (H × H)) (met left : H) → met ≡ before.state → after.state ≡ left → after.turns.items ≡ before.turns.items ++ (t, left) ∷ [] → used ≡ uses ++ (met, left) ∷ [] → after.first ≡ before.first → HasTurned t before after uses used
-  has_turned t before after uses used met left meets leaves turns has_used first = record {
-    turned = (t, left) ∷ [];
-    own = (refl, tt);
-    turns = turns;
-    state = leaves;
-    has_used = has_used ∙ ap (λ (us : List (H × H)). uses ++ us) (ap (λ (h : H). (h, left) ∷ []) meets ∙ sym (one_use t before.state left));
-    first = first;
-  }
-
-  -- and further ones
+  -- turns, and further ones
   pub then_turned : {t : ℕ} {r s u : Shared H} {uses used more : List (H × H)} → HasTurned t r s uses used → HasTurned t s u used more → HasTurned t r u uses more
   then_turned {t = t} {r = r} {s = s} {uses = uses} a b = record {
     turned = a.turned ++ b.turned;
@@ -71,16 +58,6 @@ module _ {H : Type 0} where
   -- those of the same thread by another name
   pub then_by : {t n : ℕ} {r s u : Shared H} {uses used more : List (H × H)} → n ≡ t → HasTurned t r s uses used → HasTurned n s u used more → HasTurned t r u uses more
   then_by {r = r} {s = s} {u = u} {used = used} {more = more} same a b = then_turned a (subst (λ (k : ℕ). HasTurned k s u used more) same b)
-
--- a step with what is shared
-pub steps : {S H : Type 0} (L : Lending S H) (R : S → S → Type 0) (s z : Lent S H) (a b c d : S) (m h k met : H) → s.state ≡ a → b ≡ L.with_shared a m → h ≡ L.shared_of a → R b c → d ≡ L.with_shared c h → k ≡ L.shared_of c → z.state ≡ d → met ≡ m → z.uses ≡ s.uses ++ (met, k) ∷ [] → StepsWith L R s z
-steps {S} {H} L R s z a b c d m h k met is with own does back left state meets uses = record {
-  met = m;
-  left = c;
-  step = subst (λ (x : S). R x c) (with ∙ ap (λ (x : S). L.with_shared x m) (sym is)) does;
-  state = state ∙ (back ∙ ap (λ (x : H). L.with_shared c x) (own ∙ ap L.shared_of (sym is)));
-  uses = uses ∙ ap (λ (us : List (H × H)). s.uses ++ us) (ap (λ (x : H). (x, k) ∷ []) meets ∙ ap (λ (x : H). (m, x) ∷ []) left);
-}
 
 -- the turns of one thread leave all in turn
 pub still_in_turn : {S H : Type 0} (t : ℕ) (r s : Run (Lent S H) H) (w x : Thread (Lent S H)) → t < length r.threads.items → ((other : Thread (Lent S H)) → slice_index_or r.threads.items t other ≡ w) → ((other : Thread (Lent S H)) → slice_index_or s.threads.items t other ≡ x) →
@@ -101,7 +78,7 @@ still_in_turn {S} {H} t r s w x within was now others many turned before = recor
       (ap (λ v. v.bodies.uses) (now other) ∙ (turned.has_used ∙ (ap (λ (us : List (H × H)). us ++ uses_of t r.shared.state turned.turned) (sym (ap (λ v. v.bodies.uses) (was other)) ∙ before.uses t other within) ∙ sym (after t))))
   at u other low (inr n) = ap (λ v. v.bodies.uses) (others u other n.1) ∙ (before.uses u other low ∙ (sym (append-nil _) ∙ (ap (λ (us : List (H × H)). uses_of u r.shared.first.value r.shared.turns.items ++ us) (sym (no_use t u r.shared.state turned.turned n.1 turned.own)) ∙ sym (after u))))
 
-module _ {S H : Type 0} (p : LinkedProgram) (M : Making (Lent S H)) (U W : List (ℕ × H) → ℕ → Lent S H → Type 0) where
+module _ {S H : Type 0} (p : LinkedProgram) (M : Making (Lent S H)) (U : List (ℕ × H) → ℕ → Lent S H → Type 0) (W : List (ℕ × H) → ℕ → Bool → Lent S H → Type 0) where
   -- where the thread has had them that was replaced
   pub replaced_in_turn : {t : ℕ} {r s : Run (Lent S H) H} {w x : Thread (Lent S H)} → IsReplaced p M U W t r s w x → HasTurned t r.shared s.shared w.bodies.uses x.bodies.uses → AreInTurn r → AreInTurn s
   replaced_in_turn {t = t} {r = r} {s = s} {w = w} {x = x} h turned before = still_in_turn t r s w x h.within (was_there p M U W h) (now_there p M U W h) (others_same p M U W h).others (same_many p M U W h) turned before
@@ -120,3 +97,10 @@ fresh_in_turn {S} {H} r state none uses = record {
   state = state ∙ ap (left_by r.shared.first.value) (sym none);
   uses = λ t other low. uses t other low ∙ ap (λ (xs : List (ℕ × H)). uses_of t r.shared.first.value xs) (sym none);
 }
+
+-- where the machine has ended a body of a thread at a limit, whatever was shared then, it has ended the next at this limit too
+pub lent_limits_stay : {S H : Type 0} (L : Lending S H) (M : Making S) → ((k : Limit) (s z : S) → M.limits k s → M.is_ended s z → M.limits k z) → ((k : Limit) (s : S) (h : H) → M.limits k s → M.limits k (L.with_shared s h)) →
+    (k : Limit) (s z : Lent S H) → M.limits k s.state → StepsWith L M.is_ended s z → M.limits k z.state
+lent_limits_stay L M stay lent k s z there ended =
+    let left : M.limits k ended.left = stay k (L.with_shared s.state ended.met) ended.left (lent k s.state ended.met there) ended.step in
+    subst (λ u. M.limits k u) (sym ended.state) (lent k ended.left (L.shared_of s.state) left)

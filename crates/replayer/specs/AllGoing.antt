@@ -1,5 +1,5 @@
 -- Where all threads of a run stand, and what of an order they have kept.
-use Rattle.std.specs.Prelude.{◌≡◌, ◌≢◌, ◌⊎◌, ℕ, ◌<◌, List, [], ◌++◌, Option, Some, None, false, true, length, map, MatchOption, slice_get, slice_index_or}
+use Rattle.std.specs.Prelude.{◌≡◌, ◌≢◌, ◌⊎◌, ℕ, ◌<◌, List, [], ◌++◌, Option, Some, None, Bool, false, true, length, map, MatchOption, slice_get, slice_index_or}
 use Rattle.std.specs.List.{AllByRecursion, Contains}
 use Rattle.hierarchy.specs.declared.class.ClassId.{ClassId}
 use Rattle.hierarchy.specs.LinkedProgram.{LinkedProgram}
@@ -18,7 +18,7 @@ use Rattle.replayer.specs.declared.thread.Turn.{Turn}
 use Rattle.replayer.specs.declared.thread.Turn.TheVariants as turn
 use Rattle.replayer.specs.Going.{Going, HasLeft, IsPaused, Resting, outcome_by}
 use Rattle.replayer.specs.Logged.{IsLog, HasMade}
-use Rattle.replayer.specs.OrderedRun.{Follows, WaitsFor}
+use Rattle.replayer.specs.OrderedRun.{Follows, HasJustMade, WaitsFor}
 
 -- a thread goes on, or has ended
 abbrev pub IsThere : {S : Type 0} → LinkedProgram → Making S → EventLog → Thread S → Type 0
@@ -53,7 +53,7 @@ pub record IsSameBut {S H : Type 0} (t : ℕ) (before after : Run S H) : Type 0 
   pub others : (u : ℕ) (other : Thread S) → u ≢ t → slice_index_or after.threads.items u other ≡ slice_index_or before.threads.items u other
 
 -- it waits, and hasn't given up; W says which bodies wait
-pub record IsHeld {S : Type 0} (p : LinkedProgram) (M : Making S) (W : S → Type 0) (l : EventLog) (w : Thread S) : Type 0 where
+pub record IsHeld {S : Type 0} (p : LinkedProgram) (M : Making S) (W : Bool → S → Type 0) (l : EventLog) (w : Thread S) : Type 0 where
   pub paused : IsPaused p M W l w
   pub goes_on : w.gave_up ≡ false
   pub done : w.done ≡ None
@@ -68,9 +68,9 @@ pub record IsSameThere {S H : Type 0} (t : ℕ) (before after : Run S H) : Type 
   pub done : (other : Thread S) (r : Outcome) → (slice_index_or before.threads.items t other).done ≡ Some r → (slice_index_or after.threads.items t other).done ≡ Some r
 
 -- what it comes to that thread t goes on; U says in which states a thread may be after which turns, and W in which of them it waits
-abbrev pub HasGone : {S H : Type 0} → LinkedProgram → Making S → (List (ℕ × H) → ℕ → S → Type 0) → (List (ℕ × H) → ℕ → S → Type 0) → ℕ → Run S H → Run S H → Turn → Type 0
-HasGone p M U W t before after turn.Event = HasMade t before.log after.log × ThreadAt before t (λ w. w.done ≡ None) × ThreadAt before t (λ w. w.gave_up ≡ false → (c : ClassId) → WaitsFor t before.log.events.items c → ⊥) ×
-    ThreadAt after t (λ w. Going p M after.log w × U after.shared.turns.items t w.bodies)
+abbrev pub HasGone : {S H : Type 0} → LinkedProgram → Making S → (List (ℕ × H) → ℕ → S → Type 0) → (List (ℕ × H) → ℕ → Bool → S → Type 0) → ℕ → Run S H → Run S H → Turn → Type 0
+HasGone p M U W t before after turn.Event = (m : HasMade t before.log after.log) × ThreadAt before t (λ w. w.done ≡ None) × ThreadAt before t (λ w. w.gave_up ≡ false → (c : ClassId) → WaitsFor t before.log.events.items c → ⊥) ×
+    ThreadAt after t (λ w. Going p M after.log w × U after.shared.turns.items t w.bodies × HasJustMade m.event.kind w.procedure)
 HasGone p M U W t before after turn.Waits = (after.log ≡ before.log) × (after.shared ≡ before.shared) × ThreadAt after t (λ w. IsHeld p M (W after.shared.turns.items t) after.log w)
 HasGone p M U W t before after (turn.Ended r) = (after.log ≡ before.log) × (after.shared ≡ before.shared) × ThreadAt after t (λ w. w.done ≡ Some r)
 HasGone p M U W t before after turn.Silent = (after.log ≡ before.log) × ThreadAt before t (λ w. w.done ≡ None) × ThreadAt after t (λ w. HasDone w ⊎ IsHeld p M (W after.shared.turns.items t) after.log w)
@@ -85,7 +85,7 @@ abbrev pub AreToCome : {S H : Type 0} → List ThreadOutcome → Run S H → Lis
 AreToCome outcomes r rest more = AllThreads (λ t w. (x : Outcome) → w.done ≡ Some x → (of_thread t rest ≡ []) × AllByRecursion (λ turn. turn.0 ≢ t) more × (slice_get outcomes t ≡ Some (outcome_by w.gave_up x))) r
 
 -- From one run to a later one, as the order has it: what of it is left, and which threads have given up, before and after.
-pub record Leads {S H : Type 0} (p : LinkedProgram) (M : Making S) (U W : List (ℕ × H) → ℕ → S → Type 0) (order gone : List ℕ) (before : Run S H) (left later : List ℕ) (after : Run S H) : Type 0 where
+pub record Leads {S H : Type 0} (p : LinkedProgram) (M : Making S) (U : List (ℕ × H) → ℕ → S → Type 0) (W : List (ℕ × H) → ℕ → Bool → S → Type 0) (order gone : List ℕ) (before : Run S H) (left later : List ℕ) (after : Run S H) : Type 0 where
   pub mains : mains_of after ≡ mains_of before
   pub starts : starts_of after ≡ starts_of before
   pub have_gone : AreGone gone before → AreGone later after
@@ -99,7 +99,7 @@ pub record Leads {S H : Type 0} (p : LinkedProgram) (M : Making S) (U W : List (
 
 -- what it comes to that the lowest thread that can goes on: it has gone on, maybe without an event; or none can, and this is
 -- the lowest that waits; or all have ended
-abbrev pub IsFound : {S H : Type 0} → LinkedProgram → Making S → (List (ℕ × H) → ℕ → S → Type 0) → (List (ℕ × H) → ℕ → S → Type 0) → Run S H → Run S H → Found → Type 0
+abbrev pub IsFound : {S H : Type 0} → LinkedProgram → Making S → (List (ℕ × H) → ℕ → S → Type 0) → (List (ℕ × H) → ℕ → Bool → S → Type 0) → Run S H → Run S H → Found → Type 0
 IsFound p M U W before after found.GoesOn = (gone : List ℕ) → Leads p M U W [] gone before [] gone after
 IsFound p M U W before after (found.Held t) = ((gone : List ℕ) → Leads p M U W [] gone before [] gone after) × (t < length after.threads.items) × ThreadAt after t (IsHeld p M (W after.shared.turns.items t) after.log) ×
     AllThreads (λ u w. HasDone w ⊎ IsHeld p M (W after.shared.turns.items u) after.log w) after × AllThreads (λ u w. u < t → HasDone w) after

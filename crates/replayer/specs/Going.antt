@@ -27,16 +27,16 @@ use Rattle.replayer.specs.declared.thread.Thread.{Thread}
 use Rattle.replayer.specs.declared.thread.Turn.{Turn}
 use Rattle.replayer.specs.declared.thread.Turn.TheVariants as turn
 use Rattle.replayer.specs.Logged.{IsLog, HasMade, histories}
-use Rattle.replayer.specs.OrderedRun.{MayGiveUp, WaitsFor}
+use Rattle.replayer.specs.OrderedRun.{HasJustMade, MayGiveUp, WaitsFor}
 
 -- what the machine ends a thread for: its patience, where it gave up, and else the limit of its steps
 abbrev pub limit_by : Bool → Limit
 limit_by true = Patience
 limit_by false = Steps
 
--- one of so many threads may be ended so, by this error
-abbrev pub IsWhy : {S : Type 0} → LinkedProgram → Making S → ℕ → Bool → ClassId → Type 0
-IsWhy p M threads gave_up e = (limits : Limits) → MayGiveUp M threads limits → IsEndedAt p M limits (limit_by gave_up) e
+-- one of so many threads may have been ended so, by this error, whose bodies are in this state
+abbrev pub IsWhy : {S : Type 0} → LinkedProgram → Making S → S → ℕ → Bool → ClassId → Type 0
+IsWhy p M s threads gave_up e = (limits : Limits) → MayGiveUp M threads limits → IsEndedAt p M limits s (limit_by gave_up) e
 
 -- how a thread ended, by the result of what it did
 abbrev pub outcome_by : Bool → Outcome → ThreadOutcome
@@ -52,7 +52,7 @@ pub record Going {S : Type 0} (p : LinkedProgram) (M : Making S) (l : EventLog) 
   pub stands : ThreadStands p w.number M w.start.value w.main w.in_main w.procedure (of_thread w.number l.events.items) (histories l.events.items) w.bodies
   -- its first request was made
   pub begun : w.in_main ≡ false → w.procedure.frames ≡ [] → w.procedure.last ≢ None
-  pub reason : (e : ClassId) → ending_error w.procedure ≡ Some e → IsWhy p M l.threads.value w.gave_up e
+  pub reason : (e : ClassId) → ending_error w.procedure ≡ Some e → IsWhy p M w.bodies l.threads.value w.gave_up e
   -- until it gives up, its last event at a class is a step 2 only where it waits there
   pub calm : w.gave_up ≡ false → (c : ClassId) → waits w.number (histories l.events.items c) ≡ true → is_waiting c w.procedure.frames ≡ true
   -- and then the machine is ending it
@@ -85,7 +85,7 @@ pub record IsDoing {S : Type 0} (p : LinkedProgram) (M : Making S) (l : EventLog
   pub body : IsInBody w
   pub goes_on : GoesOn w.procedure.last
   pub does : M.does from w.procedure.last d w.bodies
-  pub fits : MayDo p M w.procedure.last d
+  pub fits : MayDo p M w.procedure.last d w.bodies
 
 -- where a thread stands, in a body maybe after it has come to something that another thread holds
 abbrev pub Resting : {S : Type 0} → LinkedProgram → Making S → EventLog → Thread S → Type 0
@@ -95,7 +95,8 @@ Resting p M l w = Going p M l w ⊎ IsDoing p M l Waits w
 pub record IsOver {S : Type 0} (p : LinkedProgram) (M : Making S) (l : EventLog) (r : Outcome) (w : Thread S) : Type 0 where
   pub number : w.number < l.threads.value
   pub word : ThreadWordOf p w.number (maker_of p M) w.start.value w.main (of_thread w.number l.events.items) r w.bodies
-  pub reason : (e : ClassId) → r ≡ Ended e → IsWhy p M l.threads.value w.gave_up e
+  pub reason : (e : ClassId) → r ≡ Ended e → IsWhy p M w.bodies l.threads.value w.gave_up e
+  pub gave_up : w.gave_up ≡ true → (e : ClassId) × (r ≡ Ended e)
 
 -- and has left what it held
 pub record HasLeft {S : Type 0} (p : LinkedProgram) (M : Making S) (l : EventLog) (r : Outcome) (w : Thread S) : Type 0 where
@@ -103,24 +104,26 @@ pub record HasLeft {S : Type 0} (p : LinkedProgram) (M : Making S) (l : EventLog
   pub end : S
   pub word : ThreadWordOf p w.number (maker_of p M) w.start.value w.main (of_thread w.number l.events.items) r end
   pub ends : M.ends end w.bodies
-  pub reason : (e : ClassId) → r ≡ Ended e → IsWhy p M l.threads.value w.gave_up e
+  pub reason : (e : ClassId) → r ≡ Ended e → IsWhy p M end l.threads.value w.gave_up e
+  pub gave_up : w.gave_up ≡ true → (e : ClassId) × (r ≡ Ended e)
 
--- it waits in a body; W says which bodies wait
-pub record WaitsInside {S : Type 0} (p : LinkedProgram) (M : Making S) (W : S → Type 0) (l : EventLog) (w : Thread S) : Type 0 where
+-- it waits in a body; W says in which states one waits, in a body or (false) for a class
+pub record WaitsInside {S : Type 0} (p : LinkedProgram) (M : Making S) (W : Bool → S → Type 0) (l : EventLog) (w : Thread S) : Type 0 where
   pub resting : Resting p M l w
   pub body : IsInBody w
   pub goes_on : GoesOn w.procedure.last
-  pub waits : W w.bodies
+  pub waits : W true w.bodies
 
 -- it waits for a class, or in a body
-pub data IsPaused {S : Type 0} (p : LinkedProgram) (M : Making S) (W : S → Type 0) (l : EventLog) (w : Thread S) : Type 0 where
-  at_class : (c : ClassId) → Going p M l w → next_of w.procedure.frames ≡ next.Look c → WaitsFor w.number l.events.items c → IsPaused p M W l w
+pub data IsPaused {S : Type 0} (p : LinkedProgram) (M : Making S) (W : Bool → S → Type 0) (l : EventLog) (w : Thread S) : Type 0 where
+  at_class : (c : ClassId) → Going p M l w → next_of w.procedure.frames ≡ next.Look c → WaitsFor w.number l.events.items c → W false w.bodies → IsPaused p M W l w
   in_body : WaitsInside p M W l w → IsPaused p M W l w
 
--- it has made an event, and didn't wait before unless it gave up
+-- it has made an event and done nothing since, and didn't wait before unless it gave up
 pub record HasStepped {S : Type 0} (p : LinkedProgram) (M : Making S) (l : EventLog) (w : Thread S) (m : EventLog) (x : Thread S) : Type 0 where
   pub going : Going p M m x
   pub made : HasMade w.number l m
+  pub just : HasJustMade made.event.kind x.procedure
   pub free : w.gave_up ≡ false → (c : ClassId) → WaitsFor w.number l.events.items c → ⊥
 
 -- it goes on, or has ended with this result
@@ -133,8 +136,8 @@ abbrev pub turn_by : Option Outcome → Turn
 turn_by None = turn.Silent
 turn_by (Some r) = turn.Ended r
 
--- what a turn of a thread comes to, from w and the log l to x and the log m; W says which bodies wait
-abbrev pub TurnsTo : {S : Type 0} → LinkedProgram → Making S → (S → Type 0) → EventLog → Thread S → EventLog → Thread S → Turn → Type 0
+-- what a turn of a thread comes to, from w and the log l to x and the log m; W says in which states one waits
+abbrev pub TurnsTo : {S : Type 0} → LinkedProgram → Making S → (Bool → S → Type 0) → EventLog → Thread S → EventLog → Thread S → Turn → Type 0
 TurnsTo p M W l w m x turn.Event = HasStepped p M l w m x
 TurnsTo p M W l w m x turn.Silent = Resting p M m x × (m ≡ l)
 TurnsTo p M W l w m x turn.Comes = IsPaused p M W m x × (m ≡ l)

@@ -34,7 +34,7 @@ impl<H, B: Lends<H>> Thread<Lent<B, H>> {
     ) -> Option<Outcome>
         requires come { HasComeTo program.now (lent_bodies B.lending (B.making program.now)) log.now self.old }
         requires fits { FitsBody program.now (given_up self.old.procedure.last) (Ended error) }
-        requires why { IsWhy program.now (lent_bodies B.lending (B.making program.now)) log.now.threads.value gave_up error }
+        requires why { IsWhy program.now (lent_bodies B.lending (B.making program.now)) self.old.bodies log.now.threads.value gave_up error }
         requires was { (self.old.gave_up ≡ false) ⊎ (gave_up ≡ self.old.gave_up) }
         ensures going { GoesOrEnds program.now (lent_bodies B.lending (B.making program.now)) log.now self.new result }
         ensures same { IsSameThread (record self.old { gave_up = gave_up }) self.new }
@@ -126,7 +126,8 @@ impl<H, B: Lends<H>> Thread<Lent<B, H>> {
         Ok(())
     }
 
-    /// The body is over: it returned, or it threw, and then step 11 comes. In `main` that is how the thread ends.
+    /// The body is over: it returned, or it threw, and then step 11 comes. In `main` that is how the thread ends. An `Err` is
+    /// out of memory.
     fn end_body(
         &mut self,
         alloc: Global,
@@ -134,28 +135,28 @@ impl<H, B: Lends<H>> Thread<Lent<B, H>> {
         log: &EventLog,
         shared: &mut Shared<H>,
         thrown: Option<ClassId>,
-    ) -> Option<Outcome>
+    ) -> Result<Option<Outcome>, AllocError>
         requires { IsDoing program.now (lent_bodies B.lending (B.making program.now)) log.now (does.Over thrown) self.old }
-        ensures going { GoesOrEnds program.now (lent_bodies B.lending (B.making program.now)) log.now self.new result }
+        ensures going { IfOk result (λ done. GoesOrEnds program.now (lent_bodies B.lending (B.making program.now)) log.now self.new done) }
         ensures same { IsSameThread self.old self.new }
-        ensures turned { HasTurned self.old.number shared.old shared.new self.old.bodies.uses self.new.bodies.uses }
+        ensures turned { IfOk result (λ done. HasTurned self.old.number shared.old shared.new self.old.bodies.uses self.new.bodies.uses) }
     {
         let _ = &log.events;
         if !self.procedure.is_running() {
-            return Some(match thrown {
+            return Ok(Some(match thrown {
                 None => Outcome::Normal,
                 Some(throwable) => Outcome::Abrupt(throwable),
-            });
+            }));
         }
         let Some(throwable) = thrown else {
             self.procedure.end_body(Outcome::Normal);
-            return None;
+            return Ok(None);
         };
         let error = self
             .bodies
-            .replace(alloc, program, self.number, shared, throwable);
+            .replace(alloc, program, self.number, shared, throwable)?;
         self.procedure.end_body(Outcome::Abrupt(error));
-        None
+        Ok(None)
     }
 
     /// What the innermost body does next, which goes on.
@@ -216,9 +217,10 @@ impl<H, B: Lends<H>> Thread<Lent<B, H>> {
                 let waits = self.bodies.waits(program, shared);
                 return Ok(if waits { Turn::Comes } else { Turn::Silent });
             }
-            Does::Over(thrown) => return Ok(turn_of(self.end_body(
-                alloc, program, log, shared, thrown,
-            ))),
+            Does::Over(thrown) => {
+                let done = self.end_body(alloc, program, log, shared, thrown)?;
+                return Ok(turn_of(done));
+            }
             Does::Ended(Limit::Memory) => return Err(AllocError),
             Does::Ended(Limit::Steps) => {
                 let error = program.built_in(BuiltIn::InternalError);

@@ -1,6 +1,6 @@
 //! What runs the bodies of a thread, which has what all threads share for each of its steps.
 
-ghost use Rattle.std.specs.Prelude.{◌≡◌, ◌↔◌, ◌++◌, ◌∷◌, [], IsTrue};
+ghost use Rattle.std.specs.Prelude.{◌≡◌, ◌↔◌, ◌++◌, ◌∷◌, [], IfOk, IsTrue};
 ghost use Rattle.hierarchy.specs.Subclasses.{IsError, IsThrowable};
 ghost use Rattle.init_core.specs.ProcedureWord.{GoesOn, IsOfFiles};
 ghost use Rattle.bodies.specs.Doing.{MayDo};
@@ -12,7 +12,7 @@ use bodies::{Does, Lends};
 use hierarchy::{ClassId, Program, Value};
 use http_server::Log;
 use init_core::Completed;
-use std::alloc::Global;
+use std::alloc::{AllocError, Global};
 use std::marker::Model;
 use std::snapshot::Snapshot;
 
@@ -42,14 +42,28 @@ impl<H, B: Lends<H>> Lent<B, H> {
         }
     }
 
-    /// The thread of this number met this, and has left what is there now.
-    fn note(&mut self, number: usize, met: Snapshot<H>, shared: &mut Shared<H>)
-        ensures bodies { self.new.state ≡ self.old.state }
-        ensures uses { self.new.uses ≡ self.old.uses ++ (met.value, shared.old.state) ∷ [] }
+    /// Takes what all threads share for a step.
+    fn take(&mut self, shared: &mut Shared<H>) -> Snapshot<H>
+        ensures met { result.value ≡ shared.old.state }
+        ensures own { self.new ≡ record self.old { state = B.lending.with_shared self.old.state shared.old.state } }
+        ensures state { shared.new.state ≡ B.lending.shared_of self.old.state }
         ensures first { shared.new.first ≡ shared.old.first }
-        ensures state { shared.new.state ≡ shared.old.state }
-        ensures turns { shared.new.turns.items ≡ shared.old.turns.items ++ (number, shared.old.state) ∷ [] }
+        ensures turns { shared.new.turns ≡ shared.old.turns }
     {
+        let met = Snapshot::of(&shared.state);
+        self.bodies.exchange(&mut shared.state);
+        met
+    }
+
+    /// Gives it back after the step of the thread of this number, which met this.
+    fn give_back(&mut self, number: usize, met: Snapshot<H>, shared: &mut Shared<H>)
+        ensures own { self.new.state ≡ B.lending.with_shared self.old.state shared.old.state }
+        ensures uses { self.new.uses ≡ self.old.uses ++ (met.value, B.lending.shared_of self.old.state) ∷ [] }
+        ensures state { shared.new.state ≡ B.lending.shared_of self.old.state }
+        ensures first { shared.new.first ≡ shared.old.first }
+        ensures turns { shared.new.turns.items ≡ shared.old.turns.items ++ (number, B.lending.shared_of self.old.state) ∷ [] }
+    {
+        self.bodies.exchange(&mut shared.state);
         self.uses = self.uses.and(&met, &shared.state);
         shared.note(number);
     }
@@ -66,11 +80,9 @@ impl<H, B: Lends<H>> Lent<B, H> {
         ensures starts { (lent_bodies B.lending (B.making program.now)).starts self.old class self.new }
         ensures turned { HasTurned number shared.old shared.new self.old.uses self.new.uses }
     {
-        let met = Snapshot::of(&shared.state);
-        self.bodies.exchange(&mut shared.state);
+        let met = self.take(shared);
         self.bodies.start(alloc, program, class);
-        self.bodies.exchange(&mut shared.state);
-        self.note(number, met, shared);
+        self.give_back(number, met, shared);
     }
 
     pub(crate) fn enter(
@@ -85,11 +97,9 @@ impl<H, B: Lends<H>> Lent<B, H> {
         ensures enters { (lent_bodies B.lending (B.making program.now)).enters self.old class self.new }
         ensures turned { HasTurned number shared.old shared.new self.old.uses self.new.uses }
     {
-        let met = Snapshot::of(&shared.state);
-        self.bodies.exchange(&mut shared.state);
+        let met = self.take(shared);
         self.bodies.enter(alloc, program, class);
-        self.bodies.exchange(&mut shared.state);
-        self.note(number, met, shared);
+        self.give_back(number, met, shared);
     }
 
     pub(crate) fn next(
@@ -102,14 +112,12 @@ impl<H, B: Lends<H>> Lent<B, H> {
     ) -> Does
         requires { GoesOn last }
         ensures does { (lent_bodies B.lending (B.making program.now)).does self.old last result self.new }
-        ensures fits { MayDo program.now (lent_bodies B.lending (B.making program.now)) last result }
+        ensures fits { MayDo program.now (lent_bodies B.lending (B.making program.now)) last result self.new }
         ensures turned { HasTurned number shared.old shared.new self.old.uses self.new.uses }
     {
-        let met = Snapshot::of(&shared.state);
-        self.bodies.exchange(&mut shared.state);
+        let met = self.take(shared);
         let does = self.bodies.next(alloc, program, last);
-        self.bodies.exchange(&mut shared.state);
-        self.note(number, met, shared);
+        self.give_back(number, met, shared);
         does
     }
 
@@ -130,24 +138,21 @@ impl<H, B: Lends<H>> Lent<B, H> {
         ensures gets { (lent_bodies B.lending (B.making program.now)).gets self.old value self.new }
         ensures turned { HasTurned number shared.old shared.new self.old.uses self.new.uses }
     {
-        let met = Snapshot::of(&shared.state);
-        self.bodies.exchange(&mut shared.state);
+        let met = self.take(shared);
         self.bodies.get(program, value);
-        self.bodies.exchange(&mut shared.state);
-        self.note(number, met, shared);
+        self.give_back(number, met, shared);
     }
 
     pub(crate) fn leave(&mut self, program: &Program, number: usize, shared: &mut Shared<H>)
         ensures ended { (lent_bodies B.lending (B.making program.now)).is_ended self.old self.new }
         ensures turned { HasTurned number shared.old shared.new self.old.uses self.new.uses }
     {
-        let met = Snapshot::of(&shared.state);
-        self.bodies.exchange(&mut shared.state);
+        let met = self.take(shared);
         self.bodies.leave(program);
-        self.bodies.exchange(&mut shared.state);
-        self.note(number, met, shared);
+        self.give_back(number, met, shared);
     }
 
+    /// An `Err` is out of memory.
     pub(crate) fn replace(
         &mut self,
         alloc: Global,
@@ -155,28 +160,24 @@ impl<H, B: Lends<H>> Lent<B, H> {
         number: usize,
         shared: &mut Shared<H>,
         thrown: ClassId,
-    ) -> ClassId
+    ) -> Result<ClassId, AllocError>
         requires { IsThrowable program.now thrown }
-        ensures replaces { (lent_bodies B.lending (B.making program.now)).replaces self.old thrown result self.new }
-        ensures error { IsError program.now result }
-        ensures turned { HasTurned number shared.old shared.new self.old.uses self.new.uses }
+        ensures replaces { IfOk result (λ error. (lent_bodies B.lending (B.making program.now)).replaces self.old thrown error self.new) }
+        ensures error { IfOk result (λ error. IsError program.now error) }
+        ensures turned { IfOk result (λ error. HasTurned number shared.old shared.new self.old.uses self.new.uses) }
     {
-        let met = Snapshot::of(&shared.state);
-        self.bodies.exchange(&mut shared.state);
-        let error = self.bodies.replace(alloc, program, thrown);
-        self.bodies.exchange(&mut shared.state);
-        self.note(number, met, shared);
-        error
+        let met = self.take(shared);
+        let error = self.bodies.replace(alloc, program, thrown)?;
+        self.give_back(number, met, shared);
+        Ok(error)
     }
 
     pub(crate) fn end(&mut self, program: &Program, number: usize, shared: &mut Shared<H>)
         ensures ends { (lent_bodies B.lending (B.making program.now)).ends self.old self.new }
         ensures turned { HasTurned number shared.old shared.new self.old.uses self.new.uses }
     {
-        let met = Snapshot::of(&shared.state);
-        self.bodies.exchange(&mut shared.state);
+        let met = self.take(shared);
         self.bodies.end(program);
-        self.bodies.exchange(&mut shared.state);
-        self.note(number, met, shared);
+        self.give_back(number, met, shared);
     }
 }

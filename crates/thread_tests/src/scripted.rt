@@ -22,7 +22,7 @@ use init_core::{Completed, Outcome};
 use replayer::run_ordered;
 use sequence::Text;
 use statics::Bank;
-use std::alloc::Global;
+use std::alloc::{AllocError, Global};
 use std::sync::Wait;
 use std::thread::Threads;
 use trace::{Limit, Limits, Report, ThreadOutcome};
@@ -59,8 +59,8 @@ impl Scripted {
 
 /// A class whose first static field may be used: an int without a constant.
 fn ready(alloc: Global, program: &Program, last: Option<Completed>) -> Option<ClassId>
-    ensures gets { IfSome result (λ c. MayDo program.now (any_bodies (λ (s : ScriptedFacts). s.done ≡ 5)) last (Gets c 0)) }
-    ensures puts { IfSome result (λ c. MayDo program.now (any_bodies (λ (s : ScriptedFacts). s.done ≡ 5)) last (Puts c 0 (Int (pos 7)))) }
+    ensures gets { IfSome result (λ c. (z : ScriptedFacts) → MayDo program.now (any_bodies (λ (s : ScriptedFacts). s.done ≡ 5)) last (Gets c 0) z) }
+    ensures puts { IfSome result (λ c. (z : ScriptedFacts) → MayDo program.now (any_bodies (λ (s : ScriptedFacts). s.done ≡ 5)) last (Puts c 0 (Int (pos 7))) z) }
 {
     let Completed {
         class,
@@ -88,7 +88,7 @@ fn ready(alloc: Global, program: &Program, last: Option<Completed>) -> Option<Cl
 
 /// The use of a class.
 fn ask(program: &Program, _last: Option<Completed>) -> Does
-    ensures { MayDo program.now (any_bodies (λ (s : ScriptedFacts). s.done ≡ 5)) _last result }
+    ensures { (z : ScriptedFacts) → MayDo program.now (any_bodies (λ (s : ScriptedFacts). s.done ≡ 5)) _last result z }
 {
     if USED.number < program.len() {
         Does::Asks(USED)
@@ -99,7 +99,7 @@ fn ask(program: &Program, _last: Option<Completed>) -> Does
 
 /// The write of a field.
 fn write(alloc: Global, program: &Program, last: Option<Completed>) -> Does
-    ensures { MayDo program.now (any_bodies (λ (s : ScriptedFacts). s.done ≡ 5)) last result }
+    ensures { (z : ScriptedFacts) → MayDo program.now (any_bodies (λ (s : ScriptedFacts). s.done ≡ 5)) last result z }
 {
     match ready(alloc, program, last) {
         Some(class) => Does::Puts {
@@ -113,7 +113,7 @@ fn write(alloc: Global, program: &Program, last: Option<Completed>) -> Does
 
 /// The read of a field.
 fn read(alloc: Global, program: &Program, last: Option<Completed>) -> Does
-    ensures { MayDo program.now (any_bodies (λ (s : ScriptedFacts). s.done ≡ 5)) last result }
+    ensures { (z : ScriptedFacts) → MayDo program.now (any_bodies (λ (s : ScriptedFacts). s.done ≡ 5)) last result z }
 {
     match ready(alloc, program, last) {
         Some(class) => Does::Gets { class, field: 0 },
@@ -124,7 +124,7 @@ fn read(alloc: Global, program: &Program, last: Option<Completed>) -> Does
 /// The print of a text.
 fn print(alloc: Global, _program: &Program, _last: Option<Completed>, text: &[u8]) -> Does
     requires { IsTrue (is_utf8 text.now) }
-    ensures { MayDo _program.now (any_bodies (λ (s : ScriptedFacts). s.done ≡ 5)) _last result }
+    ensures { (z : ScriptedFacts) → MayDo _program.now (any_bodies (λ (s : ScriptedFacts). s.done ≡ 5)) _last result z }
 {
     match Text::copied(alloc, text) {
         Ok(text) => Does::Prints(text),
@@ -135,7 +135,7 @@ fn print(alloc: Global, _program: &Program, _last: Option<Completed>, text: &[u8
 /// The end of an initializer.
 #[tactic(auto, using(hierarchy::specs::Subclasses::itself))]
 fn end(program: &Program, _last: Option<Completed>, throws: bool) -> Does
-    ensures { MayDo program.now (any_bodies (λ (s : ScriptedFacts). s.done ≡ 5)) _last result }
+    ensures { (z : ScriptedFacts) → MayDo program.now (any_bodies (λ (s : ScriptedFacts). s.done ≡ 5)) _last result z }
 {
     if throws {
         return Does::Over(Some(program.built_in(BuiltIn::Throwable)));
@@ -144,7 +144,7 @@ fn end(program: &Program, _last: Option<Completed>, throws: bool) -> Does
 }
 
 impl Bodies for Scripted {
-    ghost use Rattle.thread_tests.specs.AnyBodies.{any_bodies, may_wait};
+    ghost use Rattle.thread_tests.specs.AnyBodies.{any_bodies, may_come_to_it, may_wait};
 
     ghost making = { λ p. any_bodies (λ s. s.done ≡ 5) };
 
@@ -180,11 +180,18 @@ impl Bodies for Scripted {
         self.depth = self.depth.saturating_sub(1);
     }
 
-    fn replace(&mut self, _alloc: Global, program: &Program, thrown: ClassId) -> ClassId {
-        replacement(program, thrown)
+    fn replace(
+        &mut self,
+        _alloc: Global,
+        program: &Program,
+        thrown: ClassId,
+    ) -> Result<ClassId, AllocError> {
+        Ok(replacement(program, thrown))
     }
 
     ghost waits_on = { may_wait };
+
+    ghost limits_stay = { may_come_to_it };
 }
 
 impl Lends<()> for Scripted {
@@ -199,6 +206,8 @@ impl Lends<()> for Scripted {
     }
 
     fn end(&mut self, _program: &Program) {}
+
+    ghost limits_lent = { λ p l s shared h. h };
 }
 
 /// The run of a main class by such bodies.

@@ -15,4 +15,4 @@ pub leave-requires-clause-fits : goal.leave-requires-clause-fits
 leave-requires-clause-fits g c = fits_at g.B.Bodies.making c.self.view_is _ _ (subst (λ (e : ClassId). FitsBody c.self.inside.program.now (given_up c.args.work.now.procedure.last) (Ended e)) (sym c.error_at.ensures) (fits_limit (g.B.Bodies.making c.self.inside.program.now) (record { program = c.self.inside.program.now; table = c.self.inside.table.now; limits = c.self.inside.limits; number = c.self.inside.number; main = c.self.inside.main; start = c.self.inside.start.value }) c.args.work.now c.args.limit c.requires.goes_on))
 
 pub leave-requires-clause-why : goal.leave-requires-clause-why
-leave-requires-clause-why g c = why_at g.B.Bodies.making c.self.view_is _ _ (subst (IsWhy (g.B.Bodies.making c.self.inside.program.now) (record { program = c.self.inside.program.now; table = c.self.inside.table.now; limits = c.self.inside.limits; number = c.self.inside.number; main = c.self.inside.main; start = c.self.inside.start.value }) c.args.limit) (sym c.error_at.ensures) (limit_at g.B.Bodies.making (sym c.self.view_is) _ c.requires.limit))
+leave-requires-clause-why g c = why_at g.B.Bodies.making c.self.view_is _ _ _ (subst (IsWhy (g.B.Bodies.making c.self.inside.program.now) (record { program = c.self.inside.program.now; table = c.self.inside.table.now; limits = c.self.inside.limits; number = c.self.inside.number; main = c.self.inside.main; start = c.self.inside.start.value }) c.args.work.now.bodies c.args.limit) (sym c.error_at.ensures) (limit_at g.B.Bodies.making (sym c.self.view_is) _ _ c.requires.limit))

@@ -17,7 +17,7 @@ returns-in_default g c = record {
 }
 
 pub returns-then-looks-self-clause-doing : goal.returns-then-looks-self-clause-doing
-returns-then-looks-self-clause-doing g c = doing_at g.B.Bodies.making c.self.view_is (next_is_doing (g.B.Bodies.making c.self.inside.program.now) (record { program = c.self.inside.program.now; table = c.self.inside.table.now; limits = c.self.inside.limits; number = c.self.inside.number; main = c.self.inside.main; start = c.self.inside.start.value }) c.args.work.now c.asking.work c.last-last.result does.Waits c.next-does.new.self (λ s u x. g.met.B.Bodies.waits_on c.self.inside.program.now s u x _ _) (waited_at g.B.Bodies.making (sym c.self.view_is) c.asking.invariant.0) c.asking.invariant.1 c.last-last.ensures (subst (λ (d : Does). (g.B.Bodies.making c.self.inside.program.now).does c.asking.work.bodies c.last-last.result d c.next-does.new.self) c.in-Waits.is c.next-does.ensures.does) (subst (λ (d : Does). MayDo c.self.inside.program.now (g.B.Bodies.making c.self.inside.program.now) c.last-last.result d) c.in-Waits.is c.next-does.ensures.fits) (working_at g.B.Bodies.making (sym c.self.view_is) c.requires.working) c.requires.body c.requires.goes_on)
+returns-then-looks-self-clause-doing g c = doing_at g.B.Bodies.making c.self.view_is (next_is_doing (g.B.Bodies.making c.self.inside.program.now) (record { program = c.self.inside.program.now; table = c.self.inside.table.now; limits = c.self.inside.limits; number = c.self.inside.number; main = c.self.inside.main; start = c.self.inside.start.value }) c.args.work.now c.asking.work c.last-last.result does.Waits c.next-does.new.self (λ s u x. g.met.B.Bodies.waits_on c.self.inside.program.now s u x _ _) (waited_at g.B.Bodies.making (sym c.self.view_is) c.asking.invariant.0) c.asking.invariant.1 c.last-last.ensures (subst (λ (d : Does). (g.B.Bodies.making c.self.inside.program.now).does c.asking.work.bodies c.last-last.result d c.next-does.new.self) c.in-Waits.is c.next-does.ensures.does) (subst (λ (d : Does). MayDo c.self.inside.program.now (g.B.Bodies.making c.self.inside.program.now) c.last-last.result d c.next-does.new.self) c.in-Waits.is c.next-does.ensures.fits) (working_at g.B.Bodies.making (sym c.self.view_is) c.requires.working) c.requires.body c.requires.goes_on)
 
 pub asking-preserved : goal.asking-preserved
 asking-preserved g c =

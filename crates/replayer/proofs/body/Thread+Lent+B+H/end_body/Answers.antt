@@ -13,4 +13,4 @@ pub returns-in_default-clause-going : goal.returns-in_default-clause-going
 returns-in_default-clause-going g c = class_returns c.args.program.now (lent_bodies g.B.Lends.lending (g.B.Bodies.making c.args.program.now)) c.args.log.now c.args.self.now c.end_body.new.self c.args.thrown (none_of c.args.thrown c.in_default.not-Some) (sym c.if-not-is_running.ensures) c.end_body.ensures.standing c.requires
 
 pub returns-clause-going : goal.returns-clause-going
-returns-clause-going g c = class_throws c.args.program.now (lent_bodies g.B.Lends.lending (g.B.Bodies.making c.args.program.now)) c.args.log.now c.args.self.now c.end_body-2.new.self c.replace-error.new.self c.args.thrown c.in-Some-thrown.throwable c.replace-error.result c.in-Some-thrown.is (sym c.if-not-is_running.ensures) c.end_body-2.ensures.standing c.replace-error.ensures.error c.replace-error.ensures.replaces c.requires
+returns-clause-going g c = class_throws c.args.program.now (lent_bodies g.B.Lends.lending (g.B.Bodies.making c.args.program.now)) c.args.log.now c.args.self.now c.end_body-2.new.self c.replace.new.self c.args.thrown c.in-Some-thrown.throwable c.in_ok-error.error c.in-Some-thrown.is (sym c.if-not-is_running.ensures) c.end_body-2.ensures.standing c.in_ok-error.ensures.error c.in_ok-error.ensures.replaces c.requires

@@ -1,7 +1,7 @@
-use Rattle.std.proofs.Common.{rules, ◌≡◌, ◌∷◌, [], List, length, map, inl, refl, ap, arith, ◌∙◌, sym}
+use Rattle.std.proofs.Common.{rules, ◌≡◌, ◌∷◌, [], length, map, inl, ap, arith, ◌∙◌, sym}
 use Rattle.std.proofs.lemmas.List.{length-map}
-use Rattle.bodies.specs.Lending.{Lent, lent_at_start, lent_bodies}
-use Rattle.replayer.proofs.Fresh.{none_fresh, one_begins}
+use Rattle.bodies.specs.Lending.{lent_at_start, lent_bodies}
+use Rattle.replayer.proofs.Fresh.{one_begins}
 use Rattle.replayer.proofs.Others.{there_of}
 use Rattle.replayer.proofs.Turned.{fresh_in_turn}
 use Rattle.replayer.proofs.run.Run+Lent+B+H+H.begin.Goals as goal

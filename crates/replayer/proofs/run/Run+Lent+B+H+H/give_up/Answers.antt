@@ -16,7 +16,7 @@ give_up-requires g c =
     let r = c.args.self.now in
     let w = c.index_mut-thread.result.now in
     let held : IsHeld p M (W r.shared.turns.items c.args.number) r.log w = subst (λ v. IsHeld p M (W r.shared.turns.items c.args.number) r.log v) (sym c.index_mut-thread.ensures.value) (c.requires.held w) in
-    record { paused = paused_by p M r.log w (λ waits. subst (λ m. WaitsAt g.B.Lends.lending (g.B.Bodies.making p) m w.bodies) (sym c.requires.in_turn.state) waits.1) held.paused }
+    record { paused = paused_by p M r.log w (λ in_body waits. subst (λ m. WaitsAt g.B.Lends.lending (g.B.Bodies.making p) m in_body w.bodies) (sym c.requires.in_turn.state) waits.1) held.paused }
 
 pub returns-in-Some : goal.returns-in-Some
 returns-in-Some g c =

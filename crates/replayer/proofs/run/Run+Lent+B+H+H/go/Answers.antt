@@ -40,7 +40,7 @@ returns-in-Comes g c =
     let used = has_used p M U W h turned.first in_turn in
     let x = came p M U W c.args.number c.args.self.now _ w c.advance.new.self h same (none_else w.done (λ o q. c.in_default.not-Some o q))
     (turns_by p M (WaitsAt g.B.Lends.lending (g.B.Bodies.making p) c.advance.new.shared.state) (W c.advance.new.shared.turns.items c.args.number) c.args.self.now.log w c.advance.new.log c.advance.new.self turn.Comes
-    (λ waits. (used, subst (λ m. WaitsAt g.B.Lends.lending (g.B.Bodies.making p) m c.advance.new.self.bodies) (shared_now c.args.self.now _ turned.first in_turn) waits))
+    (λ in_body waits. (used, subst (λ m. WaitsAt g.B.Lends.lending (g.B.Bodies.making p) m in_body c.advance.new.self.bodies) (shared_now c.args.self.now _ turned.first in_turn) waits))
     (subst (TurnsTo p M (WaitsAt g.B.Lends.lending (g.B.Bodies.making p) c.advance.new.shared.state) c.args.self.now.log w c.advance.new.log c.advance.new.self) c.in-Comes.is c.in_ok-turn.ensures.turn)) c.requires.going in
     record { going = x.going; in_turn = in_turn; first = turned.first; turned = (turned.turned, turned.own, turned.turns); gone = x.gone; others = x.others; there = x.there }
 
@@ -58,6 +58,6 @@ returns-in_default-2 g c =
     let used = has_used p M U W h turned.first in_turn in
     let x = went_on p M U W c.args.number c.args.self.now _ w c.advance.new.self c.in_ok-turn.turn h same.gave_up same.done (none_else w.done (λ o q. c.in_default.not-Some o q)) c.in_ok-turn.ensures.moves c.in_default-2.not-Comes c.in_default-2.not-Ended c.in_ok-turn.ensures.still used
     (turns_by p M (WaitsAt g.B.Lends.lending (g.B.Bodies.making p) c.advance.new.shared.state) (W c.advance.new.shared.turns.items c.args.number) c.args.self.now.log w c.advance.new.log c.advance.new.self c.in_ok-turn.turn
-    (λ waits. (used, subst (λ m. WaitsAt g.B.Lends.lending (g.B.Bodies.making p) m c.advance.new.self.bodies) (shared_now c.args.self.now _ turned.first in_turn) waits))
+    (λ in_body waits. (used, subst (λ m. WaitsAt g.B.Lends.lending (g.B.Bodies.making p) m in_body c.advance.new.self.bodies) (shared_now c.args.self.now _ turned.first in_turn) waits))
     c.in_ok-turn.ensures.turn) c.requires.going in
     record { going = x.going; in_turn = in_turn; first = turned.first; turned = (turned.turned, turned.own, turned.turns); gone = x.gone; others = x.others; there = x.there }
