@@ -12,7 +12,6 @@ use Rattle.interpreter.specs.CodeRun.{code_bodies, interpreter_at_start}
 use Rattle.interpreter.specs.SharedRun.{shared_bodies}
 use Rattle.interpreter.specs.TurnRun.{objects_at_start, objects_lent, turn_bodies}
 use Rattle.bodies.specs.Lending.{nothing_shared}
-use Rattle.bodies.specs.Making.{Making}
 use Rattle.bodies.specs.Runs.{IsRunOf}
 use Rattle.replayer.specs.OrderedRun.{IsOrderedRunOf}
 use Rattle.cli.specs.declared.fault.Fault.{Fault}
@@ -63,23 +62,20 @@ starts_below (suc n) steps = starts_below n steps ++ interpreter_at_start n step
 abbrev pub starts_of : List ClassId → Limits → List Interpreter
 starts_of mains limits = starts_below (length mains) limits.steps
 
--- the code of a main class alone, which meets no other thread, and that of several, which share one heap
-abbrev pub bodies_by : Bool → LinkedProgram → Making Interpreter
-bodies_by true p = code_bodies p
-bodies_by false p = shared_bodies p
-
-abbrev pub bodies_of : LinkedProgram → List ClassId → Making Interpreter
-bodies_of p mains = bodies_by (nat_lt (length mains) 2) p
-
 -- the report is of a run in this order: of one class, whose thread is alone, or of several, whose threads share what is made and who
 -- holds which monitor, where nothing is made at first and nobody holds any
 abbrev pub IsOrderedRunBy : Bool → LinkedProgram → List Interpreter → List ClassId → List ℕ → Report → Type 0
 IsOrderedRunBy true p starts classes order r = IsOrderedRunOf p nothing_shared (code_bodies p) tt starts classes order r
 IsOrderedRunBy false p starts classes order r = IsOrderedRunOf p objects_lent (turn_bodies p) objects_at_start starts classes order r
 
+-- the report is of a run in any order: of one class, whose thread is alone, so that it is the run in order, or of several, which share one heap
+abbrev pub IsRunBy : Bool → LinkedProgram → List Interpreter → List ClassId → Limits → Report → Type 0
+IsRunBy true p starts classes limits r = IsRunOf p (code_bodies p) starts classes limits r × IsOrderedRunBy true p starts classes [] r
+IsRunBy false p starts classes limits r = IsRunOf p (shared_bodies p) starts classes limits r
+
 -- the report is of a run of the code of these classes, each on a thread of its own: in this order, or, where there is none, in any
 abbrev pub IsRunOfMains : LinkedProgram → List ClassId → Option (List ℕ) → Limits → Report → Type 0
-IsRunOfMains p classes None limits r = IsRunOf p (bodies_of p classes) (starts_of classes limits) classes limits r
+IsRunOfMains p classes None limits r = IsRunBy (nat_lt (length classes) 2) p (starts_of classes limits) classes limits r
 IsRunOfMains p classes (Some order) limits r = IsOrderedRunBy (nat_lt (length classes) 2) p (starts_of classes limits) classes order r
 
 -- and these are the classes that the text of `--mains` names

@@ -17,7 +17,7 @@ ghost use Rattle.cli.specs.CommandLine.{text_of};
 ghost use Rattle.cli.specs.Files.{IsLinkedFrom, KeepsAllBut};
 ghost use Rattle.cli.specs.Orders.{is_of_threads, numbers_of};
 ghost use Rattle.cli.specs.ReadRefusals.{AreUnlinked};
-ghost use Rattle.cli.specs.Running.{IsLinkRefusal, IsOrderedRunBy, IsRefusal, IsRunOfMains, IsRunOfNamed, IsRunRefusal, bodies_of, main_named as class_of_name, mains_in, mains_named as classes_of_names, starts_below, starts_of};
+ghost use Rattle.cli.specs.Running.{IsLinkRefusal, IsOrderedRunBy, IsRefusal, IsRunBy, IsRunOfMains, IsRunOfNamed, IsRunRefusal, main_named as class_of_name, mains_in, mains_named as classes_of_names, starts_below, starts_of};
 
 use crate::fault::Fault;
 use crate::files::{Named, read_texts};
@@ -161,7 +161,7 @@ fn run_one<'a>(
     limits: Limits,
 ) -> Result<Report, Fault<'a>>
     requires { IsOfFiles program.now main }
-    ensures ran { IfOk result (IsRunOf program.now (code_bodies program.now) (interpreter_at_start 0 limits.steps ∷ []) (main ∷ []) limits) }
+    ensures ran { IfOk result (IsRunBy true program.now (interpreter_at_start 0 limits.steps ∷ []) (main ∷ []) limits) }
     ensures refused { IfErr result (λ fault. fault ≡ Memory) }
 {
     run_alone(alloc, program, main, &[], limits)
@@ -224,7 +224,7 @@ fn run_unordered<'a, R: Threads + Wait + Sync>(
     requires mains { AreMains program.now mains.now }
     requires some { 1 ≤ length mains.now }
     requires few { length mains.now ≤ 16 }
-    ensures ran { IfOk result (IsRunOf program.now (bodies_of program.now mains.now) (starts_of mains.now limits) mains.now limits) }
+    ensures ran { IfOk result (IsRunBy (nat_lt (length mains.now) 2) program.now (starts_of mains.now limits) mains.now limits) }
     ensures refused { IfErr result (λ fault. (fault ≡ Memory) ⊎ (fault ≡ Threads)) }
 {
     if let [main] = mains {
