@@ -31,4 +31,5 @@ pub mod Superinterfaces
 pub mod Supertypes
 pub mod Tables
 pub mod Texts
+pub mod UpwardOrder
 pub mod Walking
