@@ -135,11 +135,7 @@ fn finish(alloc: Global, reader: &mut Reader, last: usize) -> Result<ClassText, 
     ensures { Reads result (finished reader.old last) }
 {
     let parts = parts(alloc, reader, last)?;
-    match ClassText::new(alloc, parts) {
-        Ok(Some(text)) => Ok(text),
-        Ok(None) => unreachable!(),
-        Err(_) => Err(fault(FaultKind::NoMemory, last)),
-    }
+    Ok(ClassText::from_parts(parts))
 }
 
 /// The class that the lines spell, or the first fault and its line. The reader has read nothing yet.

@@ -36,12 +36,20 @@ impl Model for ClassText {
 }
 
 impl ClassText {
+    /// The class text of parts that a file can spell. Takes no memory.
+    pub fn from_parts(parts: ClassParts) -> Self
+        requires { IsSpellable parts }
+        ensures { result ≡ parts }
+    {
+        Self { parts }
+    }
+
     /// The class text of these parts, or `None` where no file spells them. An `Err` is want of memory.
     pub fn new(alloc: Global, parts: ClassParts) -> Result<Option<Self>, AllocError>
         ensures { IfOk result (λ text. SomeIff text (IsSpellable parts) parts) }
     {
         if spellable(alloc, &parts)? {
-            Ok(Some(ClassText { parts }))
+            Ok(Some(ClassText::from_parts(parts)))
         } else {
             Ok(None)
         }
