@@ -1,7 +1,9 @@
-//! Times of linking a member, methods of one name, and a superinterface's name, beside the same of smaller programs.
+//! Times of linking a member, methods of one name, a superinterface's name, and a rung of a ladder of diamonds, beside the same of
+//! smaller programs.
 
 use crate::files::Files;
 use crate::harness::{Failure, Row, Watch};
+use crate::needs;
 use crate::sample::{Sample, Scene};
 use hierarchy::{ClassId, Invoke, Program};
 use std::alloc::Global;
@@ -17,6 +19,8 @@ pub(crate) enum Shape {
     Members,
     /// Names of superinterfaces: so many interfaces, each below those before it, of which it names the last 255 at most.
     Interfaces,
+    /// Rungs of a ladder of diamonds.
+    Ladder,
     /// Methods of one class.
     OwnNames,
     /// Methods of one class, which all have one name.
@@ -55,11 +59,20 @@ pub(crate) const ROWS: &[Row] = &[
     Row {
         what: "interfaces, a superinterface's name linked, beside 128",
         sample: Sample::Link(Shape::Interfaces),
-        sizes: &[256, 512],
+        sizes: &[256, 512, 1024],
         most: 1,
         unit: Sample::Link(Shape::Interfaces),
         unit_size: Some(128),
-        repeats: 3,
+        repeats: 5,
+    },
+    Row {
+        what: "rungs of a ladder of diamonds, a rung linked, beside 64",
+        sample: Sample::Link(Shape::Ladder),
+        sizes: &[128, 256, 511],
+        most: 1,
+        unit: Sample::Link(Shape::Ladder),
+        unit_size: Some(64),
+        repeats: 10,
     },
 ];
 
@@ -132,6 +145,10 @@ pub(crate) fn add_files(files: &mut Files, shape: Shape, size: usize) -> usize {
     match shape {
         Shape::Members => add_classes(files, size),
         Shape::Interfaces => add_interfaces(files, size),
+        Shape::Ladder => {
+            needs::add_files(files, size);
+            size
+        }
         Shape::OwnNames => add_methods(files, size, false),
         Shape::OneName => add_methods(files, size, true),
     }
