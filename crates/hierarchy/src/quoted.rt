@@ -21,7 +21,7 @@ fn note_constant(alloc: Global, constant: &Constant, noted: &mut Texts) -> Resul
 {
     match constant {
         Constant::Int(_) => Ok(()),
-        Constant::Text(text) => noted.note(alloc, text.as_slice()),
+        Constant::Text(text) => noted.note(alloc, text.get().as_slice()),
     }
 }
 

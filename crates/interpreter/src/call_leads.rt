@@ -23,8 +23,8 @@ fn reference_at(program: &Program, at: FramePlace) -> Option<&MethodReference>
     ensures { option_copied result ≡ reference_at_place program.now at }
 {
     match instruction_at(program, at.class, at.method, at.place) {
-        Some(Instruction::Call(_, named)) => Some(named),
-        Some(Instruction::CallInterface(named)) => Some(named),
+        Some(Instruction::Call(_, named)) => Some(named.get()),
+        Some(Instruction::CallInterface(named)) => Some(named.get()),
         _ => None,
     }
 }

@@ -42,10 +42,10 @@ fn target_for(instruction: &Instruction<u16>, key: i32) -> Option<u16>
     match instruction {
         Instruction::TableSwitch(low, targets, default) => {
             let offset = key as i64 - *low as i64;
-            Some(target_at(targets.as_slice(), offset).unwrap_or(*default))
+            Some(target_at(targets.get().as_slice(), offset).unwrap_or(*default))
         }
         Instruction::LookupSwitch(cases, default) => {
-            Some(target_among(cases.as_slice(), key).unwrap_or(*default))
+            Some(target_among(cases.get().as_slice(), key).unwrap_or(*default))
         }
         _ => None,
     }

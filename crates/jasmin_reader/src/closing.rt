@@ -8,7 +8,7 @@ ghost use Rattle.jasmin_reader.specs.Bodies.{placed_label, placed_labels, placed
 use crate::body::{Body, Catch};
 use crate::labels::Labels;
 use crate::place::LineError;
-use jasmin_text::{Code, Handler, Instruction, Jump, Method};
+use jasmin_text::{Boxed, Code, Handler, Instruction, Jump, Method};
 use jasmin_words::{FaultKind, Refusal};
 use sequence::{Sequence, Text};
 use std::alloc::Global;
@@ -29,7 +29,7 @@ fn place(labels: &Labels, label: &Text) -> Result<u16, LineError>
 fn places(alloc: Global, labels: &Labels, names: &[Text]) -> Result<Sequence<u16>, LineError>
     ensures { Gives (λ x. x) result (placed_labels labels.now names.now) }
 {
-    let mut all = Sequence::new(alloc);
+    let mut all = Sequence::from_vec(Vec::with_capacity(alloc, names.len())?);
     let mut rest = names;
     while let [name, after @ ..] = rest {
         all.push(place(labels, name)?)?;
@@ -47,7 +47,7 @@ fn cases(
 ) -> Result<Sequence<(i32, u16)>, LineError>
     ensures { Gives (λ x. x) result (placed_cases labels.now names.now) }
 {
-    let mut all = Sequence::new(alloc);
+    let mut all = Sequence::from_vec(Vec::with_capacity(alloc, names.len())?);
     let mut rest = names;
     while let [name, after @ ..] = rest {
         all.push((name.0, place(labels, &name.1)?))?;
@@ -70,12 +70,12 @@ fn table_with_places(
     alloc: Global,
     labels: &Labels,
     low: i32,
-    names: Sequence<Text>,
+    names: Boxed<Sequence<Text>>,
     label: Text,
 ) -> Result<Instruction<u16>, LineError>
     ensures { Gives (λ x. x) result (placed labels.now (instructions.TableSwitch low names label)) }
 {
-    let targets = places(alloc, labels, names.as_slice())?;
+    let targets = Boxed::new(alloc, places(alloc, labels, names.get().as_slice())?)?;
     Ok(Instruction::TableSwitch(low, targets, place(labels, &label)?))
 }
 
@@ -84,12 +84,12 @@ fn table_with_places(
 fn lookup_with_places(
     alloc: Global,
     labels: &Labels,
-    names: Sequence<(i32, Text)>,
+    names: Boxed<Sequence<(i32, Text)>>,
     label: Text,
 ) -> Result<Instruction<u16>, LineError>
     ensures { Gives (λ x. x) result (placed labels.now (instructions.LookupSwitch names label)) }
 {
-    let targets = cases(alloc, labels, names.as_slice())?;
+    let targets = Boxed::new(alloc, cases(alloc, labels, names.get().as_slice())?)?;
     Ok(Instruction::LookupSwitch(targets, place(labels, &label)?))
 }
 
@@ -132,7 +132,7 @@ fn all_with_places(
 ) -> Result<Sequence<Instruction<u16>>, LineError>
     ensures { Gives (λ x. x) result (all_placed labels.now instructions.items) }
 {
-    let mut all = Sequence::new(alloc);
+    let mut all = Sequence::from_vec(Vec::with_capacity(alloc, instructions.len())?);
     for instruction in instructions {
         all.push(with_places(alloc, labels, instruction)?)?;
     }
@@ -172,7 +172,7 @@ fn handlers(
 ) -> Result<Sequence<Handler>, LineError>
     ensures { Gives (λ x. x) result (placed_catches labels.now rows.items) }
 {
-    let mut all = Sequence::new(alloc);
+    let mut all = Sequence::from_vec(Vec::with_capacity(alloc, rows.len())?);
     for row in rows {
         all.push(handler(labels, row)?)?;
     }

@@ -10,8 +10,8 @@ use crate::operands::{Begun, begin};
 use crate::place::{FromWord, LineError, bad_operand, ended, fault_at, last_operand, within};
 use crate::switch::{Cases, Switch, Table};
 use crate::values::integer;
-use jasmin_text::Instruction;
 use jasmin_text::form::{form_of, left_out};
+use jasmin_text::{Boxed, Instruction};
 use jasmin_words::name::same;
 use jasmin_words::{FaultKind, Refusal, Token};
 use sequence::{Sequence, Text};
@@ -280,6 +280,7 @@ impl Listing {
         let Table { low, room, labels } = table;
         full(room)?;
         let label = last_operand::<Text>(alloc, rest)?;
+        let labels = Boxed::new(alloc, labels)?;
         self.close(Instruction::TableSwitch(low, labels, label))?;
         Ok(())
     }
@@ -359,7 +360,7 @@ impl Listing {
     {
         let after = colon(rest)?;
         let label = last_operand::<Text>(alloc, after)?;
-        let cases = cases.into_sequence(alloc)?;
+        let cases = Boxed::new(alloc, cases.into_sequence(alloc)?)?;
         self.close(Instruction::LookupSwitch(cases, label))?;
         Ok(())
     }

@@ -10,7 +10,7 @@ use crate::head::{Place, is_at_signature, no_access_word, no_words, read_name};
 use crate::place::{FromWord, LineError, bad_operand, ended, fault_at, operand, string, within};
 use crate::values::typed;
 use descriptors::{ElementType, FieldType, MethodType};
-use jasmin_text::{Access, ClassKind, Constant, Field};
+use jasmin_text::{Access, Boxed, ClassKind, Constant, Field};
 use jasmin_words::name::{MemberName, same};
 use jasmin_words::{FaultKind, Refusal, Token};
 use sequence::Text;
@@ -73,7 +73,8 @@ fn constant<'a, 't>(
     }
     if takes_string(field_type) {
         let (text, rest) = string(tokens)?;
-        return Ok((Constant::Text(Text::copied(alloc, text)?), rest));
+        let text = Boxed::new(alloc, Text::copied(alloc, text)?)?;
+        return Ok((Constant::Text(text), rest));
     }
     match tokens {
         [] => Err(bad_operand()),

@@ -13,8 +13,8 @@ use crate::values::integer;
 use descriptors::{BaseType, ClassName, FieldType};
 use jasmin_text::form::Form;
 use jasmin_text::{
-    Call, Constant, FieldAccess, FieldReference, Instruction, Jump, Local, MethodReference, Plain,
-    ReferenceType, TypeUse,
+    Boxed, Call, Constant, FieldAccess, FieldReference, Instruction, Jump, Local, MethodReference,
+    Plain, ReferenceType, TypeUse,
 };
 use jasmin_words::name::MemberName;
 use jasmin_words::{Refusal, Token};
@@ -40,7 +40,7 @@ fn constant<'a, 't>(
     match tokens {
         [] => Err(bad_operand()),
         [first, rest @ ..] => match first {
-            Token::Text(text) => Ok((Constant::Text(text.clone()?), rest)),
+            Token::Text(text) => Ok((Constant::Text(Boxed::new(alloc, text.clone()?)?), rest)),
             Token::BadText(kind) => Err(Refusal::Fault(*kind)),
             _ => {
                 let (number, rest) = operand::<i32>(alloc, tokens)?;
@@ -212,14 +212,12 @@ fn field(alloc: Global, word: FieldAccess, tokens: &[Token<'_>]) -> Result<Begun
 {
     let ((class, name), rest) = operand::<(ClassName, MemberName)>(alloc, tokens)?;
     let field_type = last_operand::<FieldType>(alloc, rest)?;
-    Ok(Begun::Whole(Instruction::Field(
-        word,
-        FieldReference {
-            class,
-            name,
-            field_type,
-        },
-    )))
+    let field = FieldReference {
+        class,
+        name,
+        field_type,
+    };
+    Ok(Begun::Whole(Instruction::Field(word, Boxed::new(alloc, field)?)))
 }
 
 /// What the line of a call but `invokeinterface` begins.
@@ -227,7 +225,7 @@ fn call(alloc: Global, word: Call, tokens: &[Token<'_>]) -> Result<Begun, LineEr
     ensures { Gives (λ b. b) result (begun_at (forms.Call word) (views tokens.now)) }
 {
     match last_operand::<MethodReference>(alloc, tokens) {
-        Ok(method) => Ok(Begun::Whole(Instruction::Call(word, method))),
+        Ok(method) => Ok(Begun::Whole(Instruction::Call(word, Boxed::new(alloc, method)?))),
         Err(error) => Err(error),
     }
 }
@@ -238,7 +236,7 @@ fn interface_call(alloc: Global, tokens: &[Token<'_>]) -> Result<Begun, LineErro
 {
     let (method, rest) = operand::<MethodReference>(alloc, tokens)?;
     count(alloc, rest)?;
-    Ok(Begun::Whole(Instruction::CallInterface(method)))
+    Ok(Begun::Whole(Instruction::CallInterface(Boxed::new(alloc, method)?)))
 }
 
 /// What a line of `new` begins.
@@ -246,7 +244,7 @@ fn object(alloc: Global, tokens: &[Token<'_>]) -> Result<Begun, LineError>
     ensures { Gives (λ b. b) result (begun_at forms.New (views tokens.now)) }
 {
     match last_operand::<ClassName>(alloc, tokens) {
-        Ok(class) => Ok(Begun::Whole(Instruction::New(class))),
+        Ok(class) => Ok(Begun::Whole(Instruction::New(Boxed::new(alloc, class)?))),
         Err(error) => Err(error),
     }
 }
@@ -266,7 +264,10 @@ fn type_use(alloc: Global, word: TypeUse, tokens: &[Token<'_>]) -> Result<Begun,
     ensures { Gives (λ b. b) result (begun_at (forms.TypeUse word) (views tokens.now)) }
 {
     match last_operand::<ReferenceType>(alloc, tokens) {
-        Ok(reference) => Ok(Begun::Whole(Instruction::TypeUse(word, reference))),
+        Ok(reference) => {
+            let reference = Boxed::new(alloc, reference)?;
+            Ok(Begun::Whole(Instruction::TypeUse(word, reference)))
+        }
         Err(error) => Err(error),
     }
 }

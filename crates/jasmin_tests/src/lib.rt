@@ -6,6 +6,8 @@
 #[cfg(test)]
 mod class_texts;
 #[cfg(test)]
+mod instructions;
+#[cfg(test)]
 mod lists;
 #[cfg(test)]
 mod types;

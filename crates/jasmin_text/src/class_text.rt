@@ -1,6 +1,7 @@
 //! The parts of a class.
 
 use crate::access::Access;
+use crate::boxed::Boxed;
 use crate::instruction::Instruction;
 use descriptors::{ClassName, FieldType, MethodType};
 use jasmin_words::name::MemberName;
@@ -21,7 +22,7 @@ pub enum Constant {
     /// An int.
     Int(i32),
     /// The characters of a string, in UTF-8.
-    Text(Text),
+    Text(Boxed<Text>),
 }
 
 /// A field.

@@ -4,6 +4,7 @@
 //! and `ldc_w 1` are one constant, `iload_0` and `iload 0` one load, `goto` and `goto_w` one jump,
 //! `invokespecial` and `invokenonvirtual` one call, `i2b` and `int2byte` one conversion.
 
+use crate::boxed::Boxed;
 use crate::class_text::Constant;
 use crate::word::word_of;
 use descriptors::{BaseType, ClassName, FieldType, MethodType};
@@ -221,7 +222,8 @@ pub struct MethodReference {
 }
 
 /// An instruction whose targets are of type `L`: places, which are numbers of instructions, in a class text,
-/// and names of labels while a method is read.
+/// and names of labels while a method is read. Operands that are large stand in memory of their own, so that an
+/// instruction of a class text takes 24 bytes.
 #[derive(Drop)]
 pub enum Instruction<L> {
     /// One without operands.
@@ -235,22 +237,24 @@ pub enum Instruction<L> {
     /// A jump and its target.
     Jump(Jump, L),
     /// `tableswitch`: the first key, the targets from there on, and the target of all other keys.
-    TableSwitch(i32, Sequence<L>, L),
+    TableSwitch(i32, Boxed<Sequence<L>>, L),
     /// `lookupswitch`: the keys with their targets, and the target of all other keys.
-    LookupSwitch(Sequence<(i32, L)>, L),
+    LookupSwitch(Boxed<Sequence<(i32, L)>>, L),
     /// One on a field.
-    Field(FieldAccess, FieldReference),
+    Field(FieldAccess, Boxed<FieldReference>),
     /// A call but `invokeinterface`.
-    Call(Call, MethodReference),
+    Call(Call, Boxed<MethodReference>),
     /// `invokeinterface`. Its count has no effect and isn't kept.
-    CallInterface(MethodReference),
+    CallInterface(Boxed<MethodReference>),
     /// `new`
-    New(ClassName),
+    New(Boxed<ClassName>),
     /// `newarray` of a base type.
     NewArray(BaseType),
     /// One on a class or the type of an array.
-    TypeUse(TypeUse, ReferenceType),
+    TypeUse(TypeUse, Boxed<ReferenceType>),
 }
+
+const _: () = prove!(size_of::<Instruction<u16>>() == 24);
 
 /// Shows the word of the instruction, without its operands.
 impl<L> fmt::Debug for Instruction<L> {

@@ -9,6 +9,7 @@
 #![tactic(auto)]
 
 pub mod access;
+mod boxed;
 pub mod class_text;
 pub mod form;
 pub mod instruction;
@@ -24,6 +25,7 @@ mod write;
 mod write_code;
 
 pub use access::Access;
+pub use boxed::Boxed;
 pub use class_text::{ClassKind, ClassParts, Code, Constant, Field, Handler, Method};
 pub use instruction::{
     Call, FieldAccess, FieldReference, Instruction, Jump, Local, MethodReference, Plain,

@@ -49,11 +49,11 @@ fn mark_instruction(marks: &mut Vec<bool>, instruction: &Instruction<u16>)
     match instruction {
         Instruction::Jump(_, place) => mark(marks, *place),
         Instruction::TableSwitch(_, places, default) => {
-            mark_all(marks, places.as_slice());
+            mark_all(marks, places.get().as_slice());
             mark(marks, *default);
         }
         Instruction::LookupSwitch(cases, default) => {
-            mark_cases(marks, cases.as_slice());
+            mark_cases(marks, cases.get().as_slice());
             mark(marks, *default);
         }
         _ => {}

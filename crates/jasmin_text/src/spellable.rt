@@ -129,7 +129,7 @@ fn value_of(field: &FieldType, value: &Option<Constant>) -> bool
     match value {
         None => true,
         Some(Constant::Int(number)) => int_type(field) && int(*number),
-        Some(Constant::Text(text)) => string_type(field) && string(text.as_slice()),
+        Some(Constant::Text(text)) => string_type(field) && string(text.get().as_slice()),
     }
 }
 
@@ -206,6 +206,6 @@ pub(crate) fn constant(constant: &Constant) -> bool
 {
     match constant {
         Constant::Int(number) => int(*number),
-        Constant::Text(text) => string(text.as_slice()),
+        Constant::Text(text) => string(text.get().as_slice()),
     }
 }

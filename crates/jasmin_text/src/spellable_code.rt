@@ -84,16 +84,16 @@ fn instruction(
         Instruction::Increment(number, by) => Ok(local(*number) && short_int(*by)),
         Instruction::Jump(_, place) => Ok(*place as usize <= count),
         Instruction::TableSwitch(low, places, default) => {
-            Ok(table(*low, places.as_slice(), *default, count))
+            Ok(table(*low, places.get().as_slice(), *default, count))
         }
         Instruction::LookupSwitch(cases, default) => {
-            Ok(lookup(cases.as_slice(), *default, count))
+            Ok(lookup(cases.get().as_slice(), *default, count))
         }
-        Instruction::Field(_, field) => field_reference(alloc, field),
-        Instruction::Call(_, method) => method_reference(alloc, method),
-        Instruction::CallInterface(method) => method_reference(alloc, method),
-        Instruction::New(class) => Ok(class_word(class)),
-        Instruction::TypeUse(_, reference) => reference_type(alloc, reference),
+        Instruction::Field(_, field) => field_reference(alloc, field.get()),
+        Instruction::Call(_, method) => method_reference(alloc, method.get()),
+        Instruction::CallInterface(method) => method_reference(alloc, method.get()),
+        Instruction::New(class) => Ok(class_word(class.get())),
+        Instruction::TypeUse(_, reference) => reference_type(alloc, reference.get()),
     }
 }
 
@@ -103,15 +103,17 @@ fn room_of(room: usize, instruction: &Instruction<u16>) -> Option<usize>
 {
     match instruction {
         Instruction::TableSwitch(_, places, _) => {
-            if places.len() < room {
-                Some(room - 1 - places.len())
+            let labels = places.get().len();
+            if labels < room {
+                Some(room - 1 - labels)
             } else {
                 None
             }
         }
         Instruction::LookupSwitch(cases, _) => {
-            if cases.len() < room {
-                Some(room - 1 - cases.len())
+            let keys = cases.get().len();
+            if keys < room {
+                Some(room - 1 - keys)
             } else {
                 None
             }

@@ -127,7 +127,7 @@ pub(crate) fn push_constant(text: &mut Vec<u8>, constant: &Constant) -> Result<(
 {
     match constant {
         Constant::Int(number) => push_integer(text, *number),
-        Constant::Text(characters) => push_quoted(text, characters.as_slice()),
+        Constant::Text(characters) => push_quoted(text, characters.get().as_slice()),
     }
 }
 

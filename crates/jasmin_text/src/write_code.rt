@@ -324,16 +324,26 @@ pub(crate) fn push_instruction(
         Instruction::Increment(local, by) => push_increment_line(text, *local, *by),
         Instruction::Jump(jump, place) => push_jump_line(text, *jump, *place),
         Instruction::TableSwitch(low, places, default) => push_table_switch(
-            text, *low, places, *default,
+            text,
+            *low,
+            places.get(),
+            *default,
         ),
-        Instruction::LookupSwitch(cases, default) => push_lookup_switch(text, cases, *default),
-        Instruction::Field(access, field) => push_field_use(alloc, text, *access, field),
-        Instruction::Call(call, method) => push_call(alloc, text, *call, method),
-        Instruction::CallInterface(method) => push_interface_line(alloc, text, method),
-        Instruction::New(class) => push_keyed(text, Keyword::New, class.as_slice()),
+        Instruction::LookupSwitch(cases, default) => push_lookup_switch(
+            text,
+            cases.get(),
+            *default,
+        ),
+        Instruction::Field(access, field) => push_field_use(alloc, text, *access, field.get()),
+        Instruction::Call(call, method) => push_call(alloc, text, *call, method.get()),
+        Instruction::CallInterface(method) => push_interface_line(alloc, text, method.get()),
+        Instruction::New(class) => push_keyed(text, Keyword::New, class.get().as_slice()),
         Instruction::NewArray(base) => push_keyed(text, Keyword::NewArray, base_word(*base)),
         Instruction::TypeUse(type_use, reference) => push_type_use(
-            alloc, text, *type_use, reference,
+            alloc,
+            text,
+            *type_use,
+            reference.get(),
         ),
     }
 }

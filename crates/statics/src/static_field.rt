@@ -106,7 +106,7 @@ fn constant_of(program: &Program, base: Option<BaseType>, constant: &Constant) -
 {
     match constant {
         Constant::Int(number) => narrowed(base, Value::Int(*number)),
-        Constant::Text(text) => reference_to(program, text.as_slice()),
+        Constant::Text(text) => reference_to(program, text.get().as_slice()),
     }
 }
 
