@@ -5,7 +5,8 @@ use Rattle.jasmin_words.specs.Lexing.{Item, Word}
 use Rattle.jasmin_words.specs.Names.{same_bytes}
 use Rattle.jasmin_text.specs.Tables.{access_of}
 use Rattle.jasmin_text.specs.Spellable.{is_taken}
-use Rattle.jasmin_text.specs.Grammar.{no_access, with_word as more_access, is_taken_in, IsAccess, IsClassAccess, none, more, interface}
+use Rattle.jasmin_text.specs.Grammar.{no_access, with_word as more_access, is_taken_in, IsAccessBy, IsClassAccess, none, more, interface}
+use Rattle.jasmin_text.proofs.AccessLines.{access_not_interface}
 use Rattle.jasmin_text.specs.declared.access.Access.{Access}
 use Rattle.jasmin_text.specs.declared.class_text.ClassKind.{ClassKind}
 use Rattle.jasmin_text.specs.declared.class_text.ClassKind.TheVariants as kind
@@ -17,7 +18,6 @@ use Rattle.jasmin_reader.specs.declared.head.HeadWords.{HeadWords}
 use Rattle.jasmin_reader.specs.declared.table.ClassWord.TheVariants as class_word
 use Rattle.jasmin_reader.specs.Heads.{with_access, fits_place, head_word_at, with_word, is_before_name, named_from, has_word}
 use Rattle.jasmin_reader.specs.Table.{class_word_at}
-use Rattle.jasmin_reader.proofs.Tables.{access_not_interface}
 
 abbrev pub joined : Access → Access → Access
 joined a b = record { public = a.public || b.public; private = a.private || b.private; protected = a.protected || b.protected; is_static = a.is_static || b.is_static; is_final = a.is_final || b.is_final; synchronized = a.synchronized || b.synchronized; volatile = a.volatile || b.volatile; transient = a.transient || b.transient; is_abstract = a.is_abstract || b.is_abstract }
@@ -59,22 +59,23 @@ access_taken word.Abstract a h = refl
 access_taken word.Dropped a h = refl
 access_taken word.LeftOut a h = absurd cc
 
--- what a place knows of access words, and where the name stands
-pub record Reads (p : Place) (name : List ℕ) (rest : List Item) (final : Access) : Type 0 where
+-- what a place knows of the access words there, and where the name stands
+pub record Reads (says : List ℕ → Option AccessWord) (p : Place) (name : List ℕ) (rest : List Item) (final : Access) : Type 0 where
   pub at_name : is_before_name p rest ≡ false
-  pub before : (access : List Item) (a : Access) → IsAccess access a → is_before_name p (access ++ Word name ∷ rest) ≡ true
-  pub known : (w : List ℕ) (a : AccessWord) → access_of w ≡ Some a → head_word_at p w ≡ Some (class_word.Access a)
+  pub before : (access : List Item) (a : Access) → IsAccessBy says access a → is_before_name p (access ++ Word name ∷ rest) ≡ true
+  pub known : (w : List ℕ) (a : AccessWord) → says w ≡ Some a → head_word_at p w ≡ Some (class_word.Access a)
   pub fits : (a b : Access) → joined a b ≡ final → fits_place p a ≡ Ok a
 
-pub named_read : (p : Place) (name : List ℕ) (rest : List Item) (final : Access) → Reads p name rest final → (access : List Item) (words : HeadWords) (a : Access) → IsAccess access a → joined words.access a ≡ final
+pub named_read : (says : List ℕ → Option AccessWord) (p : Place) (name : List ℕ) (rest : List Item) (final : Access) → Reads says p name rest final
+    → (access : List Item) (words : HeadWords) (a : Access) → IsAccessBy says access a → joined words.access a ≡ final
     → named_from p words (access ++ Word name ∷ rest) ≡ Ok (record words { access = final }, ((name, false), rest))
 unfolding named_from with_word
-named_read p name rest final r access words a none h =
+named_read says p name rest final r access words a none h =
     let e : words.access ≡ final = sym (joined_none words.access) ∙ h in
     rw (r.at_name) (ap (λ (x : Access). Ok (record words { access = x }, ((name, false), rest))) e)
-named_read p name rest final r access words a (more {w} {a = x} {rest = others} {access = b} known_as taken_in is) whole =
+named_read says p name rest final r access words a (more {w} {a = x} {rest = others} {access = b} known_as taken_in is) whole =
     let after : joined (more_access x words.access) b ≡ final = sym (joined_more x words.access b) ∙ whole in
-    rw (r.before others b is, r.known w x known_as, access_taken x words.access taken_in, r.fits (more_access x words.access) b after) (named_read p name rest final r others (record words { access = more_access x words.access }) b is after)
+    rw (r.before others b is, r.known w x known_as, access_taken x words.access taken_in, r.fits (more_access x words.access) b after) (named_read says p name rest final r others (record words { access = more_access x words.access }) b is after)
 
 -- ---- behind .class
 

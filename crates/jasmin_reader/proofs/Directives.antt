@@ -10,11 +10,11 @@ use Rattle.jasmin_words.specs.declared.fault.FaultKind.TheVariants as fault
 use Rattle.jasmin_words.specs.Gives.{◌>>=◌}
 use Rattle.jasmin_words.specs.Lexing.{Item, Word}
 use Rattle.jasmin_words.specs.Names.{same_bytes, is_label, IsMemberName, is_member_name}
-use Rattle.jasmin_text.specs.Tables.{is_access_word}
+use Rattle.jasmin_text.specs.Tables.{is_member_word}
 use Rattle.jasmin_text.specs.Forms.{directive_at, directives}
 use Rattle.jasmin_words.specs.Lexing.{fits}
 use Rattle.jasmin_text.specs.Spellable.{is_taken, is_field, is_field_type, is_value_of}
-use Rattle.jasmin_text.specs.Grammar.{IsAccess, IsClassAccess, IsValue, IsDescriptor, IsCaught, all, class, IsNumberIn, ClassRow, SuperRow, ImplementsRow, FieldRow, MethodRow, EndRow, StackRow, LocalsRow, CatchRow}
+use Rattle.jasmin_text.specs.Grammar.{IsAccess, IsMemberAccess, IsClassAccess, IsValue, IsDescriptor, IsCaught, all, class, IsNumberIn, ClassRow, SuperRow, ImplementsRow, FieldRow, MethodRow, EndRow, StackRow, LocalsRow, CatchRow}
 use Rattle.jasmin_text.specs.declared.access.Access.{Access}
 use Rattle.jasmin_text.specs.declared.class_text.ClassKind.{ClassKind}
 use Rattle.jasmin_text.specs.declared.class_text.ClassKind.TheVariants as kind
@@ -73,9 +73,9 @@ implements_said r s name h done =
     let two = room_ok (nat_lt (length r.interfaces) 255) _ s one.1 in
     rw (one.0, two.0, h) two.1
 
-field_parts : (f : Field) → is_field f ≡ true → (not (is_access_word f.name) ≡ true) × (is_value_of f.field_type f.value ≡ true)
+field_parts : (f : Field) → is_field f ≡ true → (not (is_member_word f.name) ≡ true) × (is_value_of f.field_type f.value ≡ true)
 unfolding is_field
-field_parts f h = by (is_member_name f.name) (fits f.name) (not (is_access_word f.name)) (is_field_type f.field_type) (is_value_of f.field_type f.value) h
+field_parts f h = by (is_member_name f.name) (fits f.name) (not (is_member_word f.name)) (is_field_type f.field_type) (is_value_of f.field_type f.value) h
   where
     by : (a b c d e : Bool) → (a && b && c && d && e) ≡ true → (c ≡ true) × (e ≡ true)
     by true true true true true h = (refl, refl)
@@ -86,7 +86,7 @@ field_parts f h = by (is_member_name f.name) (fits f.name) (not (is_access_word 
     by false b c d e h = absurd cc
 
 pub field_said : (r s : Reader) (items access rest : List Item) (a : Access) (name w : List ℕ) (type : FieldType) (value : Option Constant) → items ≡ access ++ Word name ∷ Word w ∷ rest
-    → IsAccess access a → IsMemberName name → IsDescriptor w type → IsValue rest value
+    → IsMemberAccess access a → IsMemberName name → IsDescriptor w type → IsValue rest value
     → row_at r (FieldRow (record { access = a; name = name; field_type = type; value = value })) ≡ Ok s → line_at r (Word (codes ".field") ∷ items) ≡ Ok s
 unfolding line_at directive_at directives directive_line field_line
 field_said r s items access rest a name w type value e is h d v done =
@@ -98,7 +98,7 @@ field_said r s items access rest a name w type value e is h d v done =
     rw (one.0, two.0, field_head items access rest a name w type value e is h d v parts.0 parts.1) three.1
 
 pub method_said : (r s : Reader) (items access : List Item) (w : List ℕ) (a : Access) (name : List ℕ) (type : Signature) → items ≡ access ++ Word w ∷ [] → w ≡ name ++ method_spelling type
-    → IsAccess access a → IsMemberName name → IsMethodType type → row_at r (MethodRow a name type) ≡ Ok s → line_at r (Word (codes ".method") ∷ items) ≡ Ok s
+    → IsMemberAccess access a → IsMemberName name → IsMethodType type → row_at r (MethodRow a name type) ≡ Ok s → line_at r (Word (codes ".method") ∷ items) ≡ Ok s
 unfolding line_at directive_at directives directive_line method_line
 method_said r s items access w a name type e spelled is h m done =
     let one = allowed_ok (is_in_class r) _ s done in

@@ -10,7 +10,7 @@ use Rattle.jasmin_words.specs.Lexing.{Item, Word, Equals, fits}
 use Rattle.jasmin_words.specs.Names.{same_bytes, is_member_name}
 use Rattle.jasmin_words.specs.Spelling.{AreLexed}
 use Rattle.jasmin_text.specs.Spellable.{is_class_word, is_taken, is_field, is_field_type, is_value_of, is_int_type, is_string_type, is_string, is_int}
-use Rattle.jasmin_text.specs.Tables.{access_of, is_access_word}
+use Rattle.jasmin_text.specs.Tables.{access_of, is_access_word, member_access_of, is_member_word}
 use Rattle.jasmin_text.specs.declared.access.Access.{Access}
 use Rattle.jasmin_text.specs.declared.class_text.ClassKind.{ClassKind}
 use Rattle.jasmin_text.specs.declared.class_text.ClassKind.TheVariants as kind
@@ -185,15 +185,15 @@ value_ok t items v lexed e =
     let rest = bind_ok (behind_signature items) _ v e in
     value_by t rest.0 v (behind_ok items rest.0 lexed rest.1) rest.2
 
-field_parts : (a : Access) (name : List ℕ) (t : FieldType) (v : Option Constant) → is_member_name name ≡ true → fits name ≡ true → is_access_word name ≡ false → is_field_type t ≡ true → is_value_of t v ≡ true → is_field (field_of a name t v) ≡ true
+field_parts : (a : Access) (name : List ℕ) (t : FieldType) (v : Option Constant) → is_member_name name ≡ true → fits name ≡ true → is_member_word name ≡ false → is_field_type t ≡ true → is_value_of t v ≡ true → is_field (field_of a name t v) ≡ true
 unfolding is_field
 field_parts a name t v p q r s u =
-    and_from (is_member_name name && fits name && not (is_access_word name) && is_field_type t) _
-    (and_from (is_member_name name && fits name && not (is_access_word name)) _ (and_from (is_member_name name && fits name) _ (and_from (is_member_name name) _ p q) (ap not r)) s) u
+    and_from (is_member_name name && fits name && not (is_member_word name) && is_field_type t) _
+    (and_from (is_member_name name && fits name && not (is_member_word name)) _ (and_from (is_member_name name && fits name) _ (and_from (is_member_name name) _ p q) (ap not r)) s) u
 
-not_access_field : (w : List ℕ) → head_word_at place.Field w ≡ None → is_access_word w ≡ false
+not_access_field : (w : List ℕ) → head_word_at place.Field w ≡ None → is_member_word w ≡ false
 unfolding head_word_at
-not_access_field w e = none_mapped (access_of w) e
+not_access_field w e = none_mapped (member_access_of w) e
 
 pub field_good : (items : List Item) (f : Field) → AreLexed items → field_from items ≡ Ok f → is_field f ≡ true
 unfolding field_from no_access_in

@@ -12,9 +12,9 @@ use Rattle.descriptors.proofs.FieldLaws.{field_only}
 use Rattle.jasmin_words.specs.declared.fault.FaultKind.TheVariants as fault
 use Rattle.jasmin_words.specs.Lexing.{Item, Word, Equals, Text}
 use Rattle.jasmin_words.specs.Names.{same_bytes, IsMemberName}
-use Rattle.jasmin_text.specs.Tables.{access_of, is_access_word}
+use Rattle.jasmin_text.specs.Tables.{access_of, member_access_of, is_member_word}
 use Rattle.jasmin_text.specs.Spellable.{is_taken, is_int_type, is_string_type, is_value_of, is_int, is_string}
-use Rattle.jasmin_text.specs.Grammar.{IsAccess, IsClassAccess, IsValue, IsDescriptor, begins_with_word as grammar_word, none, more, int, text, signature}
+use Rattle.jasmin_text.specs.Grammar.{IsAccess, IsMemberAccess, IsClassAccess, IsValue, IsDescriptor, begins_with_word as grammar_word, none, more, int, text, signature}
 use Rattle.jasmin_text.specs.declared.access.Access.{Access}
 use Rattle.jasmin_text.specs.declared.class_text.ClassKind.{ClassKind}
 use Rattle.jasmin_text.specs.declared.class_text.ClassKind.TheVariants as kind
@@ -63,9 +63,9 @@ pub interface_head : (items access : List Item) (a : Access) (name : List ℕ) �
     → class_from place.Interface items ≡ Ok (record { kind = kind.Interface; access = a }, name)
 unfolding class_from no_access_in
 interface_head items access a name e is h free =
-    let reads : Reads place.Interface name [] a = record { at_name = refl; before = interface_before name; known = simple_known; fits = λ x y same. refl } in
+    let reads : Reads access_of place.Interface name [] a = record { at_name = refl; before = interface_before name; known = simple_known; fits = λ x y same. refl } in
     subst (λ (v : List Item). class_from place.Interface v ≡ Ok (record { kind = kind.Interface; access = a }, name)) (sym e)
-    (rw (named_read place.Interface name [] a reads access (start kind.Interface) a is refl, simple_free name (untaken name free), h) refl)
+    (rw (named_read access_of place.Interface name [] a reads access (start kind.Interface) a is refl, simple_free name (untaken name free), h) refl)
 
 -- ---- fields
 
@@ -118,17 +118,17 @@ value_no_part rest v (int e) = refl
 value_no_part rest v text = refl
 value_no_part rest v (signature is e) = refl
 
-field_before : (name w : List ℕ) (rest : List Item) → same_bytes w (codes "signature") ≡ false → (access : List Item) (a : Access) → IsAccess access a → is_before_name place.Field (access ++ Word name ∷ Word w ∷ rest) ≡ true
+field_before : (name w : List ℕ) (rest : List Item) → same_bytes w (codes "signature") ≡ false → (access : List Item) (a : Access) → IsMemberAccess access a → is_before_name place.Field (access ++ Word name ∷ Word w ∷ rest) ≡ true
 field_before name w rest h access a none = rw (part_before name w rest, last_part w rest h) refl
 field_before name w rest h access a (more {w = u} k t none) = rw (part_before u name (Word w ∷ rest), part_before name w rest) refl
 field_before name w rest h access a (more {w = u} k t (more {w = v} l s none)) = rw (part_before u v (Word name ∷ Word w ∷ rest), part_before v name (Word w ∷ rest)) refl
 field_before name w rest h access a (more {w = u} k t (more {w = v} l s (more {w = x} {rest = others} m r is))) = rw (part_before u v (Word x ∷ (others ++ Word name ∷ Word w ∷ rest)), part_before v x (others ++ Word name ∷ Word w ∷ rest)) refl
 
-field_known : (w : List ℕ) (a : AccessWord) → access_of w ≡ Some a → head_word_at place.Field w ≡ Some (class_word.Access a)
+field_known : (w : List ℕ) (a : AccessWord) → member_access_of w ≡ Some a → head_word_at place.Field w ≡ Some (class_word.Access a)
 unfolding head_word_at
 field_known w a e = rw e refl
 
-field_free : (w : List ℕ) → access_of w ≡ None → head_word_at place.Field w ≡ None
+field_free : (w : List ℕ) → member_access_of w ≡ None → head_word_at place.Field w ≡ None
 unfolding head_word_at
 field_free w e = rw e refl
 
@@ -137,27 +137,27 @@ not_some (Some a) e = absurd cc
 not_some None e = refl
 
 pub field_head : (items access rest : List Item) (a : Access) (name w : List ℕ) (type : FieldType) (value : Option Constant) → items ≡ access ++ Word name ∷ Word w ∷ rest
-    → IsAccess access a → IsMemberName name → IsDescriptor w type → IsValue rest value → not (is_access_word name) ≡ true → is_value_of type value ≡ true
+    → IsMemberAccess access a → IsMemberName name → IsDescriptor w type → IsValue rest value → not (is_member_word name) ≡ true → is_value_of type value ≡ true
     → field_from items ≡ Ok (record { access = a; name = name; field_type = type; value = value })
 unfolding field_from no_access_in
 field_head items access rest a name w type value e is h d v free ok =
     let other = descriptor_no_signature w type d in
     let at : is_before_name place.Field (Word w ∷ rest) ≡ false = rw (last_part w rest other, value_no_part rest value v) refl in
-    let reads : Reads place.Field name (Word w ∷ rest) a = record { at_name = at; before = field_before name w rest other; known = field_known; fits = λ x y same. refl } in
+    let reads : Reads member_access_of place.Field name (Word w ∷ rest) a = record { at_name = at; before = field_before name w rest other; known = field_known; fits = λ x y same. refl } in
     subst (λ (i : List Item). field_from i ≡ Ok (record { access = a; name = name; field_type = type; value = value })) (sym e)
-    (rw (named_read place.Field name (Word w ∷ rest) a reads access (start kind.Class) a is refl, field_free name (not_some (access_of name) free), h, other, type_read w type d, value_read type rest value v ok) refl)
+    (rw (named_read member_access_of place.Field name (Word w ∷ rest) a reads access (start kind.Class) a is refl, field_free name (not_some (member_access_of name) free), h, other, type_read w type d, value_read type rest value v ok) refl)
 
 -- ---- methods
 
-method_before : (name : List ℕ) (access : List Item) (a : Access) → IsAccess access a → is_before_name place.Method (access ++ Word name ∷ []) ≡ true
+method_before : (name : List ℕ) (access : List Item) (a : Access) → IsMemberAccess access a → is_before_name place.Method (access ++ Word name ∷ []) ≡ true
 method_before name access a none = refl
 method_before name access a (more k t is) = refl
 
-method_known : (w : List ℕ) (a : AccessWord) → access_of w ≡ Some a → head_word_at place.Method w ≡ Some (class_word.Access a)
+method_known : (w : List ℕ) (a : AccessWord) → member_access_of w ≡ Some a → head_word_at place.Method w ≡ Some (class_word.Access a)
 unfolding head_word_at
 method_known w a e = rw e refl
 
-method_free : (w : List ℕ) → access_of w ≡ None → head_word_at place.Method w ≡ None
+method_free : (w : List ℕ) → member_access_of w ≡ None → head_word_at place.Method w ≡ None
 unfolding head_word_at
 method_free w e = rw e refl
 
@@ -182,15 +182,15 @@ has_parenthesis [] m h = refl
 has_parenthesis (b ∷ bs) m h = let p = both_true (not (eqb b 40)) (lacks 40 bs) h in rw (p.0) (has_parenthesis bs m p.1)
 
 pub method_head : (items access : List Item) (w : List ℕ) (a : Access) (name : List ℕ) (type : Signature) → items ≡ access ++ Word w ∷ [] → w ≡ name ++ method_spelling type
-    → IsAccess access a → IsMemberName name → IsMethodType type → fits_head a name type ≡ true → method_from items ≡ Ok (a, (name, type))
+    → IsMemberAccess access a → IsMemberName name → IsMethodType type → fits_head a name type ≡ true → method_from items ≡ Ok (a, (name, type))
 unfolding method_from no_access_in
 method_head items access w a name type e spelled is h m fits =
     let p = both_true (not (a.is_abstract && a.is_static)) (not (same_bytes name (codes "<clinit>") && not (may_initialize a type))) fits in
     let bare = member_lacks 40 refl refl refl name h in
-    let reads : Reads place.Method w [] a = record { at_name = refl; before = method_before w; known = method_known; fits = method_fits a p.0 } in
+    let reads : Reads member_access_of place.Method w [] a = record { at_name = refl; before = method_before w; known = method_known; fits = method_fits a p.0 } in
     let name_read : member_name_in name ≡ Ok name = rw h refl in
     let typed : typed_in member_name_in w ≡ Ok (name, type) = ap (typed_in member_name_in) spelled ∙ typed_read member_name_in name type name bare name_read m in
-    let no_word : access_of w ≡ None = access_lacks w (ap (lacks 40) spelled ∙ has_parenthesis name type bare) in
+    let no_word : member_access_of w ≡ None = access_lacks w (ap (lacks 40) spelled ∙ has_parenthesis name type bare) in
     let starts : (same_bytes name (codes "<clinit>") && not (may_initialize a type)) ≡ false = not_true (same_bytes name (codes "<clinit>") && not (may_initialize a type)) p.1 in
     subst (λ (i : List Item). method_from i ≡ Ok (a, (name, type))) (sym e)
-    (rw (named_read place.Method w [] a reads access (start kind.Class) a is refl, method_free w no_word, typed, starts) refl)
+    (rw (named_read member_access_of place.Method w [] a reads access (start kind.Class) a is refl, method_free w no_word, typed, starts) refl)

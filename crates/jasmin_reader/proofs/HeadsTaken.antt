@@ -6,8 +6,8 @@ use Rattle.jasmin_words.specs.declared.fault.FaultKind.TheVariants as fault
 use Rattle.jasmin_words.specs.Gives.{◌>>=◌}
 use Rattle.jasmin_words.specs.Lexing.{Item, Word, LongWord, BadWord, Equals, Colon, Text, BadText}
 use Rattle.jasmin_words.specs.Names.{same_bytes}
-use Rattle.jasmin_text.specs.Tables.{access_of}
-use Rattle.jasmin_text.specs.Grammar.{no_access, with_word as more_access, is_taken_in, IsAccess, IsClassAccess, none, more, interface}
+use Rattle.jasmin_text.specs.Tables.{access_of, member_access_of}
+use Rattle.jasmin_text.specs.Grammar.{no_access, with_word as more_access, is_taken_in, IsAccessBy, IsClassAccess, none, more, interface}
 use Rattle.jasmin_text.specs.declared.access.Access.{Access}
 use Rattle.jasmin_text.specs.declared.class_text.ClassKind.{ClassKind}
 use Rattle.jasmin_text.specs.declared.class_text.ClassKind.TheVariants as kind
@@ -95,58 +95,55 @@ abbrev found : HeadWords → (List ℕ × Bool) → List Item → Result Found F
 found words w rest = Ok (words, (w, rest))
 
 -- the access words, the name and what follows
-pub record Named (words : HeadWords) (items : List Item) (x : Found) : Type 0 where
+pub record Named (says : List ℕ → Option AccessWord) (words : HeadWords) (items : List Item) (x : Found) : Type 0 where
   pub access : List Item
   pub meaning : Access
-  pub are : IsAccess access meaning
+  pub are : IsAccessBy says access meaning
   pub parts : items ≡ access ++ item_of x.1.0 ∷ x.1.1
   pub whole : x.0 ≡ record words { access = joined words.access meaning }
 
--- only access words stand before a name there
-abbrev pub Knows : Place → Type 0
-Knows p = (w : List ℕ) (c : ClassWord) → head_word_at p w ≡ Some c → (a : AccessWord) × (c ≡ class_word.Access a) × (access_of w ≡ Some a)
+-- only these access words stand before a name there
+abbrev pub Knows : (List ℕ → Option AccessWord) → Place → Type 0
+Knows says p = (w : List ℕ) (c : ClassWord) → head_word_at p w ≡ Some c → (a : AccessWord) × (c ≡ class_word.Access a) × (says w ≡ Some a)
 
-by_access : (w : List ℕ) (c : ClassWord) → option_map class_word.Access (access_of w) ≡ Some c → (a : AccessWord) × (c ≡ class_word.Access a) × (access_of w ≡ Some a)
-by_access w c e = by (access_of w) e
-  where
-    by : (o : Option AccessWord) → option_map class_word.Access o ≡ Some c → (a : AccessWord) × (c ≡ class_word.Access a) × (o ≡ Some a)
-    by (Some a) h = (a, cc, refl)
-    by None h = absurd cc
+by_access : (o : Option AccessWord) (c : ClassWord) → option_map class_word.Access o ≡ Some c → (a : AccessWord) × (c ≡ class_word.Access a) × (o ≡ Some a)
+by_access (Some a) c e = (a, cc, refl)
+by_access None c e = absurd cc
 
-pub interface_knows : Knows place.Interface
+pub interface_knows : Knows access_of place.Interface
 unfolding head_word_at
-interface_knows w c e = by_access w c e
+interface_knows w c e = by_access (access_of w) c e
 
-pub field_knows : Knows place.Field
+pub field_knows : Knows member_access_of place.Field
 unfolding head_word_at
-field_knows w c e = by_access w c e
+field_knows w c e = by_access (member_access_of w) c e
 
-pub method_knows : Knows place.Method
+pub method_knows : Knows member_access_of place.Method
 unfolding head_word_at
-method_knows w c e = by_access w c e
+method_knows w c e = by_access (member_access_of w) c e
 
 known_ok : (p : Place) (words next : HeadWords) (o : Option ClassWord) → with_known p words o ≡ Ok next → (c : ClassWord) × (o ≡ Some c) × (with_class_word p words c ≡ Ok next)
 known_ok p words next (Some c) e = (c, refl, e)
 known_ok p words next None e = absurd cc
 
 -- one access word more
-record Step (p : Place) (words next : HeadWords) (w : List ℕ) : Type 0 where
+record Step (says : List ℕ → Option AccessWord) (p : Place) (words next : HeadWords) (w : List ℕ) : Type 0 where
   word : AccessWord
-  known : access_of w ≡ Some word
+  known : says w ≡ Some word
   taken_in : is_taken_in word ≡ true
   same : next ≡ record words { access = more_access word words.access }
 
-step_ok : (p : Place) → Knows p → (words next : HeadWords) (w : List ℕ) → with_word p words w ≡ Ok next → Step p words next w
+step_ok : (says : List ℕ → Option AccessWord) (p : Place) → Knows says p → (words next : HeadWords) (w : List ℕ) → with_word p words w ≡ Ok next → Step says p words next w
 unfolding with_word
-step_ok p knows words next w e =
+step_ok says p knows words next w e =
     let one = known_ok p words next (head_word_at p w) e in
     let two = knows w one.0 one.1 in
     let read : with_class_word p words (class_word.Access two.0) ≡ Ok next = ap (with_class_word p words) (sym two.1) ∙ one.2 in
     let three = access_word_ok p words next two.0 read in
     record { word = two.0; known = two.2; taken_in = three.0; same = three.1 }
 
-add_word : (words next : HeadWords) (p : Place) (w : List ℕ) (rest : List Item) (x : Found) → Step p words next w → Named next rest x → Named words (Word w ∷ rest) x
-add_word words next p w rest x s n =
+add_word : (says : List ℕ → Option AccessWord) (words next : HeadWords) (p : Place) (w : List ℕ) (rest : List Item) (x : Found) → Step says p words next w → Named says next rest x → Named says words (Word w ∷ rest) x
+add_word says words next p w rest x s n =
     let flags : joined next.access n.meaning ≡ joined words.access (more_access s.word n.meaning) = ap (λ (h : HeadWords). joined h.access n.meaning) s.same ∙ sym (joined_more s.word words.access n.meaning) in
     let kinds : next.kind ≡ words.kind = ap (λ (h : HeadWords). h.kind) s.same in
     record {
@@ -157,24 +154,24 @@ add_word words next p w rest x s n =
       whole = n.whole ∙ ap (λ (k : ClassKind). record { kind = k; access = joined next.access n.meaning }) kinds ∙ ap (λ (a : Access). record words { access = a }) flags;
     }
 
-pub named_ok : (p : Place) → Knows p → (words : HeadWords) (items : List Item) (x : Found) → named_from p words items ≡ Ok x → Named words items x
+pub named_ok : (says : List ℕ → Option AccessWord) (p : Place) → Knows says p → (words : HeadWords) (items : List Item) (x : Found) → named_from p words items ≡ Ok x → Named says words items x
 unfolding named_from
-named_ok p knows words [] x e = absurd cc
-named_ok p knows words (t ∷ rest) x e =
+named_ok says p knows words [] x e = absurd cc
+named_ok says p knows words (t ∷ rest) x e =
     let one = bind_ok (word_of t) (λ w. cond (is_before_name p rest) (with_word p words w.0 >>= λ next. within_limit w.1 >>= λ _. named_from p next rest) (found words w rest)) x e in
-    by one.0 (word_ok t one.0 one.1) (is_before_name p rest) one.2 (λ next h. named_ok p knows next rest x h)
+    by one.0 (word_ok t one.0 one.1) (is_before_name p rest) one.2 (λ next h. named_ok says p knows next rest x h)
   where
     by : (w : List ℕ × Bool) → t ≡ item_of w → (b : Bool) → cond b (with_word p words w.0 >>= λ next. within_limit w.1 >>= λ _. named_from p next rest) (found words w rest) ≡ Ok x
-        → ((next : HeadWords) → named_from p next rest ≡ Ok x → Named next rest x) → Named words (t ∷ rest) x
+        → ((next : HeadWords) → named_from p next rest ≡ Ok x → Named says next rest x) → Named says words (t ∷ rest) x
     by w is false h more_words =
         let k : (words, (w, rest)) ≡ x = cc in
-        subst (Named words (t ∷ rest)) k (record { access = []; meaning = no_access; are = none; parts = ap (λ (i : Item). i ∷ rest) is; whole = ap (λ (a : Access). record words { access = a }) (sym (joined_none words.access)) })
+        subst (Named says words (t ∷ rest)) k (record { access = []; meaning = no_access; are = none; parts = ap (λ (i : Item). i ∷ rest) is; whole = ap (λ (a : Access). record words { access = a }) (sym (joined_none words.access)) })
     by w is true h more_words =
         let two = bind_ok (with_word p words w.0) (λ next. within_limit w.1 >>= λ _. named_from p next rest) x h in
         let three = bind_ok (within_limit w.1) (λ _. named_from p two.0 rest) x two.2 in
         let short : w.1 ≡ false = within_ok w.1 three.0 three.1 in
         let plain : t ≡ Word w.0 = is ∙ ap (λ (l : Bool). cond l (LongWord w.0) (Word w.0)) short in
-        subst (λ (i : Item). Named words (i ∷ rest) x) (sym plain) (add_word words two.0 p w.0 rest x (step_ok p knows words two.0 w.0 two.1) (more_words two.0 three.2))
+        subst (λ (i : Item). Named says words (i ∷ rest) x) (sym plain) (add_word says words two.0 p w.0 rest x (step_ok says p knows words two.0 w.0 two.1) (more_words two.0 three.2))
 
 -- ---- behind .class
 
@@ -192,7 +189,7 @@ class_word_ok w c e = by (same_bytes w (codes "interface")) refl e
   where
     by : (t : Bool) → same_bytes w (codes "interface") ≡ t → cond t (Some class_word.Interface) (option_map class_word.Access (access_of w)) ≡ Some c → ((w ≡ codes "interface") × (c ≡ class_word.Interface)) ⊎ ((a : AccessWord) × (c ≡ class_word.Access a) × (access_of w ≡ Some a))
     by true p h = inl (same_is w (codes "interface") p, cc)
-    by false p h = inr (by_access w c h)
+    by false p h = inr (by_access (access_of w) c h)
 
 interface_step : (words next : HeadWords) (rest : List Item) (x : Found) → next ≡ record words { kind = kind.Interface } → ClassNamed next rest x → ClassNamed words (Word (codes "interface") ∷ rest) x
 interface_step words next rest x same n =
@@ -207,7 +204,7 @@ interface_step words next rest x same n =
       whole = n.whole ∙ ap (λ (k : ClassKind). record { kind = k; access = joined next.access n.meaning }) (kinds ∙ sym (either_interface words.kind)) ∙ ap (λ (a : Access). record { kind = either_kind words.kind kind.Interface; access = joined a n.meaning }) flags;
     }
 
-access_step : (words next : HeadWords) (w : List ℕ) (rest : List Item) (x : Found) → Step place.Class words next w → ClassNamed next rest x → ClassNamed words (Word w ∷ rest) x
+access_step : (words next : HeadWords) (w : List ℕ) (rest : List Item) (x : Found) → Step access_of place.Class words next w → ClassNamed next rest x → ClassNamed words (Word w ∷ rest) x
 access_step words next w rest x s n =
     let flags : joined next.access n.meaning ≡ joined words.access (more_access s.word n.meaning) = ap (λ (h : HeadWords). joined h.access n.meaning) s.same ∙ sym (joined_more s.word words.access n.meaning) in
     let kinds : next.kind ≡ words.kind = ap (λ (h : HeadWords). h.kind) s.same in

@@ -23,7 +23,7 @@ use Rattle.jasmin_reader.specs.Places.{within_limit, operand, string_from, ended
 use Rattle.jasmin_reader.specs.Operands.{class_name_in, member_name_in, integer_in, type_in, typed_in}
 use Rattle.jasmin_reader.specs.Heads.{start, named_from, no_access_by, no_access_in, head_word_at, class_from, constant_for, no_constant, value_at, value_from, field_of, is_signature, described_from, field_from, fits_initializer, method_from}
 use Rattle.std.specs.Option.{option_map}
-use Rattle.jasmin_text.specs.Tables.{access_of}
+use Rattle.jasmin_text.specs.Tables.{access_of, member_access_of}
 use Rattle.jasmin_reader.specs.declared.table.ClassWord.{ClassWord}
 use Rattle.jasmin_reader.specs.declared.table.ClassWord.TheVariants as class_word
 use Rattle.jasmin_reader.specs.Table.{class_word_at}
@@ -98,7 +98,7 @@ pub interface_taken : (items : List Item) (r : HeadWords × List ℕ) → class_
 unfolding class_from
 interface_taken items r e =
     let one = bind_ok (named_from place.Interface (start kind.Interface) items) (named_class place.Interface) r e in
-    let n = named_ok place.Interface interface_knows (start kind.Interface) items one.0 one.1 in
+    let n = named_ok access_of place.Interface interface_knows (start kind.Interface) items one.0 one.1 in
     let m = name_ok place.Interface one.0 r one.2 in
     let words : record { kind = kind.Interface; access = n.meaning } ≡ r.0 = sym n.whole ∙ m.words in
     let parts : items ≡ n.access ++ Word r.1 ∷ [] = n.parts ∙ ap (λ (i : Item). n.access ++ i ∷ one.0.1.1) m.item ∙ ap (λ (l : List Item). n.access ++ Word r.1 ∷ l) m.last in
@@ -200,7 +200,7 @@ field_taken items f e =
     let four = bind_ok (within_limit x.1.0.1) (λ _. described_from x.1.1 >>= λ t. value_from t.0 t.1 >>= λ value. field_is x.0.access three.0 t.0 value) f three.2 in
     let five = bind_ok (described_from x.1.1) (λ t. value_from t.0 t.1 >>= λ value. field_is x.0.access three.0 t.0 value) f four.2 in
     let six = bind_ok (value_from five.0.0 five.0.1) (λ value. field_is x.0.access three.0 five.0.0 value) f five.2 in
-    let n = named_ok place.Field field_knows (start kind.Class) items x one.1 in
+    let n = named_ok member_access_of place.Field field_knows (start kind.Class) items x one.1 in
     let c = checked_ok (is_member_name x.1.0.0) x.1.0.0 three.0 three.1 in
     let t = operand_ok type_in x.1.1 five.0 (described_ok x.1.1 five.0 five.1) in
     let item = short_item x.1.0 three.0 c.1 (within_ok x.1.0.1 four.0 four.1) in
@@ -225,7 +225,7 @@ method_taken items r e =
     let four = bind_ok (within_limit x.1.0.1) (λ _. fits_initializer x.0.access three.0 >>= λ _. ended_at x.1.1 >>= λ _. method_is x.0.access three.0) r three.2 in
     let five = bind_ok (fits_initializer x.0.access three.0) (λ _. ended_at x.1.1 >>= λ _. method_is x.0.access three.0) r four.2 in
     let six = bind_ok (ended_at x.1.1) (λ _. method_is x.0.access three.0) r five.2 in
-    let n = named_ok place.Method method_knows (start kind.Class) items x one.1 in
+    let n = named_ok member_access_of place.Method method_knows (start kind.Class) items x one.1 in
     let t = typed_ok member_name_in x.1.0.0 three.0 three.1 in
     let c = checked_ok (is_member_name t.front) t.front three.0.0 t.value in
     let item = short_item x.1.0 x.1.0.0 refl (within_ok x.1.0.1 four.0 four.1) in

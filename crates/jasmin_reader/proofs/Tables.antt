@@ -6,9 +6,9 @@ use Rattle.std.specs.List.{list_all}
 use Rattle.jasmin_words.specs.Integers.{integer_of, magnitude_of}
 use Rattle.jasmin_words.specs.Names.{same_bytes, is_label}
 use Rattle.jasmin_text.specs.Forms.{form_at, forms, directive_at, directives}
-use Rattle.jasmin_text.specs.Tables.{find_row, access_of, access_words}
+use Rattle.jasmin_text.specs.Tables.{find_row, access_of, access_words, member_access_of}
 use Rattle.jasmin_text.specs.declared.form.Form.{Form}
-use Rattle.jasmin_text.specs.declared.table.AccessWord.{AccessWord}
+use Rattle.jasmin_text.specs.declared.table.AccessWord.TheVariants.{Dropped}
 use Rattle.jasmin_reader.specs.Operands.{begins_with}
 use Rattle.jasmin_reader.proofs.Binds.{both_true, same_is}
 use Rattle.jasmin_reader.proofs.NameParts.{lacks}
@@ -50,18 +50,10 @@ label_has_no_dot (b ∷ bs) h = by (eqb b 46) _ h
     by true u e = absurd cc
     by false u e = refl
 
--- a word with a ( is no access word
-pub access_lacks : (w : List ℕ) → lacks 40 w ≡ false → access_of w ≡ None
-unfolding access_of access_words
-access_lacks w h = find_none (lacks 40) w h access_words refl
-
-pub access_not_interface : (w : List ℕ) (a : AccessWord) → access_of w ≡ Some a → same_bytes w (codes "interface") ≡ false
-unfolding access_of access_words
-access_not_interface w a e = by (same_bytes w (codes "interface")) refl
-  where
-    by : (t : Bool) → same_bytes w (codes "interface") ≡ t → t ≡ false
-    by true h = let is : access_of w ≡ access_of (codes "interface") = ap access_of (same_is w (codes "interface") h) in let none : access_of (codes "interface") ≡ None = refl in absurd cc
-    by false h = refl
+-- a word with a ( is no access word of fields and methods
+pub access_lacks : (w : List ℕ) → lacks 40 w ≡ false → member_access_of w ≡ None
+unfolding member_access_of access_of access_words
+access_lacks w h = find_none (lacks 40) w h ((codes "interface", Dropped) ∷ access_words) refl
 
 -- ---- integers
 

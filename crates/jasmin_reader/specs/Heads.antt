@@ -10,7 +10,7 @@ use Rattle.jasmin_words.specs.Gives.{◌>>=◌}
 use Rattle.jasmin_words.specs.Lexing.{Item, Word, LongWord, BadWord, Equals}
 use Rattle.jasmin_words.specs.Names.{same_bytes}
 use Rattle.jasmin_text.specs.Spellable.{is_int_type, is_string_type}
-use Rattle.jasmin_text.specs.Tables.{access_of}
+use Rattle.jasmin_text.specs.Tables.{access_of, member_access_of}
 use Rattle.jasmin_text.specs.declared.access.Access.{Access}
 use Rattle.jasmin_text.specs.declared.class_text.ClassKind.{ClassKind}
 use Rattle.jasmin_text.specs.declared.class_text.ClassKind.TheVariants.{Class, Interface}
@@ -57,10 +57,11 @@ abbrev pub with_class_word : Place → HeadWords → ClassWord → Result HeadWo
 with_class_word p words class_word.Interface = Ok (record words { kind = Interface })
 with_class_word p words (class_word.Access a) = with_access words.access a >>= λ x. fits_place p x >>= λ y. Ok (record words { access = y })
 
--- what a word says before a name: behind .class the word interface is one more access word
+-- what a word says before a name: the word interface is one more access word, but not behind .interface
 unfoldable pub head_word_at : Place → List ℕ → Option ClassWord
 head_word_at place.Class w = class_word_at w
-head_word_at other w = option_map class_word.Access (access_of w)
+head_word_at place.Interface w = option_map class_word.Access (access_of w)
+head_word_at member w = option_map class_word.Access (member_access_of w)
 
 abbrev pub with_known : Place → HeadWords → Option ClassWord → Result HeadWords FaultKind
 with_known p words None = Err fault.BadOperand

@@ -8,7 +8,7 @@ ghost use Rattle.jasmin_reader.specs.Heads.{start, with_access, fits_place, head
 use crate::place::{FromWord, LineError, PlacedWord, bad_operand, ended, placed_word, within};
 use crate::table::{ClassWord, class_word_of};
 use descriptors::ClassName;
-use jasmin_text::table::{AccessWord, access_of};
+use jasmin_text::table::{AccessWord, access_of, member_access_of};
 use jasmin_text::{Access, ClassKind};
 use jasmin_words::name::same;
 use jasmin_words::{FaultKind, Refusal, Token};
@@ -100,10 +100,8 @@ fn head_word(place: Place, word: &[u8]) -> Option<ClassWord>
 {
     match place {
         Place::Class => class_word_of(word),
-        _ => match access_of(word) {
-            Some(access) => Some(ClassWord::Access(access)),
-            None => None,
-        },
+        Place::Interface => access_of(word).map(ClassWord::Access),
+        Place::Field | Place::Method => member_access_of(word).map(ClassWord::Access),
     }
 }
 

@@ -27,7 +27,7 @@ fn find<T: Copy>(word: &[u8], table: &[(&[u8], T)]) -> Option<T>
 pub(crate) enum ClassWord {
     /// It makes the class an interface.
     Interface,
-    /// It is one of the words that may stand before any name.
+    /// It is any other access word.
     Access(AccessWord),
 }
 

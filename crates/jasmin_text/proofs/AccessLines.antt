@@ -1,5 +1,5 @@
 -- Canonical lines with access words say their rows.
-use Rattle.std.proofs.Common.{◌≡◌, ℕ, Bool, true, false, not, ◌&&◌, eqb, List, [], ◌∷◌, ◌++◌, Option, Some, None, refl, sym, subst, append_assoc, arith, cond}
+use Rattle.std.proofs.Common.{◌≡◌, ℕ, Bool, true, false, not, ◌&&◌, eqb, List, [], ◌∷◌, ◌++◌, Option, Some, None, refl, sym, ap, subst, append_assoc, arith, cond}
 use Rattle.std.specs.Prelude.{pos, negsuc, ℤ, codes, nat_le, FitsSigned}
 use Rattle.std.specs.Int.{w32}
 use Rattle.std.specs.List.{list_all}
@@ -14,10 +14,10 @@ use Rattle.jasmin_words.specs.Names.{same_bytes, is_name_byte, is_some_byte, is_
 use Rattle.jasmin_words.specs.Spelling.{Ends, is_word_byte, IsWord}
 use Rattle.jasmin_words.proofs.Numbers.{written_again}
 use Rattle.jasmin_text.specs.Keywords.{spelled}
-use Rattle.jasmin_text.specs.Tables.{access_of, access_words, is_access_word}
+use Rattle.jasmin_text.specs.Tables.{access_of, access_words, is_access_word, member_access_of, is_member_word}
 use Rattle.jasmin_text.specs.Canonical.{word_if, visibility_text, binding_text, storage_text, access_text, class_line, constant_text, value_text, field_end, field_line, method_line}
 use Rattle.jasmin_text.specs.Spellable.{is_taken, is_int, is_string, is_element_type, is_type, is_field_type, is_method_type, is_int_type, is_string_type, is_value_of, is_field}
-use Rattle.jasmin_text.specs.Grammar.{with_word, is_taken_in, IsAccess, IsClassAccess, IsValue, ClassRow, FieldRow, MethodRow, none, more, int, text, class, interface, field, method}
+use Rattle.jasmin_text.specs.Grammar.{with_word, is_taken_in, IsAccess, IsMemberAccess, IsClassAccess, IsValue, ClassRow, FieldRow, MethodRow, none, more, int, text, class, interface, field, method}
 use Rattle.jasmin_text.specs.declared.access.Access.{Access}
 use Rattle.jasmin_text.specs.declared.table.AccessWord.{AccessWord}
 use Rattle.jasmin_text.specs.declared.table.AccessWord.TheVariants as word
@@ -78,6 +78,22 @@ access_is a =
 class_access : (items : List Item) (a : Access) → IsAccess items a → IsClassAccess items kind.Class a
 class_access items a none = none
 class_access items a (more {rest = rest} {access = access} e t h) = more e t (class_access rest access h)
+
+pub access_not_interface : (w : List ℕ) (a : AccessWord) → access_of w ≡ Some a → same_bytes w (codes "interface") ≡ false
+unfolding access_of access_words
+access_not_interface w a e = by (same_bytes w (codes "interface")) refl
+  where
+    by : (t : Bool) → same_bytes w (codes "interface") ≡ t → t ≡ false
+    by true h = let is : access_of w ≡ access_of (codes "interface") = ap access_of (same_is w (codes "interface") h) in let none : access_of (codes "interface") ≡ None = refl in absurd cc
+    by false h = refl
+
+member_word : (w : List ℕ) (a : AccessWord) → access_of w ≡ Some a → member_access_of w ≡ Some a
+unfolding member_access_of
+member_word w a e = rw (access_not_interface w a e) e
+
+member_access : (items : List Item) (a : Access) → IsAccess items a → IsMemberAccess items a
+member_access items a none = none
+member_access items a (more {w} {a = said_by} {rest} {access} e t h) = more (member_word w said_by e) t (member_access rest access h)
 
 -- ---- access words, as they are written
 
@@ -194,7 +210,7 @@ field_row f h =
     let n : List ℕ = f.name in
     let d : List ℕ = field_spelling f.field_type in
     let v : List ℕ = value_text f.value in
-    let p = five (is_member_name n) (fits n) (not (is_access_word n)) (is_field_type f.field_type) (is_value_of f.field_type f.value) h in
+    let p = five (is_member_name n) (fits n) (not (is_member_word n)) (is_field_type f.field_type) (is_value_of f.field_type f.value) h in
     let q = and_parts (is_type f.field_type) (fits d) p.3 in
     let r = and_parts (nat_le f.field_type.dimensions 255) (is_element_type f.field_type.element) q.0 in
     let e = value_tail f.field_type f.value p.4 in
@@ -203,7 +219,7 @@ field_row f h =
     subst (λ (line : List ℕ). IsLine line (FieldRow f ∷ [])) (sym (field_spaced f))
     (said (codes ".field" ++ (access_text f.access ++ 32 ∷ (n ++ 32 ∷ (d ++ v)))) (Word (codes ".field") ∷ (access_items f.access ++ Word n ∷ Word d ∷ value_items f.value)) (FieldRow f ∷ [])
     (a_word (codes ".field") (access_text f.access ++ 32 ∷ (n ++ 32 ∷ (d ++ v))) refl (refl, refl) refl t.parts t.written)
-    (field (access_items f.access) (value_items f.value) d refl (access_is f.access) p.0 (record { spelling = refl; field_type = is_type_of f.field_type (leb-true f.field_type.dimensions 255 r.0) r.1 }) (value_is f.field_type f.value p.4)))
+    (field (access_items f.access) (value_items f.value) d refl (member_access (access_items f.access) f.access (access_is f.access)) p.0 (record { spelling = refl; field_type = is_type_of f.field_type (leb-true f.field_type.dimensions 255 r.0) r.1 }) (value_is f.field_type f.value p.4)))
 
 -- ---- methods
 
@@ -219,4 +235,4 @@ method_row m h k f =
     subst (λ (line : List ℕ). IsLine line (MethodRow m.access m.name m.method_type ∷ [])) (sym (method_spaced m))
     (said (codes ".method" ++ (access_text m.access ++ 32 ∷ w)) (Word (codes ".method") ∷ (access_items m.access ++ Word w ∷ [])) (MethodRow m.access m.name m.method_type ∷ [])
     (a_word (codes ".method") (access_text m.access ++ 32 ∷ w) refl (refl, refl) refl t.parts t.written)
-    (method (access_items m.access) w refl refl (access_is m.access) h (is_signature m.method_type k)))
+    (method (access_items m.access) w refl refl (member_access (access_items m.access) m.access (access_is m.access)) h (is_signature m.method_type k)))

@@ -10,7 +10,7 @@ use Rattle.jasmin_words.specs.Lexing.{Item, Word, Equals, Colon, Text, words_of}
 use Rattle.jasmin_words.specs.Integers.{integer_of}
 use Rattle.jasmin_words.specs.Names.{same_bytes, is_label, IsMemberName}
 use Rattle.jasmin_text.specs.InstructionWords.{base_word}
-use Rattle.jasmin_text.specs.Tables.{find_row, access_of}
+use Rattle.jasmin_text.specs.Tables.{find_row, access_of, member_access_of}
 use Rattle.jasmin_text.specs.Forms.{form_at, directive_at}
 use Rattle.jasmin_text.specs.Spellable.{IsSpellable}
 use Rattle.jasmin_text.specs.declared.access.Access.{Access}
@@ -57,11 +57,20 @@ is_taken_in word.LeftOut = false
 is_taken_in other = true
 
 -- access words, in any order; own choice: any of them may stand before any name, and some say nothing
-pub data IsAccess : List Item → Access → Type 0 where
-  none : IsAccess [] no_access
-  more : {w : List ℕ} {a : AccessWord} {rest : List Item} {access : Access} → access_of w ≡ Some a → is_taken_in a ≡ true → IsAccess rest access → IsAccess (Word w ∷ rest) (with_word a access)
+pub data IsAccessBy (says : List ℕ → Option AccessWord) : List Item → Access → Type 0 where
+  none : IsAccessBy says [] no_access
+  more : {w : List ℕ} {a : AccessWord} {rest : List Item} {access : Access} → says w ≡ Some a → is_taken_in a ≡ true → IsAccessBy says rest access
+      → IsAccessBy says (Word w ∷ rest) (with_word a access)
 
--- behind .class the word interface, which is no access word elsewhere, makes an interface
+-- behind .interface, where the word interface is no access word
+abbrev pub IsAccess : List Item → Access → Type 0
+IsAccess = IsAccessBy access_of
+
+-- before the name of a field or a method, where the word interface is one that says nothing
+abbrev pub IsMemberAccess : List Item → Access → Type 0
+IsMemberAccess = IsAccessBy member_access_of
+
+-- behind .class the word interface makes an interface
 pub data IsClassAccess : List Item → ClassKind → Access → Type 0 where
   none : IsClassAccess [] kind.Class no_access
   more : {w : List ℕ} {a : AccessWord} {rest : List Item} {k : ClassKind} {access : Access} → access_of w ≡ Some a → is_taken_in a ≡ true → IsClassAccess rest k access → IsClassAccess (Word w ∷ rest) k (with_word a access)
@@ -182,10 +191,10 @@ pub data IsRow : List Item → List Row → Type 0 where
   super : {name : List ℕ} → IsClassName name → IsRow (Word (codes ".super") ∷ Word name ∷ []) (SuperRow name ∷ [])
   implements : {name : List ℕ} → IsClassName name → IsRow (Word (codes ".implements") ∷ Word name ∷ []) (ImplementsRow name ∷ [])
   field : {items : List Item} {a : Access} {name : List ℕ} {type : FieldType} {value : Option Constant} → (access rest : List Item) (w : List ℕ) → items ≡ access ++ Word name ∷ Word w ∷ rest
-      → IsAccess access a → IsMemberName name → IsDescriptor w type → IsValue rest value
+      → IsMemberAccess access a → IsMemberName name → IsDescriptor w type → IsValue rest value
       → IsRow (Word (codes ".field") ∷ items) (FieldRow (record { access = a; name = name; field_type = type; value = value }) ∷ [])
   method : {items : List Item} {a : Access} {name : List ℕ} {type : Signature} → (access : List Item) (w : List ℕ) → items ≡ access ++ Word w ∷ [] → w ≡ name ++ method_spelling type
-      → IsAccess access a → IsMemberName name → IsMethodType type → IsRow (Word (codes ".method") ∷ items) (MethodRow a name type ∷ [])
+      → IsMemberAccess access a → IsMemberName name → IsMethodType type → IsRow (Word (codes ".method") ∷ items) (MethodRow a name type ∷ [])
   end : IsRow (Word (codes ".end") ∷ Word (codes "method") ∷ []) (EndRow ∷ [])
   stack : {w : List ℕ} {n : ℕ} → IsNumberIn 0 1024 w n → IsRow (Word (codes ".limit") ∷ Word (codes "stack") ∷ Word w ∷ []) (StackRow n ∷ [])
   locals : {w : List ℕ} {n : ℕ} → IsNumberIn 0 1024 w n → IsRow (Word (codes ".limit") ∷ Word (codes "locals") ∷ Word w ∷ []) (LocalsRow n ∷ [])

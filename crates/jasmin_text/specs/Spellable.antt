@@ -10,7 +10,7 @@ use Rattle.descriptors.specs.declared.field.ElementType.TheVariants as element
 use Rattle.descriptors.specs.declared.field.FieldType.{FieldType}
 use Rattle.jasmin_words.specs.Lexing.{fits}
 use Rattle.jasmin_words.specs.Names.{same_bytes, is_member_name}
-use Rattle.jasmin_text.specs.Tables.{is_access_word}
+use Rattle.jasmin_text.specs.Tables.{is_access_word, is_member_word}
 use Rattle.jasmin_text.specs.declared.class_text.ClassKind.{ClassKind}
 use Rattle.jasmin_text.specs.declared.class_text.ClassKind.TheVariants as kind
 use Rattle.jasmin_text.specs.declared.class_text.Constant.{Constant}
@@ -83,7 +83,7 @@ is_value_of t (Some (constant.Text text)) = is_string_type t && is_string text
 
 -- A field. An access word in its name's place would be taken for one.
 unfoldable pub is_field : Field → Bool
-is_field f = is_member_name f.name && fits f.name && not (is_access_word f.name) && is_field_type f.field_type && is_value_of f.field_type f.value
+is_field f = is_member_name f.name && fits f.name && not (is_member_word f.name) && is_field_type f.field_type && is_value_of f.field_type f.value
 
 unfoldable pub is_field_reference : FieldReference → Bool
 is_field_reference r = is_class_name r.class && is_member_name r.name && fits (r.class ++ 47 ∷ r.name) && is_field_type r.field_type

@@ -1,8 +1,9 @@
 -- Tables of words.
-use Rattle.std.specs.Prelude.{ℕ, Bool, false, ◌||◌, List, [], ◌∷◌, Option, Some, None, if◌then◌else◌, map, is_some}
+use Rattle.std.specs.Prelude.{ℕ, Bool, false, ◌||◌, List, [], ◌∷◌, Option, Some, None, if◌then◌else◌, map, is_some, codes}
 use Rattle.std.specs.Borrow.{Bor}
 use Rattle.jasmin_words.specs.Names.{same_bytes}
 use Rattle.jasmin_text.specs.declared.table.AccessWord.{AccessWord}
+use Rattle.jasmin_text.specs.declared.table.AccessWord.TheVariants.{Dropped}
 use Rattle.jasmin_text.specs.declared.table.TheConstants.{ACCESS_WORDS}
 
 -- what the table has beside the word
@@ -28,3 +29,11 @@ access_of word = find_row word access_words
 
 abbrev pub is_access_word : List ℕ → Bool
 is_access_word word = is_some (access_of word)
+
+-- what a word says before the name of a field or a method, where interface says nothing
+unfoldable pub member_access_of : List ℕ → Option AccessWord
+member_access_of word = if same_bytes word (codes "interface") then Some Dropped else access_of word
+
+-- an access word of fields and methods
+abbrev pub is_member_word : List ℕ → Bool
+is_member_word word = is_some (member_access_of word)

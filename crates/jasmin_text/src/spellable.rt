@@ -4,12 +4,12 @@ ghost use Rattle.std.specs.Prelude.{◌≡◌, ◌∷◌, ◌++◌, ◌&&◌, tr
 ghost use Rattle.std.specs.List.{list_all};
 ghost use Rattle.descriptors.specs.Spelling.{field_spelling, method_spelling};
 ghost use Rattle.jasmin_words.specs.Lexing.{fits};
-ghost use Rattle.jasmin_text.specs.Tables.{is_access_word};
+ghost use Rattle.jasmin_text.specs.Tables.{is_member_word};
 ghost use Rattle.jasmin_text.specs.Spellable.{is_local, is_int, is_short, is_class_word, is_string, is_element_type, is_type, is_field_type, is_result_type, is_method_type, is_int_type, is_string_type, is_value_of, is_field, is_field_reference, is_method_reference, is_reference_type, is_constant};
 
 use crate::class_text::{Constant, Field};
 use crate::instruction::{FieldReference, MethodReference, ReferenceType};
-use crate::table::access_of;
+use crate::table::member_access_of;
 use descriptors::{ClassName, ElementType, FieldType, MethodType, write_field, write_method};
 use jasmin_words::name::same;
 use jasmin_words::token::{MOST_BYTES, is_text};
@@ -141,7 +141,7 @@ pub(crate) fn field(alloc: Global, field: &Field) -> Result<bool, AllocError>
     let typed = field_type(alloc, &field.field_type)?;
     Ok(
         short(name)
-            && access_of(name).is_none()
+            && member_access_of(name).is_none()
             && typed
             && value_of(&field.field_type, &field.value),
     )

@@ -1,7 +1,7 @@
 //! Tables of words.
 
 ghost use Rattle.std.specs.Prelude.{◌≡◌, map};
-ghost use Rattle.jasmin_text.specs.Tables.{find_row, rows, stands_in as is_among, access_of as access_at};
+ghost use Rattle.jasmin_text.specs.Tables.{find_row, rows, stands_in as is_among, access_of as access_at, member_access_of as member_access_at};
 
 use jasmin_words::name::same;
 
@@ -32,7 +32,7 @@ pub enum AccessWord {
     LeftOut,
 }
 
-/// Each access word. Beside them `interface` is one behind `.class`.
+/// Each access word. Beside them `interface` is one on `.class`, `.field` and `.method`.
 pub const ACCESS_WORDS: [(&[u8], AccessWord); 19] = [
     (b"public", AccessWord::Public),
     (b"private", AccessWord::Private),
@@ -87,4 +87,15 @@ pub fn access_of(word: &[u8]) -> Option<AccessWord>
     ensures { result ≡ access_at word.now }
 {
     find(word, &ACCESS_WORDS)
+}
+
+/// What the word says before the name of a field or a method, if it is an access word there.
+#[tactic(auto, unfolding(crate::specs::Tables::member_access_of))]
+pub fn member_access_of(word: &[u8]) -> Option<AccessWord>
+    ensures { result ≡ member_access_at word.now }
+{
+    if same(word, b"interface") {
+        return Some(AccessWord::Dropped);
+    }
+    access_of(word)
 }

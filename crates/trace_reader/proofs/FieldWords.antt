@@ -14,7 +14,7 @@ use Rattle.descriptors.specs.declared.field.FieldType.{FieldType}
 use Rattle.descriptors.proofs.FieldLaws.{field_only}
 use Rattle.jasmin_text.specs.declared.class_text.Field.{Field}
 use Rattle.jasmin_text.specs.Spellable.{is_element_type, is_type, is_field_type, is_value_of, is_field}
-use Rattle.jasmin_text.specs.Tables.{is_access_word}
+use Rattle.jasmin_text.specs.Tables.{is_member_word}
 use Rattle.jasmin_text.proofs.WordBytes.{same_is, member_name_word, field_word}
 use Rattle.jasmin_words.specs.Lexing.{fits}
 use Rattle.jasmin_words.specs.Names.{same_bytes, is_member_name}
@@ -89,7 +89,7 @@ unfolding is_field is_field_type
 good_field f h =
     let a = is_member_name f.name in
     let b = fits f.name in
-    let d = not (is_access_word f.name) in
+    let d = not (is_member_word f.name) in
     let t = is_field_type f.field_type in
     let one = and_parts (a && b && d && t) (is_value_of f.field_type f.value) h in
     let two = and_parts (a && b && d) t one.0 in
