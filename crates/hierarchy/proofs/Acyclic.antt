@@ -9,7 +9,6 @@ use Rattle.hierarchy.specs.declared.class.Class.{Class}
 use Rattle.hierarchy.specs.LinkedProgram.{built_in_after, id}
 use Rattle.hierarchy.specs.ClassLists.{Among, first, later, Every, is_among}
 use Rattle.hierarchy.specs.Hierarchy.{supers, supers_in, supers_of_built_in, built_in_list, Reaches, direct, further, IsCyclic, IsInRange, AreSupertypes, IsFirstCyclic, IsWithin, most_steps, height, IsAcyclic}
-use Rattle.hierarchy.specs.Searched.{HasSupertypes}
 use Rattle.hierarchy.proofs.ClassMembership.{among_from_true, true_from_among, every_at, every_from}
 use Rattle.hierarchy.proofs.Counts.{length-in_range, length-below}
 use Rattle.hierarchy.proofs.BuiltIns.{number-small, at-number, superclass-falls}
@@ -64,7 +63,7 @@ past_list classes h None k = tt
 past_list classes h (Some b) k = list_within classes (suc h) (superclass_of_built_in b) (λ s e. built_in_within classes h s (omega (arith, superclass-falls b s e, number-small b, k)))
 
 -- the ways up from a class that isn't the files' end
-past_within : (classes : List Class) (h : ℕ) (c : ClassId) → length classes ≤ c.number → BUILT_IN_COUNT ≤ suc h → IsWithin (suc (suc h)) classes c
+pub past_within : (classes : List Class) (h : ℕ) (c : ClassId) → length classes ≤ c.number → BUILT_IN_COUNT ≤ suc h → IsWithin (suc (suc h)) classes c
 past_within classes h c l k = subst (Every (IsWithin (suc h) classes)) (sym (supers-past classes c l)) (past_list classes h (slice_get built_ins (c.number - length classes)) k)
 
 within_size : (classes : List Class) → ((n : ℕ) → n < length classes → IsClear classes (id n)) → (h : ℕ) (c : ClassId) (a : IsClear classes c) → length a.found + suc BUILT_IN_COUNT ≤ h → IsWithin (suc h) classes c
@@ -86,7 +85,8 @@ acyclic_all classes r all c =
           subst (λ h. IsWithin h classes c) e (past_within classes (length classes + 2 * BUILT_IN_COUNT) c l (omega arith))
     ]
 
-within_not_cyclic : (classes : List Class) (h : ℕ) (c : ClassId) → IsWithin h classes c → Reaches classes c c → ⊥
+-- a class from which each way up ends stands on no cycle
+pub within_not_cyclic : (classes : List Class) (h : ℕ) (c : ClassId) → IsWithin h classes c → Reaches classes c c → ⊥
 within_not_cyclic classes zero c w r = w
 within_not_cyclic classes (suc h) c w (direct m) = within_not_cyclic classes h c (every_at (IsWithin h classes) w m) (direct m)
 within_not_cyclic classes (suc h) c w (further {d = d} m q) = within_not_cyclic classes h d (every_at (IsWithin h classes) w m) (reaches_on q (direct m))
@@ -106,28 +106,19 @@ get-pushed [] x (suc k) y e = absurd cc
 get-pushed (z ∷ xs) x zero y e = inl e
 get-pushed (z ∷ xs) x (suc k) y e = elim (get-pushed xs x k y e) [ inl l ↦ inl l | inr r ↦ inr (ap suc r.0, r.1) ]
 
--- the classes searched so far are clear
-pub clear_from : (classes : List Class) (count : ℕ) (all : List (List ClassId)) → HasSupertypes classes count all → (n : ℕ) → n < count → IsClear classes (id n)
-clear_from classes count all s n h =
-    let g = get-within all n (omega (arith, h, s.count_is)) in
-    record { found = g.0; are = s.are n g.0 g.1; clear = s.clear n g.0 g.1 }
+-- the first classes stand on no cycle
+abbrev pub AreClear : List Class → ℕ → Type 0
+AreClear classes count = (n : ℕ) → n < count → IsClear classes (id n)
 
-pub first_from_clear : (classes : List Class) (n : ℕ) (all : List (List ClassId)) (found : List ClassId) → n < length classes → HasSupertypes classes n all → AreSupertypes classes (id n) found → is_among (id n) found ≡ true → IsFirstCyclic classes n
-first_from_clear classes n all found h s a e = record {
+pub first_from_clear : (classes : List Class) (n : ℕ) (found : List ClassId) → n < length classes → AreClear classes n → AreSupertypes classes (id n) found → is_among (id n) found ≡ true → IsFirstCyclic classes n
+first_from_clear classes n found h s a e = record {
   within = h;
   cyclic = a.sound (id n) (among_from_true (id n) found e);
-  first = λ m l. clear_not_cyclic classes (id m) (clear_from classes n all s m l);
+  first = λ m l. clear_not_cyclic classes (id m) (s m l);
 }
 
-pub searched_more : (classes : List Class) (n : ℕ) (all next : List (List ClassId)) (found : List ClassId) → HasSupertypes classes n all → AreSupertypes classes (id n) found → is_among (id n) found ≡ false → next ≡ all ++ found ∷ [] → HasSupertypes classes (n + 1) next
-searched_more classes n all next found s a f e = rw e (record {
-  count_is = let l = s.count_is in omega (arith, length-append all (found ∷ []), l);
-  are = λ m g q. elim (get-pushed all found m g q) [
-    | inl l ↦ s.are m g l
-    | inr r ↦ let same : n ≡ m = omega (arith, r.0, s.count_is) in subst (λ z. AreSupertypes classes (id m) z) (sym r.1) (subst (λ z. AreSupertypes classes (id z) found) same a)
-  ];
-  clear = λ m g q. elim (get-pushed all found m g q) [
-    | inl l ↦ s.clear m g l
-    | inr r ↦ let same : n ≡ m = omega (arith, r.0, s.count_is) in subst (λ z. is_among (id m) z ≡ false) (sym r.1) (subst (λ z. is_among (id z) found ≡ false) same f)
-  ];
-})
+pub clear_more : (classes : List Class) (n : ℕ) (found : List ClassId) → AreClear classes n → AreSupertypes classes (id n) found → is_among (id n) found ≡ false → AreClear classes (n + 1)
+clear_more classes n found s a f m h = elim (cases_lt m n) [
+  | inl l ↦ s m l
+  | inr l ↦ let same : n ≡ m = omega (arith, l, h) in subst (λ z. IsClear classes (id z)) same (record { found = found; are = a; clear = f })
+]

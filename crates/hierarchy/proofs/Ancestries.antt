@@ -101,10 +101,14 @@ ancestry_within-reaches classes above u a (suc d) c w j h =
           ]
     ]
 
+-- an ancestry is of the class and of what is above it
+pub ancestry-reaches : (classes : List Class) (above : ClassId → List ClassId) → IsUpward classes above → IsAcyclic classes → (c j : ClassId) → Among j (ancestry classes above c) → (j ≡ c) ⊎ Reaches classes c j
+ancestry-reaches classes above u a c j h = ancestry_within-reaches classes above u a (height classes) c (a c) j h
+
 -- a class doesn't stand above what is above it
 not_below : (classes : List Class) (above : ClassId → List ClassId) → IsUpward classes above → IsAcyclic classes → (c x : ClassId) → Among x (above c) → Among c (ancestry classes above x) → ⊥
 not_below classes above u a c x m h =
-    elim (ancestry_within-reaches classes above u a (height classes) x (a x) c h) [
+    elim (ancestry-reaches classes above u a x c h) [
       | inl e ↦ not_cyclic classes a c (direct (subst (λ z. Among z (supers classes c)) (sym e) (u c x m)))
       | inr q ↦ not_cyclic classes a c (further (u c x m) q)
     ]

@@ -7,9 +7,9 @@ use Rattle.hierarchy.specs.declared.class.ClassId.{ClassId}
 use Rattle.hierarchy.specs.declared.built_in.BuiltIn.{BuiltIn}
 use Rattle.hierarchy.specs.BuiltIn.{built_ins, superclass_of_built_in, number_of}
 use Rattle.hierarchy.specs.declared.class.Class.{Class}
-use Rattle.hierarchy.specs.LinkedProgram.{built_in_after}
-use Rattle.hierarchy.specs.ClassLists.{Among, first, add_new, add_all}
-use Rattle.hierarchy.specs.Hierarchy.{interfaces_in, interfaces_of, IsAcyclic}
+use Rattle.hierarchy.specs.LinkedProgram.{class_among, built_in_after}
+use Rattle.hierarchy.specs.ClassLists.{Among, first, later, add_new, add_all}
+use Rattle.hierarchy.specs.Hierarchy.{interfaces_in, interfaces_of, supers, supers_in, built_in_list, IsAcyclic}
 use Rattle.hierarchy.specs.Ancestry.{superclass_in, superclass_of, superclass_alone}
 use Rattle.hierarchy.specs.Fields.{interfaces_first, field_order}
 use Rattle.hierarchy.proofs.Acyclic.{get-past}
@@ -26,6 +26,20 @@ superclass_is_above classes c s e = subst (λ o. Among s (option_to_list o)) (sy
 
 pub superclass_above : (classes : List Class) (c s : ClassId) → superclass_of classes c ≡ Some s → Among s (interfaces_first classes c)
 superclass_above classes c s e = among_right (interfaces_of classes c) (superclass_is_above classes c s e)
+
+-- a direct supertype is a direct superinterface or the superclass
+pub above_from_supers : (classes : List Class) (c d : ClassId) → Among d (supers classes c) → Among d (interfaces_first classes c)
+above_from_supers classes c d = at (class_among classes c) (slice_get built_ins (c.number - length classes))
+  where
+    built : (o : Option BuiltIn) → Among d (built_in_list classes o) → Among d (option_to_list (option_map (built_in_after classes) o))
+    built None h = h
+    built (Some s) h = h
+
+    at : (o : Option Class) (b : Option BuiltIn) → Among d (supers_in classes o b) → Among d (interfaces_in o ++ option_to_list (superclass_in classes o b))
+    at (Some class) b first = among_right class.interfaces first
+    at (Some class) b (later h) = among_left (class.superclass ∷ []) h
+    at None None h = h
+    at None (Some b) h = built (superclass_of_built_in b) h
 
 -- the superinterfaces, then the superclass
 pub ordered_some : (classes : List Class) → IsAcyclic classes → (start now next : List ClassId) (c s : ClassId) → now ≡ add_all (add_new start c) (flat_map (field_order classes) (interfaces_of classes c)) → superclass_of classes c ≡ Some s →

@@ -32,4 +32,5 @@ pub mod Superclasses
 pub mod TextLists
 pub mod TextReferences
 pub mod Throwables
+pub mod UpwardSearches
 pub mod Walks

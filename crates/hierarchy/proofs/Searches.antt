@@ -57,7 +57,7 @@ get_from (y ∷ xs) (suc k) x e = let r = get_from xs k x e in (omega (arith, r.
 take_get : (xs : List ClassId) (k : ℕ) (x : ClassId) → Some x ≡ slice_get xs k → take (k + 1) xs ≡ take k xs ++ x ∷ []
 take_get xs k x e = let r = get_from xs k x e in take_more xs k x r.0 ∙ ap (λ z. take k xs ++ z ∷ []) r.1
 
-among_one : {x y : ClassId} → Among y (x ∷ []) → y ≡ x
+pub among_one : {x y : ClassId} → Among y (x ∷ []) → y ≡ x
 among_one first = refl
 among_one (later k) = elim k [ ]
 

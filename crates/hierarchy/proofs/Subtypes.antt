@@ -5,9 +5,12 @@ use Rattle.hierarchy.specs.declared.built_in.BuiltIn.{BuiltIn}
 use Rattle.hierarchy.specs.BuiltIn.{superclass_of_built_in, built_ins}
 use Rattle.hierarchy.specs.declared.class.Class.{Class}
 use Rattle.hierarchy.specs.LinkedProgram.{built_in_after}
-use Rattle.hierarchy.specs.ClassLists.{Among, first, later, is_among}
-use Rattle.hierarchy.specs.Hierarchy.{supers, supers_of_built_in, built_in_list, Reaches, direct, further, AreSupertypes}
-use Rattle.hierarchy.proofs.ClassMembership.{among_from_true, true_from_among}
+use Rattle.hierarchy.specs.ClassLists.{Among, first, later, is_among, distinct}
+use Rattle.hierarchy.specs.Fields.{field_order, interfaces_first}
+use Rattle.hierarchy.specs.Hierarchy.{supers, supers_of_built_in, built_in_list, Reaches, direct, further, IsSubtype, IsAcyclic}
+use Rattle.hierarchy.proofs.ClassMembership.{among_from_true, true_from_among, add_all-has, add_all-cases}
+use Rattle.hierarchy.proofs.Ancestries.{interfaces_first_upward, ancestry-self, ancestry-above, ancestry-reaches}
+use Rattle.hierarchy.proofs.FieldOrders.{above_from_supers}
 use Rattle.hierarchy.proofs.Acyclic.{supers-built_in, supers-past}
 
 step_up : {classes : List Class} {c d : ClassId} → Reaches classes c d → (e : ClassId) × Among e (supers classes c) × ((d ≡ e) ⊎ Reaches classes e d)
@@ -57,9 +60,33 @@ below_further classes b s d t e no_match h = (
   λ r. elim (through classes (built_in_after classes b) (built_in_after classes s) d (supers-some classes b s e) r) [ inl q ↦ absurd (no_match q) | inr q ↦ h.1 q ],
 )
 
--- the stored supertypes of a class of the files
-pub below_stored : (classes : List Class) (c d : ClassId) (found : List ClassId) (t : Bool) → AreSupertypes classes c found → t ≡ is_among d found → (t ≡ true) ↔ Reaches classes c d
-below_stored classes c d found t a e = (λ k. a.sound d (among_from_true d found (sym e ∙ k)), λ r. e ∙ true_from_among (a.complete d r))
+-- what is above a class is looked through for its fields
+reaches_order : (classes : List Class) → IsAcyclic classes → {c d : ClassId} → Reaches classes c d → Among d (field_order classes c)
+reaches_order classes a (direct {c = c} {d = d} h) =
+    ancestry-above classes (interfaces_first classes) (interfaces_first_upward classes) a c d d (above_from_supers classes c d h) (ancestry-self classes (interfaces_first classes) (interfaces_first_upward classes) a d)
+reaches_order classes a (further {c = c} {d = e} {e = d} h r) =
+    ancestry-above classes (interfaces_first classes) (interfaces_first_upward classes) a c e d (above_from_supers classes c e h) (reaches_order classes a r)
+
+subtype_order : (classes : List Class) → IsAcyclic classes → (c d : ClassId) → IsSubtype classes c d → Among d (field_order classes c)
+subtype_order classes a c d (inl e) = subst (λ z. Among z (field_order classes c)) e (ancestry-self classes (interfaces_first classes) (interfaces_first_upward classes) a c)
+subtype_order classes a c d (inr r) = reaches_order classes a r
+
+order_subtype : (classes : List Class) → IsAcyclic classes → (c d : ClassId) → Among d (field_order classes c) → IsSubtype classes c d
+order_subtype classes a c d m = elim (ancestry-reaches classes (interfaces_first classes) (interfaces_first_upward classes) a c d m) [ inl e ↦ inl (sym e) | inr r ↦ inr r ]
+
+distinct_from : (cs : List ClassId) {c : ClassId} → Among c (distinct cs) → Among c cs
+distinct_from cs h = elim (add_all-cases [] cs h) [ inl k ↦ elim k [ ] | inr k ↦ k ]
+
+-- the classes in which a field of a class of the files is looked up are the class and what is above it
+pub subtype_stored : (classes : List Class) (c d : ClassId) (found : List ClassId) (t : Bool) → IsAcyclic classes → found ≡ distinct (field_order classes c) → t ≡ is_among d found → (t ≡ true) ↔ IsSubtype classes c d
+subtype_stored classes c d found t a e q = (
+  λ k. order_subtype classes a c d (distinct_from (field_order classes c) (rw e at (among_from_true d found (sym q ∙ k)))),
+  λ s. q ∙ true_from_among (subst (Among d) (sym e) (add_all-has [] (subtype_order classes a c d s))),
+)
+
+-- of another class only what is above counts
+pub subtype_other : (classes : List Class) (c d : ClassId) (t : Bool) → (c ≡ d → ⊥) → (t ≡ true) ↔ Reaches classes c d → (t ≡ true) ↔ IsSubtype classes c d
+subtype_other classes c d t n h = (λ k. inr (h.0 k), λ s. elim s [ inl e ↦ absurd (n e) | inr r ↦ h.1 r ])
 
 -- past the files' classes
 pub below_built_in : (classes : List Class) (c d : ClassId) (b : BuiltIn) (t : Bool) → length classes ≤ c.number → slice_get built_ins (c.number - length classes) ≡ Some b → (t ≡ true) ↔ Reaches classes (built_in_after classes b) d → (t ≡ true) ↔ Reaches classes c d

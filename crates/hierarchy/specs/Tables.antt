@@ -6,7 +6,6 @@ use Rattle.hierarchy.specs.declared.tables.Tables.{Tables}
 use Rattle.hierarchy.specs.ClassLists.{distinct}
 use Rattle.hierarchy.specs.Code.{code_at}
 use Rattle.hierarchy.specs.LinkedProgram.{linked}
-use Rattle.hierarchy.specs.Searched.{HasSupertypes}
 use Rattle.hierarchy.specs.Superinterfaces.{IsTable, superinterfaces}
 use Rattle.hierarchy.specs.Fields.{field_order}
 use Rattle.hierarchy.specs.Methods.{all_superinterfaces}
@@ -15,7 +14,6 @@ use Rattle.hierarchy.specs.Quoted.{quoted_texts, cells_of}
 
 -- the tables are those of these classes
 pub record AreTables (classes : List Class) (t : Tables) : Type 0 where
-  pub supertypes : HasSupertypes classes (length classes) t.supertypes.items
   pub superinterfaces : IsTable (superinterfaces classes) (length classes) t.superinterfaces.items
   pub field_orders : IsTable (λ c. distinct (field_order classes c)) (length classes) t.field_orders.items
   pub inherited : IsTable (all_superinterfaces classes) (length classes) t.inherited.items

@@ -6,8 +6,8 @@
 //! by it.
 //!
 //! Contracts see a program as one value, the list of its linked classes. In every program each way up the
-//! hierarchy ends, which [`Program::is_linked`] tells. What linking found out beside the classes, as the supertypes
-//! and the superinterfaces of each, is kept in the program and is no part of that value: so no call goes up the
+//! hierarchy ends, which [`Program::is_linked`] tells. What linking found out beside the classes, as the superinterfaces
+//! of each, is kept in the program and is no part of that value: so no call goes up the
 //! hierarchy by more than one way, that of the superclasses, and what is resolved later can be kept there too.
 //!
 //! Members are found by [`Program::resolve_field`] and [`Program::resolve_method`], and the method that a call
@@ -53,6 +53,7 @@ mod supertypes;
 mod tables;
 mod texts;
 mod type_ops;
+mod upward;
 pub mod value;
 mod walk;
 

@@ -5,7 +5,7 @@ ghost use Rattle.std.specs.List.{All};
 ghost use Rattle.jasmin_text.specs.Spellable.{IsSpellable};
 ghost use Rattle.hierarchy.specs.LinkedProgram.{linked, class_names};
 ghost use Rattle.hierarchy.specs.Hierarchy.{IsAcyclic, IsInRange};
-ghost use Rattle.hierarchy.specs.Searched.{HasSupertypes};
+ghost use Rattle.hierarchy.specs.UpwardOrder.{IsUpwardOrder};
 ghost use Rattle.hierarchy.specs.Quoted.{quoted_texts, cells_of, FillsHeap};
 ghost use Rattle.hierarchy.specs.LinkedTexts.{IsResolved};
 ghost use Rattle.hierarchy.specs.Members.{repeats_member};
@@ -28,7 +28,7 @@ use crate::naming::{first_repeated, first_reserved, kinds};
 use crate::program::Program;
 use crate::quoted::first_beyond_heap;
 use crate::selection_table::{Selections, selections_of};
-use crate::supertypes::{SearchResult, search};
+use crate::upward::{SearchResult, search};
 use crate::tables::{Tables, tables_with};
 use crate::texts::Texts;
 use descriptors::ClassName;
@@ -112,18 +112,18 @@ fn members_of(alloc: Global, classes: &[Class]) -> Result<Vec<MemberPlaces>, Fau
     }
 }
 
-/// The supertypes of classes none of which stands on a cycle.
-fn supertypes_of(alloc: Global, classes: &[Class]) -> Result<Vec<ClassSet>, FaultAt>
+/// An order in which each class stands after its direct supertypes, where none stands on a cycle.
+fn upward_order_of(alloc: Global, classes: &[Class]) -> Result<ClassSet, FaultAt>
     requires some { 0 < length classes.now }
     requires few { length classes.now ≤ 1024 }
     requires in_range { IsInRange classes.now }
-    ensures supertypes { IfOk result (λ all. HasSupertypes classes.now (length classes.now) all.items) }
-    ensures acyclic { IfOk result (λ all. IsAcyclic classes.now) }
+    ensures upward { IfOk result (IsUpwardOrder classes.now) }
+    ensures acyclic { IfOk result (λ order. IsAcyclic classes.now) }
     ensures within { IfErr result (λ at. at.place < length classes.now) }
     ensures fault { IfErr result (λ at. (at.kind ≡ because.NoMemory) ⊎ IsClassFault classes.now at.kind at.place) }
 {
     match search(alloc, classes) {
-        Ok(SearchResult::Supertypes(all)) => Ok(all),
+        Ok(SearchResult::Upward(order)) => Ok(order),
         Ok(SearchResult::Cycle(place)) => Err(FaultAt {
             kind: LinkFaultKind::Cycle,
             place,
@@ -164,8 +164,8 @@ fn tables_of(alloc: Global, classes: &[Class]) -> Result<Tables, FaultAt>
     ensures within { IfErr result (λ at. at.place < length classes.now) }
     ensures fault { IfErr result (λ at. (at.kind ≡ because.NoMemory) ⊎ IsClassFault classes.now at.kind at.place) }
 {
-    let supertypes = match supertypes_of(alloc, classes) {
-        Ok(supertypes) => supertypes,
+    let order = match upward_order_of(alloc, classes) {
+        Ok(order) => order,
         Err(at) => return Err(at),
     };
     let members = match members_of(alloc, classes) {
@@ -176,7 +176,7 @@ fn tables_of(alloc: Global, classes: &[Class]) -> Result<Tables, FaultAt>
         Ok(quoted) => quoted,
         Err(at) => return Err(at),
     };
-    match tables_with(alloc, classes, supertypes, members, quoted) {
+    match tables_with(alloc, classes, order.as_slice(), members, quoted) {
         Ok(tables) => Ok(tables),
         Err(_) => Err(FaultAt::NO_MEMORY),
     }

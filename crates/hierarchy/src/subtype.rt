@@ -1,9 +1,11 @@
-//! Subtypes, which a program looks up among the supertypes that it keeps of each class.
+//! Subtypes, which a program looks up among the classes that it keeps for the look-up of fields.
 
 ghost use Rattle.std.specs.Prelude.{◌≡◌, ◌↔◌, ◌≤◌, IsTrue, length, slice_get, option_copied};
 ghost use Rattle.hierarchy.specs.LinkedProgram.{built_in_after};
-ghost use Rattle.hierarchy.specs.Hierarchy.{Reaches};
-ghost use Rattle.hierarchy.specs.Searched.{HasSupertypes};
+ghost use Rattle.hierarchy.specs.ClassLists.{distinct};
+ghost use Rattle.hierarchy.specs.Fields.{field_order};
+ghost use Rattle.hierarchy.specs.Hierarchy.{Reaches, IsSubtype, IsAcyclic};
+ghost use Rattle.hierarchy.specs.Superinterfaces.{IsTable};
 
 use crate::built_in::BuiltIn;
 use crate::class::{Class, ClassId};
@@ -32,20 +34,24 @@ pub(crate) fn list_at(lists: &[ClassSet], place: usize) -> Option<&ClassSet>
     lists.get(place)
 }
 
-/// Whether a chain of superclasses and superinterfaces leads up from a class to another, where these are the
-/// supertypes of the files' classes.
-pub(crate) fn is_below(
+/// Whether a class is another one, or a chain of superclasses and superinterfaces leads up from it to the other, where
+/// these are the classes in which a field of the files' classes is looked up: the class itself and all that is above it.
+pub(crate) fn is_subtype(
     classes: &[Class],
-    supertypes: &[ClassSet],
+    field_orders: &[ClassSet],
     id: ClassId,
     other: ClassId,
 ) -> bool
     requires few { length classes.now ≤ 1024 }
-    requires supertypes { HasSupertypes classes.now (length classes.now) supertypes.now }
-    ensures { IsTrue result ↔ Reaches classes.now id other }
+    requires acyclic { IsAcyclic classes.now }
+    requires orders { IsTable (λ c. distinct (field_order classes.now c)) (length classes.now) field_orders.now }
+    ensures { IsTrue result ↔ IsSubtype classes.now id other }
 {
-    match list_at(supertypes, id.number) {
-        Some(found) => found.contains(other),
+    if id == other {
+        return true;
+    }
+    match list_at(field_orders, id.number) {
+        Some(order) => order.contains(other),
         None => match BuiltIn::at(id.number - classes.len()) {
             Some(class) => is_built_in_below(classes, class, other),
             None => false,

@@ -1,10 +1,9 @@
-//! The supertypes of each class, and the first class that is its own.
+//! The supertypes of a class, and the first class that is its own.
 
-ghost use Rattle.std.specs.Prelude.{◌≡◌, ℕ, ◌≤◌, ◌<◌, [], OnOk, IfOk, length, slice_get, vec_len, Some};
+ghost use Rattle.std.specs.Prelude.{◌≡◌, ℕ, ◌≤◌, ◌<◌, [], OnOk, IfOk, length, slice_get, Some};
 ghost use Rattle.hierarchy.specs.ClassLists.{add_all};
 ghost use Rattle.hierarchy.specs.LinkedProgram.{id as id_of};
 ghost use Rattle.hierarchy.specs.Hierarchy.{IsAcyclic, IsInRange, AreSupertypes, IsFirstCyclic, supers};
-ghost use Rattle.hierarchy.specs.Searched.{HasSupertypes, SearchOf};
 
 use crate::built_in::{BUILT_IN_COUNT, BuiltIn};
 use crate::class::{Class, ClassId};
@@ -67,29 +66,20 @@ fn supertypes(alloc: Global, classes: &[Class], id: ClassId) -> Result<ClassSet,
     Ok(found)
 }
 
-/// What a search for cycles found.
-#[derive(Drop)]
-pub(crate) enum SearchResult {
-    /// The first class that stands on a cycle, by its place.
-    Cycle(usize),
-    /// The supertypes of each class, in file order.
-    Supertypes(Vec<ClassSet>),
-}
-
-/// The first class in file order that stands on a cycle; else the supertypes of all.
-pub(crate) fn search(alloc: Global, classes: &[Class]) -> Result<SearchResult, AllocError>
+/// The first class in file order that stands on a cycle, where some class does. The time is that of the direct
+/// supertypes of all classes above each class.
+pub(crate) fn first_cyclic(alloc: Global, classes: &[Class]) -> Result<usize, AllocError>
     requires few { length classes.now ≤ 1024 }
     requires in_range { IsInRange classes.now }
-    ensures { IfOk result (SearchOf classes.now) }
+    requires cyclic { IsAcyclic classes.now → ⊥ }
+    ensures { IfOk result (IsFirstCyclic classes.now) }
 {
-    let mut all = Vec::new(alloc);
     for number in 0..classes.len() {
         let id = ClassId { number };
         let found = supertypes(alloc, classes, id)?;
         if found.contains(id) {
-            return Ok(SearchResult::Cycle(number));
+            return Ok(number);
         }
-        all.push(found)?;
     }
-    Ok(SearchResult::Supertypes(all))
+    unreachable!()
 }

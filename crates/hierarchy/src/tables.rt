@@ -6,12 +6,12 @@ ghost use Rattle.hierarchy.specs.Fields.{field_order};
 ghost use Rattle.hierarchy.specs.Hierarchy.{IsAcyclic};
 ghost use Rattle.hierarchy.specs.Methods.{all_superinterfaces as inherited_of};
 ghost use Rattle.hierarchy.specs.Superinterfaces.{IsTable, superinterfaces as superinterfaces_of};
-ghost use Rattle.hierarchy.specs.Searched.{HasSupertypes};
+ghost use Rattle.hierarchy.specs.UpwardOrder.{IsUpwardOrder};
 ghost use Rattle.hierarchy.specs.MemberPlaces.{HavePlaces};
 ghost use Rattle.hierarchy.specs.Tables.{AreTables};
 ghost use Rattle.hierarchy.specs.Quoted.{quoted_texts, cells_of};
 
-use crate::class::Class;
+use crate::class::{Class, ClassId};
 use crate::class_set::ClassSet;
 use crate::field_order::field_orders;
 use crate::member_places::MemberPlaces;
@@ -23,11 +23,9 @@ use std::alloc::{AllocError, Global};
 /// places of its members; and of all classes the quoted texts.
 #[derive(Debug, Drop)]
 pub(crate) struct Tables {
-    /// All supertypes.
-    pub(crate) supertypes: Vec<ClassSet>,
     /// The superinterfaces that the class implements by itself, in the order of their enumeration.
     pub(crate) superinterfaces: Vec<ClassSet>,
-    /// The classes in which a field is looked up, in order.
+    /// The classes in which a field is looked up, in order: the class itself and all its supertypes.
     pub(crate) field_orders: Vec<ClassSet>,
     /// All superinterfaces, direct and indirect, in the order in which methods are looked up.
     pub(crate) inherited: Vec<ClassSet>,
@@ -42,7 +40,6 @@ pub(crate) fn no_tables(alloc: Global) -> Tables
     ensures { AreTables [] result }
 {
     Tables {
-        supertypes: Vec::new(alloc),
         superinterfaces: Vec::new(alloc),
         field_orders: Vec::new(alloc),
         inherited: Vec::new(alloc),
@@ -59,9 +56,14 @@ struct Orders {
     inherited: Vec<ClassSet>,
 }
 
-fn orders_of(alloc: Global, classes: &[Class]) -> Result<Orders, AllocError>
+fn orders_of(
+    alloc: Global,
+    classes: &[Class],
+    _order: &[ClassId],
+) -> Result<Orders, AllocError>
     requires few { length classes.now ≤ 1024 }
     requires acyclic { IsAcyclic classes.now }
+    requires upward { IsUpwardOrder classes.now _order.now }
     ensures superinterfaces { IfOk result (λ made. IsTable (superinterfaces_of classes.now) (length classes.now) made.superinterfaces.items) }
     ensures field_orders { IfOk result (λ made. IsTable (λ c. distinct (field_order classes.now c)) (length classes.now) made.field_orders.items) }
     ensures inherited { IfOk result (λ made. IsTable (inherited_of classes.now) (length classes.now) made.inherited.items) }
@@ -76,17 +78,18 @@ fn orders_of(alloc: Global, classes: &[Class]) -> Result<Orders, AllocError>
     })
 }
 
-/// The tables of classes whose supertypes, members and quoted texts are found.
+/// The tables of classes whose members and quoted texts are found, from an order in which each class stands after its
+/// direct supertypes.
 pub(crate) fn tables_with(
     alloc: Global,
     classes: &[Class],
-    supertypes: Vec<ClassSet>,
+    order: &[ClassId],
     members: Vec<MemberPlaces>,
     quoted: Texts,
 ) -> Result<Tables, AllocError>
     requires few { length classes.now ≤ 1024 }
     requires acyclic { IsAcyclic classes.now }
-    requires supertypes { HasSupertypes classes.now (length classes.now) supertypes.items }
+    requires upward { IsUpwardOrder classes.now order.now }
     requires members { HavePlaces classes.now members.items }
     requires quoted { quoted ≡ quoted_texts classes.now }
     requires cells { cells_of classes.now ≤ 1000000 }
@@ -96,9 +99,8 @@ pub(crate) fn tables_with(
         superinterfaces,
         field_orders,
         inherited,
-    } = orders_of(alloc, classes)?;
+    } = orders_of(alloc, classes, order)?;
     Ok(Tables {
-        supertypes,
         superinterfaces,
         field_orders,
         inherited,
