@@ -1,6 +1,7 @@
 pub mod Acyclic
 pub mod Ancestries
 pub mod BuiltIns
+pub mod CellTables
 pub mod ClassMembership
 pub mod ClassNames
 pub mod ClassSets

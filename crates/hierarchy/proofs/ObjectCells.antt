@@ -19,11 +19,11 @@ use Rattle.hierarchy.specs.Ancestry.{superclass_of, superclass_alone, superclass
 use Rattle.hierarchy.specs.Code.{class_code, code_at, type_of_field}
 use Rattle.hierarchy.specs.Hierarchy.{IsAcyclic}
 use Rattle.hierarchy.specs.LinkedProgram.{LinkedProgram, class_at}
-use Rattle.hierarchy.specs.Objects.{is_instance_field, instance_fields_from, own_instance_fields, object_fields, cells_in, field_cell_in, field_cell}
-use Rattle.hierarchy.specs.LinkedTexts.{IsLinked}
+use Rattle.hierarchy.specs.Objects.{HaveFewFields, is_instance_field, instance_fields_from, own_instance_fields, object_fields, cells_in, field_cell_in, field_cell}
+use Rattle.hierarchy.specs.LinkedTexts.{IsLinked, IsResolved}
 use Rattle.hierarchy.specs.SpellableClass.{IsSpellableClass}
 use Rattle.hierarchy.specs.OwnNames.{fields_of, fields_in}
-use Rattle.hierarchy.proofs.ProvedByLinking.{linked_few, linked_spellable}
+use Rattle.hierarchy.proofs.ProvedByLinking.{linked_few, linked_resolved, resolved_spellable}
 use Rattle.hierarchy.proofs.Superclasses.{superclasses-at, superclasses-few}
 use Rattle.hierarchy.proofs.Positions.{Some_same}
 
@@ -65,15 +65,18 @@ few_fields t h =
     let three = and_parts (a && f) m two.0 in
     leb-true (length t.fields) 1024 (and_parts a f three.0).1
 
--- a class of the files has at most 1,024 fields
-pub few_own : (p : LinkedProgram) → IsLinked p → (c : ClassId) (class : Class) → class_at p c ≡ Some class → length class.fields ≤ 1024
-few_own p h c class e =
-    let k : c.number < length p.classes = slice_get_within p.classes c.number class e in
-    let s : IsSpellableClass class = subst IsSpellableClass (get_or_from_slice_get p.classes c.number class class e) (All-get_or IsSpellableClass p.classes c.number class k (linked_spellable p h)) in
+pub resolved_few_fields : (classes : List Class) → IsResolved classes → HaveFewFields classes
+resolved_few_fields classes h n class e =
+    let k : n < length classes = slice_get_within classes n class e in
+    let s : IsSpellableClass class = subst IsSpellableClass (get_or_from_slice_get classes n class class e) (All-get_or IsSpellableClass classes n class k (resolved_spellable classes h)) in
     subst (λ (z : Class). length z.fields ≤ 1024) s.same (few_fields s.text s.spellable)
 
+-- a class of the files has at most 1,024 fields
+pub few_own : (p : LinkedProgram) → IsLinked p → (c : ClassId) (class : Class) → class_at p c ≡ Some class → length class.fields ≤ 1024
+few_own p h c class e = resolved_few_fields p.classes (linked_resolved p h) c.number class e
+
 -- the cells of one class more
-pub cells_more : (p : LinkedProgram) (c : ClassId) (cs : List ClassId) → length (flat_map (own_instance_fields p) (reverse (c ∷ cs))) ≡ length (own_instance_fields p c) + length (flat_map (own_instance_fields p) (reverse cs))
+cells_more : (p : LinkedProgram) (c : ClassId) (cs : List ClassId) → length (flat_map (own_instance_fields p) (reverse (c ∷ cs))) ≡ length (own_instance_fields p c) + length (flat_map (own_instance_fields p) (reverse cs))
 cells_more p c cs =
     let l = length-append (flat_map (own_instance_fields p) (reverse cs)) (own_instance_fields p c) in
     ap (λ z. length (flat_map (own_instance_fields p) z)) (reverse-append (c ∷ []) cs) ∙ ap length (flat_map-append (own_instance_fields p) (reverse cs) (c ∷ [])) ∙
@@ -126,39 +129,30 @@ filter_few q (x ∷ xs) =
     let r = filter_few q xs in
     elim (cases_Bool (q x)) [ inl e ↦ rw e (omega (arith, r)) | inr e ↦ rw e (omega (arith, r)) ]
 
-few_own_fields : (p : LinkedProgram) → IsLinked p → (c : ClassId) → length (own_instance_fields p c) ≤ 1024
-few_own_fields p h c = at (class_at p c) refl
+few_own_fields : (p : LinkedProgram) → HaveFewFields p.classes → (c : ClassId) → length (own_instance_fields p c) ≤ 1024
+few_own_fields p f c = at (class_at p c) refl
   where
     at : (o : Option Class) → class_at p c ≡ o → length (own_instance_fields p c) ≤ 1024
     at None e = let none = ap (λ o. length (instance_fields_from c 0 (fields_in o))) e in omega (arith, none)
     at (Some class) e =
         let own = own_count p c class (length (filter is_instance_field class.fields)) e refl in
-        omega (arith, own, filter_few is_instance_field class.fields, few_own p h c class e)
+        omega (arith, own, filter_few is_instance_field class.fields, f c.number class e)
 
-few_in_all : (p : LinkedProgram) → IsLinked p → (cs : List ClassId) → length (flat_map (own_instance_fields p) (reverse cs)) ≤ 1024 * length cs
-few_in_all p h [] = omega arith
-few_in_all p h (c ∷ cs) = omega (arith, cells_more p c cs, few_own_fields p h c, few_in_all p h cs)
+few_in_all : (p : LinkedProgram) → HaveFewFields p.classes → (cs : List ClassId) → length (flat_map (own_instance_fields p) (reverse cs)) ≤ 1024 * length cs
+few_in_all p f [] = omega arith
+few_in_all p f (c ∷ cs) = omega (arith, cells_more p c cs, few_own_fields p f c, few_in_all p f cs)
+
+pub cells_within : (p : LinkedProgram) → HaveFewFields p.classes → length p.classes ≤ 1024 → (c : ClassId) → length (object_fields p c) ≤ 2000000
+cells_within p f few c = omega (arith, few_in_all p f (superclasses p.classes c), superclasses-few p.classes c, few)
 
 -- an object has few cells
 pub few_cells : (p : LinkedProgram) → IsLinked p → (c : ClassId) → length (object_fields p c) ≤ 2000000
-few_cells p h c = omega (arith, few_in_all p h (superclasses p.classes c), superclasses-few p.classes c, linked_few p h)
+few_cells p h c = cells_within p (resolved_few_fields p.classes (linked_resolved p h)) (linked_few p h) c
 
 -- the cells of the superclass, and those of the class's own fields
-all_cells : (p : LinkedProgram) → IsAcyclic p.classes → (c : ClassId) → length (object_fields p c) ≡ cells_in p (superclass_of p.classes c) + length (own_instance_fields p c)
+pub all_cells : (p : LinkedProgram) → IsAcyclic p.classes → (c : ClassId) → length (object_fields p c) ≡ cells_in p (superclass_of p.classes c) + length (own_instance_fields p c)
 all_cells p a c = at (superclass_of p.classes c) refl
   where
     at : (o : Option ClassId) → superclass_of p.classes c ≡ o → length (object_fields p c) ≡ cells_in p (superclass_of p.classes c) + length (own_instance_fields p c)
     at None e = let l = ap length (cells_none p a c e) in rw e (omega (arith, l))
     at (Some s) e = rw e (ap length (cells_some p a c s e) ∙ length-append (object_fields p s) (own_instance_fields p c))
-
--- as a class's code tells them
-pub cells_of_code : (p : LinkedProgram) → IsAcyclic p.classes → (c : ClassId) (found : ClassCode) → code_at p c.number ≡ Some found → found.cells_above + length found.fields ≡ length (object_fields p c)
-cells_of_code p a c found e = at (slice_get p.classes c.number) refl
-  where
-    at : (o : Option Class) → slice_get p.classes c.number ≡ o → found.cells_above + length found.fields ≡ length (object_fields p c)
-    at None g = let n = ap (option_map (class_code p c)) (sym g) ∙ e in absurd cc
-    at (Some class) g =
-        let same : class_code p c class ≡ found = Some_same (ap (option_map (class_code p c)) (sym g) ∙ e) in
-        let own = own_count p c class (length (filter is_instance_field class.fields)) g refl in
-        let mapped = length-map (filter is_instance_field class.fields) (type_of_field p) in
-        ap (λ (z : ClassCode). z.cells_above + length z.fields) (sym same) ∙ ap (λ n. cells_in p (superclass_of p.classes c) + n) (mapped ∙ own) ∙ sym (all_cells p a c)

@@ -15,7 +15,7 @@ take_more [] k x e = absurd cc
 take_more (y ∷ ys) zero x e = ap (λ z. z ∷ []) (Some_same e)
 take_more (y ∷ ys) (suc k) x e = ap (λ zs. y ∷ zs) (take_more ys k x e)
 
-one_more : {X : Type 0} (xs : List X) (k : ℕ) (x : X) → slice_get xs k ≡ Some x → take (k + 1) xs ≡ take k xs ++ x ∷ []
+pub one_more : {X : Type 0} (xs : List X) (k : ℕ) (x : X) → slice_get xs k ≡ Some x → take (k + 1) xs ≡ take k xs ++ x ∷ []
 one_more xs k x e = let n : k + 1 ≡ suc k = omega arith in ap (λ m. take m xs) n ∙ take_more xs k x e
 
 -- what stands in a list with one element more

@@ -77,5 +77,8 @@ linked_few p h = resolved_few p.classes (linked_resolved p h)
 pub linked_acyclic : (p : LinkedProgram) → IsLinked p → IsAcyclic p.classes
 linked_acyclic p h = acyclic_without_cycle p.classes (resolved_in_range p.classes (linked_resolved p h)) h.links.cycles
 
+pub resolved_spellable : (classes : List Class) → IsResolved classes → All IsSpellableClass classes
+resolved_spellable classes h = spellable_all (names_of h.texts) (kinds_of h.texts) h.texts classes h.spellable h.supertypes
+
 pub linked_spellable : (p : LinkedProgram) → IsLinked p → All IsSpellableClass p.classes
-linked_spellable p h = spellable_all (names_of h.texts) (kinds_of h.texts) h.texts p.classes h.spellable h.links.supertypes
+linked_spellable p h = resolved_spellable p.classes (linked_resolved p h)

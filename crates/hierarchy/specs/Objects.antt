@@ -1,7 +1,8 @@
 -- Objects: the fields that one has, each in a cell of its own (JLS SE 8 12.5), and those that are ready from the start.
-use Rattle.std.specs.Prelude.{ℕ, ◌+◌, ◌-◌, nat_lt, Bool, not, List, [], ◌∷◌, ◌++◌, Option, Some, None, filter, length, map, reverse, slice_get, take, if◌then◌else◌}
+use Rattle.std.specs.Prelude.{◌≡◌, ℕ, ◌≤◌, ◌+◌, ◌-◌, nat_lt, Bool, not, List, [], ◌∷◌, ◌++◌, Option, Some, None, filter, length, map, reverse, slice_get, take, if◌then◌else◌}
 use Rattle.std.specs.List.{flat_map}
 use Rattle.jasmin_text.specs.declared.class_text.Field.{Field}
+use Rattle.hierarchy.specs.declared.class.Class.{Class}
 use Rattle.hierarchy.specs.declared.class.ClassId.{ClassId}
 use Rattle.hierarchy.specs.declared.fields.FieldId.{FieldId}
 use Rattle.hierarchy.specs.declared.fields.FieldId.TheVariants.{Declared}
@@ -27,6 +28,10 @@ own_instance_fields p c = instance_fields_from c 0 (fields_of p c)
 -- the fields of an object of c, cell by cell: those of its superclasses from the top down, then those of c
 abbrev pub object_fields : LinkedProgram → ClassId → List FieldId
 object_fields p c = flat_map (own_instance_fields p) (reverse (superclasses p.classes c))
+
+-- no class of the files declares more than 1,024 fields, as none does that a file can spell
+abbrev pub HaveFewFields : List Class → Type 0
+HaveFewFields classes = (n : ℕ) (class : Class) → slice_get classes n ≡ Some class → length class.fields ≤ 1024
 
 abbrev pub cells_in : LinkedProgram → Option ClassId → ℕ
 cells_in p None = 0

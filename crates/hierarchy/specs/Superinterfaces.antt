@@ -26,6 +26,6 @@ abbrev pub IsClosed : List Class → List ClassId → Type 0
 IsClosed classes found = (c : ClassId) → Among c found → (d : ClassId) → Among d (enumeration classes c) → Among d found
 
 -- f of each of the first classes
-pub record IsTable (f : ClassId → List ClassId) (count : ℕ) (all : List (List ClassId)) : Type 0 where
+pub record IsTable {X : Type 0} (f : ClassId → X) (count : ℕ) (all : List X) : Type 0 where
   pub count_is : length all ≡ count
-  pub are : (n : ℕ) (found : List ClassId) → slice_get all n ≡ Some found → found ≡ f (id n)
+  pub are : (n : ℕ) (found : X) → slice_get all n ≡ Some found → found ≡ f (id n)

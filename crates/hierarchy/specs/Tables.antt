@@ -10,6 +10,7 @@ use Rattle.hierarchy.specs.Superinterfaces.{IsTable, superinterfaces}
 use Rattle.hierarchy.specs.Fields.{field_order}
 use Rattle.hierarchy.specs.Methods.{all_superinterfaces}
 use Rattle.hierarchy.specs.MemberPlaces.{HavePlaces}
+use Rattle.hierarchy.specs.Objects.{object_fields}
 use Rattle.hierarchy.specs.Quoted.{quoted_texts, cells_of}
 
 -- the tables are those of these classes
@@ -19,6 +20,7 @@ pub record AreTables (classes : List Class) (t : Tables) : Type 0 where
   pub inherited : IsTable (all_superinterfaces classes) (length classes) t.inherited.items
   pub quoted : t.quoted ≡ quoted_texts classes
   pub cells : cells_of classes ≤ 1000000
+  pub object_cells : IsTable (λ c. length (object_fields (linked classes) c)) (length classes) t.object_cells.items
   pub members : HavePlaces classes t.members.items
 
 -- each entry is that of its class

@@ -38,6 +38,7 @@ mod member_order;
 mod member_places;
 pub mod methods;
 mod naming;
+mod object_cells;
 pub mod objects;
 pub mod op;
 mod ops;

@@ -9,6 +9,7 @@ ghost use Rattle.hierarchy.specs.UpwardOrder.{IsUpwardOrder};
 ghost use Rattle.hierarchy.specs.Quoted.{quoted_texts, cells_of, FillsHeap};
 ghost use Rattle.hierarchy.specs.LinkedTexts.{IsResolved};
 ghost use Rattle.hierarchy.specs.Members.{repeats_member};
+ghost use Rattle.hierarchy.specs.Objects.{HaveFewFields};
 ghost use Rattle.hierarchy.specs.MemberPlaces.{HavePlaces};
 ghost use Rattle.hierarchy.specs.Tables.{AreTables};
 ghost use Rattle.hierarchy.specs.Code.{code_of as code_of_program};
@@ -156,6 +157,7 @@ fn quoted_of(alloc: Global, classes: &[Class]) -> Result<Texts, FaultAt>
 fn tables_of(alloc: Global, classes: &[Class]) -> Result<Tables, FaultAt>
     requires some { 0 < length classes.now }
     requires few { length classes.now ≤ 1024 }
+    requires fields { HaveFewFields classes.now }
     requires in_range { IsInRange classes.now }
     ensures acyclic { IfOk result (λ made. IsAcyclic classes.now) }
     ensures tables { IfOk result (AreTables classes.now) }

@@ -26,31 +26,6 @@ pub(crate) fn instance_count(fields: &[Field]) -> usize
 }
 
 impl Program {
-    /// How many instance fields a class declares.
-    #[tactic(auto, using(crate::proofs::ObjectCells::own_count))]
-    fn own_cells(&self, id: ClassId) -> usize
-        ensures count { result ≡ length (own_instance_fields self.now id) }
-        ensures within { result ≤ 1024 }
-    {
-        self.is_linked();
-        match self.class(id) {
-            Some(class) => instance_count(class.fields.as_slice()),
-            None => 0,
-        }
-    }
-
-    /// The instance fields that a class and its superclasses declare, summed up.
-    fn summed_cells(&self, id: ClassId) -> usize
-        ensures cells { result ≡ length (object_fields self.now id) }
-        ensures within { result ≤ 2000000 }
-    {
-        let mut cells = 0;
-        for next in self.superclasses(id) {
-            cells += self.own_cells(next);
-        }
-        cells
-    }
-
     /// How many cells an object of a class has: one for each instance field that the class or a superclass declares
     /// (JLS SE 8 12.5), hidden ones included. Takes no memory.
     pub fn object_cells(&self, id: ClassId) -> usize
@@ -58,10 +33,7 @@ impl Program {
         ensures within { result ≤ 2000000 }
     {
         self.is_linked();
-        match self.code(id.number) {
-            Some(code) => code.cells_above + code.fields.len(),
-            None => self.summed_cells(id),
-        }
+        self.kept_cells(id)
     }
 
     /// How many cells an object of the superclass has.

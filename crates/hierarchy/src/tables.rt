@@ -9,18 +9,21 @@ ghost use Rattle.hierarchy.specs.Superinterfaces.{IsTable, superinterfaces as su
 ghost use Rattle.hierarchy.specs.UpwardOrder.{IsUpwardOrder};
 ghost use Rattle.hierarchy.specs.MemberPlaces.{HavePlaces};
 ghost use Rattle.hierarchy.specs.Tables.{AreTables};
+ghost use Rattle.hierarchy.specs.LinkedProgram.{linked};
+ghost use Rattle.hierarchy.specs.Objects.{HaveFewFields, object_fields};
 ghost use Rattle.hierarchy.specs.Quoted.{quoted_texts, cells_of};
 
 use crate::class::{Class, ClassId};
 use crate::class_set::ClassSet;
 use crate::field_order::field_orders;
 use crate::member_places::MemberPlaces;
+use crate::object_cells::all_object_cells;
 use crate::order::{all_inherited, all_superinterfaces};
 use crate::texts::Texts;
 use std::alloc::{AllocError, Global};
 
-/// What a program keeps beside its classes: of each class in file order, lists of classes and the
-/// places of its members; and of all classes the quoted texts.
+/// What a program keeps beside its classes: of each class in file order, lists of classes, the cells of
+/// an object and the places of its members; and of all classes the quoted texts.
 #[derive(Debug, Drop)]
 pub(crate) struct Tables {
     /// The superinterfaces that the class implements by itself, in the order of their enumeration.
@@ -29,6 +32,8 @@ pub(crate) struct Tables {
     pub(crate) field_orders: Vec<ClassSet>,
     /// All superinterfaces, direct and indirect, in the order in which methods are looked up.
     pub(crate) inherited: Vec<ClassSet>,
+    /// How many cells an object of the class has.
+    pub(crate) object_cells: Vec<usize>,
     /// The places of the members, in the order in which they are searched.
     pub(crate) members: Vec<MemberPlaces>,
     /// The quoted texts of all classes, in order.
@@ -43,6 +48,7 @@ pub(crate) fn no_tables(alloc: Global) -> Tables
         superinterfaces: Vec::new(alloc),
         field_orders: Vec::new(alloc),
         inherited: Vec::new(alloc),
+        object_cells: Vec::new(alloc),
         members: Vec::new(alloc),
         quoted: Texts::new(alloc),
     }
@@ -90,6 +96,7 @@ pub(crate) fn tables_with(
     requires few { length classes.now ≤ 1024 }
     requires acyclic { IsAcyclic classes.now }
     requires upward { IsUpwardOrder classes.now order.now }
+    requires fields { HaveFewFields classes.now }
     requires members { HavePlaces classes.now members.items }
     requires quoted { quoted ≡ quoted_texts classes.now }
     requires cells { cells_of classes.now ≤ 1000000 }
@@ -100,10 +107,12 @@ pub(crate) fn tables_with(
         field_orders,
         inherited,
     } = orders_of(alloc, classes, order)?;
+    let object_cells = all_object_cells(alloc, classes, order)?;
     Ok(Tables {
         superinterfaces,
         field_orders,
         inherited,
+        object_cells,
         members,
         quoted,
     })
