@@ -19,7 +19,7 @@ use Rattle.hierarchy.proofs.Acyclic.{not_cyclic}
 abbrev pub IsUpward : List Class → (ClassId → List ClassId) → Type 0
 IsUpward classes above = (c d : ClassId) → Among d (above c) → Among d (supers classes c)
 
-cons_cases : {x y : ClassId} {ys : List ClassId} → Among x (y ∷ ys) → (x ≡ y) ⊎ Among x ys
+pub cons_cases : {x y : ClassId} {ys : List ClassId} → Among x (y ∷ ys) → (x ≡ y) ⊎ Among x ys
 cons_cases first = inl refl
 cons_cases (later h) = inr h
 
@@ -101,7 +101,7 @@ ancestry_within-reaches classes above u a (suc d) c w j h =
           ]
     ]
 
--- an ancestry is of the class and of what is above it
+-- what stands in the ancestry of c is c or a supertype
 pub ancestry-reaches : (classes : List Class) (above : ClassId → List ClassId) → IsUpward classes above → IsAcyclic classes → (c j : ClassId) → Among j (ancestry classes above c) → (j ≡ c) ⊎ Reaches classes c j
 ancestry-reaches classes above u a c j h = ancestry_within-reaches classes above u a (height classes) c (a c) j h
 

@@ -3,7 +3,7 @@ use Rattle.std.proofs.Common.{◌≡◌, Bool, true, false, cond, ◌⊎◌, inl
 use Rattle.std.proofs.lemmas.Bool.{eqb-true, eq-eqb, cases_Bool, or_cases}
 use Rattle.std.specs.List.{list_any, filter}
 use Rattle.hierarchy.specs.declared.class.ClassId.{ClassId}
-use Rattle.hierarchy.specs.ClassLists.{Every, Among, first, later, add_new, add_all, same_class}
+use Rattle.hierarchy.specs.ClassLists.{Every, Among, first, later, add_new, add_all, distinct, same_class}
 
 pub same_class-true : (c d : ClassId) → same_class c d ≡ true → c ≡ d
 same_class-true c d e = let n : c.number ≡ d.number = eqb-true c.number d.number e in λ i. record { number = n i }
@@ -86,6 +86,22 @@ add_all-there xs [] h = refl
 add_all-there xs (y ∷ ys) h =
     let e = add_new-there xs y (h y first) in
     rw e (add_all-there xs ys (λ z k. h z (later k)))
+
+add_new-added : (xs ys : List ClassId) (y : ClassId) → add_all xs (add_new ys y) ≡ add_new (add_all xs ys) y
+add_new-added xs ys y =
+    elim (cases_Bool (list_any (same_class y) ys)) [
+      | inl e ↦ rw e (sym (add_new-there (add_all xs ys) y (add_all-has xs (among_from_true y ys e))))
+      | inr e ↦ rw e (add_all-append xs ys (y ∷ []))
+    ]
+
+-- adding what was added to a list adds the list and then each
+pub add_all-added : (xs ys zs : List ClassId) → add_all xs (add_all ys zs) ≡ add_all (add_all xs ys) zs
+add_all-added xs ys [] = refl
+add_all-added xs ys (z ∷ zs) = add_all-added xs (add_new ys z) zs ∙ ap (λ r. add_all r zs) (add_new-added xs ys z)
+
+-- a list without repeats has the same members
+pub distinct-from : (xs : List ClassId) {y : ClassId} → Among y (distinct xs) → Among y xs
+distinct-from xs h = elim (add_all-cases [] xs h) [ inl k ↦ elim k [ ] | inr k ↦ k ]
 
 pub filter-append : (q : ClassId → Bool) (xs ys : List ClassId) → filter q (xs ++ ys) ≡ filter q xs ++ filter q ys
 filter-append q [] ys = refl

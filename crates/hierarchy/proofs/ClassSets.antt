@@ -6,7 +6,7 @@ use Rattle.std.proofs.lemmas.List.Folds.{list_any-append}
 use Rattle.std.specs.List.{AllByRecursion, IsDistinct, list_any}
 use Rattle.std.specs.Cmp.{nat_eq_equiv}
 use Rattle.hierarchy.specs.declared.class.ClassId.{ClassId}
-use Rattle.hierarchy.specs.ClassLists.{is_among, same_class}
+use Rattle.hierarchy.specs.ClassLists.{is_among, add_new, add_all, distinct, same_class}
 use Rattle.hierarchy.specs.LinkedProgram.{id}
 
 none_pushed : (y : ClassId) (xs : List ClassId) (x : ClassId) → AllByRecursion (λ z. same_class y z ≡ false) xs → same_class y x ≡ false → AllByRecursion (λ z. same_class y z ≡ false) (xs ++ x ∷ [])
@@ -20,6 +20,13 @@ distinct_pushed (y ∷ ys) x d e = elim (cases_Bool (same_class x y)) [
   | inl t ↦ let q = rw t at e in cc
   | inr f ↦ (none_pushed y ys x d.0 (nat_eq_equiv.symm y.number x.number ∙ f), distinct_pushed ys x d.1 (rw f at e))
 ]
+
+add_new-distinct : (xs : List ClassId) (x : ClassId) → IsDistinct same_class xs → IsDistinct same_class (add_new xs x)
+add_new-distinct xs x d = elim (cases_Bool (list_any (same_class x) xs)) [ inl e ↦ rw e d | inr e ↦ rw e (distinct_pushed xs x d e) ]
+
+pub add_all-distinct : (xs ys : List ClassId) → IsDistinct same_class xs → IsDistinct same_class (add_all xs ys)
+add_all-distinct xs [] d = d
+add_all-distinct xs (y ∷ ys) d = add_all-distinct (add_new xs y) ys (add_new-distinct xs y d)
 
 abbrev is_marked : List Bool → ℕ → Bool
 is_marked marks n = slice_index_or marks n false
@@ -56,3 +63,6 @@ marked_more marks xs x m h n =
 pub none_distinct : IsDistinct same_class []
 unfolding IsDistinct
 none_distinct = tt
+
+pub distinct-once : (xs : List ClassId) → IsDistinct same_class (distinct xs)
+distinct-once xs = add_all-distinct [] xs none_distinct

@@ -1,5 +1,5 @@
 -- How many different classes there are below a number.
-use Rattle.std.proofs.Common.{◌≡◌, ℕ, ◌<◌, ◌≤◌, true, false, eqb, inl, inr, List, [], ◌∷◌, length, sym, arith}
+use Rattle.std.proofs.Common.{◌≡◌, ℕ, ◌+◌, ◌<◌, ◌≤◌, ◌⊎◌, refl, true, false, eqb, inl, inr, List, [], ◌∷◌, length, sym, arith}
 use Rattle.std.proofs.lemmas.Bool.{cases_Bool, eqb-true}
 use Rattle.std.proofs.lemmas.List.{length-map}
 use Rattle.std.proofs.lemmas.Map.Made.{length-le_from_is_member}
@@ -59,3 +59,19 @@ once_more x xs e d = (none_equal x xs e, d)
 pub length-below : (x : ClassId) (xs ys : List ClassId) → list_any (same_class x) xs ≡ false → IsDistinct same_class xs → ((q : ClassId) → Among q (x ∷ xs) → Among q ys) → length xs < length ys
 length-below x xs ys e d h =
     length-le_from_is_member same_class_equiv (x ∷ xs) ys (once_more x xs e d) (λ q m. true_from_among (h q (among_from_true q (x ∷ xs) m)))
+
+-- where a list is longer by one than a list within it that lacks x, it has no other member
+pub all_counted : (x : ClassId) (xs ys : List ClassId) → list_any (same_class x) xs ≡ false → IsDistinct same_class xs → Among x ys → ((q : ClassId) → Among q xs → Among q ys) → length xs + 1 ≡ length ys → (y : ClassId) → Among y ys → (y ≡ x) ⊎ Among y xs
+all_counted x xs ys e d m h l y k = elim (cases_Bool (list_any (same_class y) (x ∷ xs))) [
+  | inl t ↦ either (among_from_true y (x ∷ xs) t)
+  | inr f ↦ let b = length-below y (x ∷ xs) ys f (once_more x xs e d) within in absurd (omega (arith, b, l))
+]
+  where
+    either : {z : ClassId} → Among z (x ∷ xs) → (z ≡ x) ⊎ Among z xs
+    either first = inl refl
+    either (later q) = inr q
+
+    within : (q : ClassId) → Among q (y ∷ x ∷ xs) → Among q ys
+    within q first = k
+    within q (later first) = m
+    within q (later (later r)) = h q r

@@ -7,13 +7,16 @@ pub mod ClassNames
 pub mod ClassSets
 pub mod CodeOfClasses
 pub mod Counts
+pub mod CoveredLists
 pub mod DeclaredMembers
 pub mod DistinctMembers
 pub mod EmptyProgram
 pub mod Enumerations
 pub mod FieldOrders
+pub mod FinishedLists
 pub mod FirstGiven
 pub mod InRange
+pub mod InheritedLists
 pub mod Linked
 pub mod MemberOrder
 pub mod MemberPlaces

@@ -1,29 +1,22 @@
 -- What follows for a program from its being linked.
 use Rattle.std.proofs.Common.{◌≡◌, ℕ, zero, suc, ◌+◌, ◌≤◌, inl, inr, Option, Some, None, List, [], ◌∷◌, length, slice_get, refl, arith}
 use Rattle.std.proofs.lemmas.Bool.{cases_Bool}
-use Rattle.std.specs.List.{All, IsDistinct, list_any}
+use Rattle.std.specs.List.{All, IsDistinct}
 use Rattle.hierarchy.specs.declared.class.Class.{Class}
 use Rattle.hierarchy.specs.declared.class.ClassId.{ClassId}
 use Rattle.hierarchy.specs.declared.built_in.TheConstants.{BUILT_IN_COUNT}
 use Rattle.hierarchy.specs.LinkedProgram.{LinkedProgram, linked, id}
-use Rattle.hierarchy.specs.ClassLists.{add_new, add_all, is_among, same_class}
+use Rattle.hierarchy.specs.ClassLists.{add_all, is_among, same_class}
 use Rattle.hierarchy.specs.Hierarchy.{supers, IsInRange, AreSupertypes, IsCyclic, IsAcyclic}
 use Rattle.hierarchy.specs.Linking.{names_of, kinds_of}
 use Rattle.hierarchy.specs.FirstFault.{HasNoCycle, HasDistinctMembers, FitsHeap}
 use Rattle.hierarchy.specs.SpellableClass.{IsSpellableClass}
 use Rattle.hierarchy.specs.LinkedTexts.{IsResolved, IsLinked}
-use Rattle.hierarchy.proofs.ClassSets.{distinct_pushed}
+use Rattle.hierarchy.proofs.ClassSets.{add_all-distinct}
 use Rattle.hierarchy.proofs.ClassMembership.{among_from_true}
 use Rattle.hierarchy.proofs.Searches.{Searches, searches_none, searches_more, searches_all, searched_through, length-get_none}
 use Rattle.hierarchy.proofs.Acyclic.{IsClear, acyclic_all}
 use Rattle.hierarchy.proofs.InRange.{as_many, in_range_all, spellable_all}
-
-add_new-distinct : (xs : List ClassId) (x : ClassId) → IsDistinct same_class xs → IsDistinct same_class (add_new xs x)
-add_new-distinct xs x d = elim (cases_Bool (list_any (same_class x) xs)) [ inl e ↦ rw e d | inr e ↦ rw e (distinct_pushed xs x d e) ]
-
-add_all-distinct : (xs ys : List ClassId) → IsDistinct same_class xs → IsDistinct same_class (add_all xs ys)
-add_all-distinct xs [] d = d
-add_all-distinct xs (y ∷ ys) d = add_all-distinct (add_new xs y) ys (add_new-distinct xs y d)
 
 -- the supertypes of a class
 pub record Above (classes : List Class) (c : ClassId) : Type 0 where

@@ -44,7 +44,7 @@ searches_none classes c start found s e =
       reached = omega arith;
     }
 
-among_get : (xs : List ClassId) (k : ℕ) (x : ClassId) → Some x ≡ slice_get xs k → Among x xs
+pub among_get : (xs : List ClassId) (k : ℕ) (x : ClassId) → Some x ≡ slice_get xs k → Among x xs
 among_get [] k x e = cc
 among_get (y ∷ xs) zero x e = let q : x ≡ y = cc in rw q first
 among_get (y ∷ xs) (suc k) x e = later (among_get xs k x e)

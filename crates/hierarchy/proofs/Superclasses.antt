@@ -4,7 +4,7 @@ use Rattle.std.specs.List.{flat_map}
 use Rattle.std.specs.Option.{option_to_list}
 use Rattle.hierarchy.specs.declared.class.ClassId.{ClassId}
 use Rattle.hierarchy.specs.declared.class.Class.{Class}
-use Rattle.hierarchy.specs.ClassLists.{add_all, distinct}
+use Rattle.hierarchy.specs.ClassLists.{add_new, add_all, distinct}
 use Rattle.hierarchy.specs.Hierarchy.{IsAcyclic, IsWithin, height}
 use Rattle.hierarchy.specs.Superinterfaces.{enumeration}
 use Rattle.hierarchy.specs.Ancestry.{ancestry_within, ancestry, superclass_of, superclass_alone, superclasses, superclasses_from}
@@ -25,6 +25,13 @@ superclasses-step classes a c =
 
 pub superclasses-at : (classes : List Class) → IsAcyclic classes → (c : ClassId) (o : Option ClassId) → superclass_of classes c ≡ o → superclasses classes c ≡ c ∷ superclasses_from classes o
 superclasses-at classes a c o e = superclasses-step classes a c ∙ ap (λ z. c ∷ superclasses_from classes z) e
+
+-- c, then its superclasses
+pub chain_some : (classes : List Class) → IsAcyclic classes → (start now next : List ClassId) (c s : ClassId) → superclass_of classes c ≡ Some s → now ≡ add_new start c → next ≡ add_all now (superclasses classes s) → next ≡ add_all start (superclasses classes c)
+chain_some classes a start now next c s e n h = h ∙ ap (λ z. add_all z (superclasses classes s)) n ∙ sym (ap (add_all start) (superclasses-at classes a c (Some s) e))
+
+pub chain_none : (classes : List Class) → IsAcyclic classes → (start now : List ClassId) (c : ClassId) → superclass_of classes c ≡ None → now ≡ add_new start c → now ≡ add_all start (superclasses classes c)
+chain_none classes a start now c e n = n ∙ sym (ap (add_all start) (superclasses-at classes a c None e))
 
 chain_within : (classes : List Class) (d : ℕ) (c : ClassId) → length (ancestry_within d (superclass_alone classes) c) ≤ d
 chain_within classes zero c = omega arith

@@ -5,6 +5,7 @@ pub mod ClassLists
 pub mod Code
 pub mod DeclaredMembers
 pub mod Fields
+pub mod FinishedLists
 pub mod FirstFault
 pub mod Found
 pub mod Hierarchy

@@ -1,16 +1,18 @@
 //! The classes in which a field is looked up, for each class.
 
 ghost use Rattle.std.specs.Prelude.{◌≡◌, ◌≤◌, IfOk, OnOk, length};
-ghost use Rattle.std.specs.Option.{option_to_list};
 ghost use Rattle.hierarchy.specs.ClassLists.{add_all, distinct};
-ghost use Rattle.hierarchy.specs.Hierarchy.{IsAcyclic};
-ghost use Rattle.hierarchy.specs.Ancestry.{superclass_of, IsWholeAbove};
+ghost use Rattle.hierarchy.specs.FinishedLists.{AreFinished};
+ghost use Rattle.hierarchy.specs.Hierarchy.{IsAcyclic, IsSubtype, Reaches};
+ghost use Rattle.hierarchy.specs.Ancestry.{superclass_of, superclasses, IsWholeAbove};
 ghost use Rattle.hierarchy.specs.Fields.{field_order, interfaces_first};
-ghost use Rattle.hierarchy.specs.Superinterfaces.{IsTable};
+ghost use Rattle.hierarchy.specs.Superinterfaces.{IsTable, superinterfaces as superinterfaces_of};
+ghost use Rattle.hierarchy.specs.UpwardOrder.{IsUpwardOrder};
 
 use crate::built_in::BuiltIn;
 use crate::class::{Class, ClassId};
 use crate::class_set::ClassSet;
+use crate::finished_lists::{add_list_unless_covered, empty_sets, last_listed};
 use crate::order::interfaces;
 use std::alloc::{AllocError, Global};
 
@@ -33,49 +35,101 @@ pub(crate) fn superclass(classes: &[Class], id: ClassId) -> Option<ClassId>
     }
 }
 
-/// Adds the classes in which a field of this class is looked up, each once: what was found before is left out.
-fn add_order(classes: &[Class], id: ClassId, found: &mut ClassSet) -> Result<(), AllocError>
+/// Adds a class, its superclass, and so on up to java/lang/Object, each once.
+fn add_superclasses(classes: &[Class], id: ClassId, found: &mut ClassSet) -> Result<(), AllocError>
     requires few { length classes.now ≤ 1024 }
     requires acyclic { IsAcyclic classes.now }
-    requires whole { IsWholeAbove classes.now (interfaces_first classes.now) id found.old }
-    ensures { OnOk result (found.new ≡ add_all found.old (field_order classes.now id)) }
+    ensures { OnOk result (found.new ≡ add_all found.old (superclasses classes.now id)) }
 {
-    if found.contains(id) {
-        return Ok(());
-    }
     found.add(id)?;
-    for interface in interfaces(classes, id) {
-        add_order(classes, *interface, found)?;
-    }
     match superclass(classes, id) {
         Some(superclass) => {
-            add_order(classes, superclass, found)?;
+            add_superclasses(classes, superclass, found)?;
             Ok(())
         }
         None => Ok(()),
     }
 }
 
-/// The classes in which a field of this class is looked up, each once.
-fn order_of(alloc: Global, classes: &[Class], id: ClassId) -> Result<ClassSet, AllocError>
+/// Adds the classes in which a field of a direct supertype is looked up, each once: what was found before is left
+/// out.
+fn add_order(
+    classes: &[Class],
+    superinterfaces: &[ClassSet],
+    finished: &[ClassSet],
+    id: ClassId,
+    found: &mut ClassSet,
+) -> Result<(), AllocError>
     requires few { length classes.now ≤ 1024 }
     requires acyclic { IsAcyclic classes.now }
+    requires superinterfaces { IsTable (superinterfaces_of classes.now) (length classes.now) superinterfaces.now }
+    requires finished { AreFinished (λ c. distinct (field_order classes.now c)) classes.now (IsSubtype classes.now id) finished.now }
+    requires whole { IsWholeAbove classes.now (interfaces_first classes.now) id found.old }
+    ensures { OnOk result (found.new ≡ add_all found.old (field_order classes.now id)) }
+{
+    if found.contains(id) {
+        return Ok(());
+    }
+    if id.number < classes.len() {
+        found.add(id)?;
+        let nearest = last_listed(superinterfaces, id.number);
+        add_list_unless_covered(finished, id.number, nearest, found)?;
+        Ok(())
+    } else {
+        // A built-in class has no superinterfaces.
+        add_superclasses(classes, id, found)?;
+        Ok(())
+    }
+}
+
+/// The classes in which a field of this class is looked up, each once, where the lists of those above are finished.
+fn order_of(
+    alloc: Global,
+    classes: &[Class],
+    superinterfaces: &[ClassSet],
+    finished: &[ClassSet],
+    id: ClassId,
+) -> Result<ClassSet, AllocError>
+    requires few { length classes.now ≤ 1024 }
+    requires acyclic { IsAcyclic classes.now }
+    requires superinterfaces { IsTable (superinterfaces_of classes.now) (length classes.now) superinterfaces.now }
+    requires finished { AreFinished (λ c. distinct (field_order classes.now c)) classes.now (Reaches classes.now id) finished.now }
     ensures { IfOk result (λ found. found ≡ distinct (field_order classes.now id)) }
 {
     let mut found = ClassSet::new(alloc);
-    add_order(classes, id, &mut found)?;
-    Ok(found)
+    found.add(id)?;
+    for interface in interfaces(classes, id) {
+        add_order(classes, superinterfaces, finished, *interface, &mut found)?;
+    }
+    match superclass(classes, id) {
+        Some(superclass) => {
+            add_order(classes, superinterfaces, finished, superclass, &mut found)?;
+            Ok(found)
+        }
+        None => Ok(found),
+    }
 }
 
-/// The classes in which a field is looked up, for each class in file order.
-pub(crate) fn field_orders(alloc: Global, classes: &[Class]) -> Result<Vec<ClassSet>, AllocError>
+/// The classes in which a field is looked up, for each class in file order, made in an order in which each class
+/// stands after its direct supertypes.
+pub(crate) fn field_orders(
+    alloc: Global,
+    classes: &[Class],
+    superinterfaces: &[ClassSet],
+    order: &[ClassId],
+) -> Result<Vec<ClassSet>, AllocError>
     requires few { length classes.now ≤ 1024 }
     requires acyclic { IsAcyclic classes.now }
+    requires superinterfaces { IsTable (superinterfaces_of classes.now) (length classes.now) superinterfaces.now }
+    requires upward { IsUpwardOrder classes.now order.now }
     ensures { IfOk result (λ all. IsTable (λ c. distinct (field_order classes.now c)) (length classes.now) all.items) }
 {
-    let mut all = Vec::new(alloc);
-    for number in 0..classes.len() {
-        all.push(order_of(alloc, classes, ClassId { number })?)?;
+    let mut all = empty_sets(alloc, classes.len())?;
+    for id in order {
+        if id.number < classes.len() {
+            let found = order_of(alloc, classes, superinterfaces, &all, *id)?;
+            all[id.number] = found;
+        }
     }
     Ok(all)
 }

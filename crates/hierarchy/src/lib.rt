@@ -31,6 +31,7 @@ pub mod fault;
 mod field_ops;
 mod field_order;
 pub mod fields;
+mod finished_lists;
 pub mod laws;
 pub mod linking;
 mod lookup;

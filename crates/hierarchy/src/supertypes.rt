@@ -10,7 +10,8 @@ use crate::class::{Class, ClassId};
 use crate::class_set::ClassSet;
 use std::alloc::{AllocError, Global};
 
-fn add_each(ids: &[ClassId], found: &mut ClassSet) -> Result<(), AllocError>
+/// Adds each class once, in order.
+pub(crate) fn add_each(ids: &[ClassId], found: &mut ClassSet) -> Result<(), AllocError>
     ensures { OnOk result (found.new ≡ add_all found.old ids.now) }
 {
     let mut rest = ids;

@@ -65,18 +65,18 @@ struct Orders {
 fn orders_of(
     alloc: Global,
     classes: &[Class],
-    _order: &[ClassId],
+    order: &[ClassId],
 ) -> Result<Orders, AllocError>
     requires few { length classes.now ≤ 1024 }
     requires acyclic { IsAcyclic classes.now }
-    requires upward { IsUpwardOrder classes.now _order.now }
+    requires upward { IsUpwardOrder classes.now order.now }
     ensures superinterfaces { IfOk result (λ made. IsTable (superinterfaces_of classes.now) (length classes.now) made.superinterfaces.items) }
     ensures field_orders { IfOk result (λ made. IsTable (λ c. distinct (field_order classes.now c)) (length classes.now) made.field_orders.items) }
     ensures inherited { IfOk result (λ made. IsTable (inherited_of classes.now) (length classes.now) made.inherited.items) }
 {
-    let superinterfaces = all_superinterfaces(alloc, classes)?;
-    let field_orders = field_orders(alloc, classes)?;
-    let inherited = all_inherited(alloc, classes)?;
+    let superinterfaces = all_superinterfaces(alloc, classes, order)?;
+    let field_orders = field_orders(alloc, classes, &superinterfaces, order)?;
+    let inherited = all_inherited(alloc, classes, &superinterfaces, order)?;
     Ok(Orders {
         superinterfaces,
         field_orders,

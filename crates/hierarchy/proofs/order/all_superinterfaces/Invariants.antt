@@ -1,5 +1,8 @@
-use Rattle.hierarchy.specs.Superinterfaces.{superinterfaces, IsTable}
+use Rattle.std.proofs.Common.{take}
+use Rattle.hierarchy.specs.ClassLists.{Among}
+use Rattle.hierarchy.specs.FinishedLists.{AreFinished}
+use Rattle.hierarchy.specs.Superinterfaces.{superinterfaces}
 use Rattle.hierarchy.proofs.order.all_superinterfaces.Given as goal
 
-abbrev pub invariant-loop-number : goal.invariant-loop-number
-invariant-loop-number l = IsTable (superinterfaces l.fn.classes) l.number l.all.items
+abbrev pub invariant-loop-id : goal.invariant-loop-id
+invariant-loop-id l = AreFinished (superinterfaces l.fn.classes) l.fn.classes (λ c. Among c (take l.id-index l.fn.order)) l.all.items

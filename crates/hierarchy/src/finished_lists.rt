@@ -1,0 +1,85 @@
+//! Lists of classes, each made from the finished lists of the classes above.
+
+ghost use Rattle.std.specs.Prelude.{◌≡◌, [], true, IfOk, IfSome, OnOk};
+ghost use Rattle.hierarchy.specs.ClassLists.{Among, add_all};
+ghost use Rattle.hierarchy.specs.FinishedLists.{listed, IsCovered, CoversAll};
+ghost use Rattle.hierarchy.specs.Superinterfaces.{IsTable};
+
+use crate::class::ClassId;
+use crate::class_set::ClassSet;
+use crate::subtype::list_at;
+use crate::supertypes::add_each;
+use std::alloc::{AllocError, Global};
+
+/// So many sets without a class.
+pub(crate) fn empty_sets(alloc: Global, count: usize) -> Result<Vec<ClassSet>, AllocError>
+    ensures { IfOk result (λ all. IsTable (λ c. []) count all.items) }
+{
+    let mut all = Vec::new(alloc);
+    for _ in 0..count {
+        all.push(ClassSet::new(alloc))?;
+    }
+    Ok(all)
+}
+
+/// The last class of the list at that number.
+pub(crate) fn last_listed(all: &[ClassSet], number: usize) -> Option<ClassId>
+    ensures { IfSome result (λ last. Among last (listed all.now number)) }
+{
+    match list_at(all, number) {
+        Some(list) => list.as_slice().last().copied(),
+        None => None,
+    }
+}
+
+/// Adds the list at that number, each class once.
+pub(crate) fn add_list(all: &[ClassSet], number: usize, found: &mut ClassSet) -> Result<(), AllocError>
+    ensures { OnOk result (found.new ≡ add_all found.old (listed all.now number)) }
+{
+    match list_at(all, number) {
+        Some(list) => {
+            add_each(list.as_slice(), found)?;
+            Ok(())
+        }
+        None => Ok(()),
+    }
+}
+
+/// Whether the nearest class was found and its list is shorter by one than the list at that number.
+fn is_covered(
+    all: &[ClassSet],
+    number: usize,
+    nearest: Option<ClassId>,
+    found: &ClassSet,
+) -> bool
+    ensures { result ≡ true → IsCovered all.now (listed all.now number) nearest found.now }
+{
+    let Some(class) = nearest else {
+        return false;
+    };
+    let Some(list) = list_at(all, number) else {
+        return false;
+    };
+    let Some(above) = list_at(all, class.number) else {
+        return false;
+    };
+    found.contains(class) && above.as_slice().len() + 1 == list.as_slice().len()
+}
+
+/// Adds the list at that number, each class once. It takes no time where the list is known to have been found
+/// by the nearest class: so a long chain of interfaces, each listed, is not gone through again for each.
+pub(crate) fn add_list_unless_covered(
+    all: &[ClassSet],
+    number: usize,
+    nearest: Option<ClassId>,
+    found: &mut ClassSet,
+) -> Result<(), AllocError>
+    requires covers { CoversAll all.now (listed all.now number) nearest found.old }
+    ensures { OnOk result (found.new ≡ add_all found.old (listed all.now number)) }
+{
+    if is_covered(all, number, nearest, found) {
+        return Ok(());
+    }
+    add_list(all, number, found)?;
+    Ok(())
+}
