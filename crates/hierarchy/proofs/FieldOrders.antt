@@ -1,5 +1,6 @@
 -- The order in which a field is looked up, step by step.
-use Rattle.std.proofs.Common.{◌≡◌, ℕ, ◌+◌, ◌-◌, ◌<◌, ◌≤◌, Option, Some, None, List, [], ◌∷◌, ◌++◌, length, get_or, slice_get, refl, sym, ap, subst, ◌∙◌, arith, append-nil}
+use Rattle.std.proofs.Common.{◌≡◌, ℕ, ◌+◌, ◌-◌, ◌<◌, ◌≤◌, Option, Some, None, List, [], ◌∷◌, ◌++◌, length, take, get_or, slice_get, refl, sym, ap, subst, ◌∙◌, arith, append-nil}
+use Rattle.std.proofs.lemmas.List.{take_all}
 use Rattle.std.proofs.lemmas.Grind.{flat_map-append}
 use Rattle.std.specs.List.{flat_map}
 use Rattle.std.specs.Option.{option_map, option_to_list}
@@ -40,6 +41,10 @@ above_from_supers classes c d = at (class_among classes c) (slice_get built_ins 
     at (Some class) b (later h) = among_left (class.superclass ∷ []) h
     at None None h = h
     at None (Some b) h = built (superclass_of_built_in b) h
+
+-- the walk over all superinterfaces
+pub interfaces_walked : (classes : List Class) (c : ClassId) (items start now : List ClassId) (k : ℕ) → interfaces_of classes c ≡ items → length items ≤ k → now ≡ add_all start (flat_map (field_order classes) (take k items)) → now ≡ add_all start (flat_map (field_order classes) (interfaces_of classes c))
+interfaces_walked classes c items start now k e l n = n ∙ ap (λ z. add_all start (flat_map (field_order classes) z)) (take_all k items l ∙ sym e)
 
 -- the superinterfaces, then the superclass
 pub ordered_some : (classes : List Class) → IsAcyclic classes → (start now next : List ClassId) (c s : ClassId) → now ≡ add_all (add_new start c) (flat_map (field_order classes) (interfaces_of classes c)) → superclass_of classes c ≡ Some s →
