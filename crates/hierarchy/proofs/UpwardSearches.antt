@@ -19,9 +19,6 @@ use Rattle.hierarchy.proofs.ProvedByLinking.{acyclic_without_cycle}
 use Rattle.hierarchy.proofs.Searches.{among_one}
 use Rattle.hierarchy.proofs.Walks.{none_id}
 
-pub rises_none : (classes : List Class) (order : List ClassId) → order ≡ [] → Rises classes order
-rises_none classes order e = subst (Rises classes) (sym e) (λ k c q. absurd cc)
-
 get-below : (xs : List ClassId) (k : ℕ) (c : ClassId) → slice_get xs k ≡ Some c → k < length xs
 get-below [] k c e = absurd cc
 get-below (x ∷ xs) zero c e = omega arith

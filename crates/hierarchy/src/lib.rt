@@ -6,9 +6,10 @@
 //! by it.
 //!
 //! Contracts see a program as one value, the list of its linked classes. In every program each way up the
-//! hierarchy ends, which [`Program::is_linked`] tells. What linking found out beside the classes, as the superinterfaces
-//! of each, is kept in the program and is no part of that value: so no call goes up the
-//! hierarchy by more than one way, that of the superclasses, and what is resolved later can be kept there too.
+//! hierarchy ends, which [`Program::is_linked`] tells. What linking found out beside the classes, as the
+//! superinterfaces of each and the classes in which its fields are looked up, is kept in the program and is no part
+//! of that value: so no call goes up the hierarchy by more than one way, that of the superclasses, and what is
+//! resolved later can be kept there too.
 //!
 //! Members are found by [`Program::resolve_field`] and [`Program::resolve_method`], and the method that a call
 //! runs by [`Program::select_for`], or by name with [`Program::select`]; a [`FieldId`] or a [`MethodId`] names the class that declares it, and its place there.

@@ -1,8 +1,7 @@
 //! The supertypes of a class, and the first class that is its own.
 
-ghost use Rattle.std.specs.Prelude.{◌≡◌, ℕ, ◌≤◌, ◌<◌, [], OnOk, IfOk, length, slice_get, Some};
+ghost use Rattle.std.specs.Prelude.{◌≡◌, ◌≤◌, OnOk, IfOk, length};
 ghost use Rattle.hierarchy.specs.ClassLists.{add_all};
-ghost use Rattle.hierarchy.specs.LinkedProgram.{id as id_of};
 ghost use Rattle.hierarchy.specs.Hierarchy.{IsAcyclic, IsInRange, AreSupertypes, IsFirstCyclic, supers};
 
 use crate::built_in::{BUILT_IN_COUNT, BuiltIn};

@@ -62,11 +62,7 @@ struct Orders {
     inherited: Vec<ClassSet>,
 }
 
-fn orders_of(
-    alloc: Global,
-    classes: &[Class],
-    order: &[ClassId],
-) -> Result<Orders, AllocError>
+fn orders_of(alloc: Global, classes: &[Class], order: &[ClassId]) -> Result<Orders, AllocError>
     requires few { length classes.now ≤ 1024 }
     requires acyclic { IsAcyclic classes.now }
     requires upward { IsUpwardOrder classes.now order.now }

@@ -1,6 +1,6 @@
 //! An order of the classes in which each stands after all that is above it, if there is one.
 
-ghost use Rattle.std.specs.Prelude.{◌≡◌, ℕ, ◌≤◌, true, false, OnOk, IfOk, length};
+ghost use Rattle.std.specs.Prelude.{◌≡◌, ◌≤◌, true, false, OnOk, IfOk, length};
 ghost use Rattle.hierarchy.specs.ClassLists.{Among};
 ghost use Rattle.hierarchy.specs.Hierarchy.{IsInRange, IsWithin};
 ghost use Rattle.hierarchy.specs.Searched.{SearchOf};
