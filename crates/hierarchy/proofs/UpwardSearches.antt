@@ -1,15 +1,15 @@
 -- The search for an order in which each class stands after its direct supertypes.
-use Rattle.std.proofs.Common.{◌≡◌, ℕ, zero, suc, ◌+◌, ◌<◌, ◌≤◌, inl, inr, ◌⊎◌, true, Some, None, List, [], ◌∷◌, ◌++◌, length, take, get_or, slice_get, refl, sym, ap, subst, ◌∙◌, arith}
+use Rattle.std.proofs.Common.{◌≡◌, ℕ, zero, suc, ◌+◌, ◌<◌, ◌≤◌, inl, inr, Some, None, List, [], ◌∷◌, ◌++◌, length, take, get_or, slice_get, refl, sym, subst, ◌∙◌, arith}
 use Rattle.std.proofs.lemmas.Bool.{cases_Bool, cases_lt}
 use Rattle.std.proofs.lemmas.List.{take_all, take_more, take-append-le}
-use Rattle.std.specs.List.{list_any, IsDistinct}
+use Rattle.std.specs.List.{list_any}
 use Rattle.hierarchy.specs.declared.class.Class.{Class}
 use Rattle.hierarchy.specs.declared.class.ClassId.{ClassId}
 use Rattle.hierarchy.specs.declared.built_in.TheConstants.{BUILT_IN_COUNT}
 use Rattle.hierarchy.specs.LinkedProgram.{id}
 use Rattle.hierarchy.specs.ClassLists.{Among, first, later, add_new, same_class}
 use Rattle.hierarchy.specs.Hierarchy.{supers, interfaces_of, IsWithin, IsInRange, IsCyclic, IsAcyclic}
-use Rattle.hierarchy.specs.Ancestry.{superclass_of, superclass_alone}
+use Rattle.hierarchy.specs.Ancestry.{superclass_of}
 use Rattle.hierarchy.specs.FirstFault.{HasNoCycle}
 use Rattle.hierarchy.specs.UpwardOrder.{Rises, IsUpwardOrder}
 use Rattle.hierarchy.proofs.Acyclic.{get-pushed, past_within, within_not_cyclic}

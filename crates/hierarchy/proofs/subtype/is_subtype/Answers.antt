@@ -1,4 +1,4 @@
-use Rattle.std.proofs.Common.{rules, ◌≡◌, ◌∙◌, ◌≤◌, sym, ap, length, arith, option_copied, false}
+use Rattle.std.proofs.Common.{rules, ◌∙◌, ◌≤◌, sym, ap, length, arith, option_copied, false}
 use Rattle.hierarchy.proofs.Searches.{length-get_none}
 use Rattle.hierarchy.proofs.Subtypes.{subtype_stored, subtype_other, below_built_in, below_unknown}
 use Rattle.hierarchy.proofs.subtype.is_subtype.Goals as goal

@@ -1,8 +1,7 @@
-use Rattle.std.proofs.Common.{◌≡◌, ◌∙◌, suc, ◌-◌, sym, subst, arith, take, get_or, true, refl}
+use Rattle.std.proofs.Common.{◌∙◌, ◌-◌, sym, subst, arith}
 use Rattle.hierarchy.specs.declared.class.ClassId.{ClassId}
-use Rattle.hierarchy.specs.ClassLists.{Among, add_new}
+use Rattle.hierarchy.specs.ClassLists.{Among}
 use Rattle.hierarchy.specs.Hierarchy.{interfaces_of}
-use Rattle.hierarchy.specs.UpwardOrder.{Rises}
 use Rattle.hierarchy.proofs.ClassMembership.{among_from_true, add_new-keeps, add_new-has}
 use Rattle.hierarchy.proofs.Enumerations.{among_supers}
 use Rattle.hierarchy.proofs.UpwardSearches.{rises_more, noted_more, noted_all, all_noted, all_noted_none, endless_further}
