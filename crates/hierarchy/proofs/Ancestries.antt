@@ -19,7 +19,7 @@ use Rattle.hierarchy.proofs.Acyclic.{not_cyclic}
 abbrev pub IsUpward : List Class → (ClassId → List ClassId) → Type 0
 IsUpward classes above = (c d : ClassId) → Among d (above c) → Among d (supers classes c)
 
-pub cons_cases : {x y : ClassId} {ys : List ClassId} → Among x (y ∷ ys) → (x ≡ y) ⊎ Among x ys
+cons_cases : {x y : ClassId} {ys : List ClassId} → Among x (y ∷ ys) → (x ≡ y) ⊎ Among x ys
 cons_cases first = inl refl
 cons_cases (later h) = inr h
 

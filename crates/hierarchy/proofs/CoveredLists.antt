@@ -1,11 +1,11 @@
 -- What is left out was found: the list of the nearest superinterface is shorter by one.
-use Rattle.std.proofs.Common.{◌≡◌, ℕ, zero, suc, ◌+◌, ◌<◌, ◌≤◌, true, false, ◌⊎◌, inl, inr, Option, Some, List, [], ◌∷◌, ◌++◌, length, refl, sym, ap, subst, ◌∙◌}
+use Rattle.std.proofs.Common.{◌≡◌, ℕ, zero, suc, ◌+◌, ◌<◌, ◌≤◌, false, inl, inr, Option, Some, List, [], ◌∷◌, length, refl, sym, ap, subst, ◌∙◌}
 use Rattle.std.proofs.lemmas.Bool.{cases_Bool}
 use Rattle.std.specs.Prelude.{IfSome}
 use Rattle.std.specs.List.{flat_map}
 use Rattle.hierarchy.specs.declared.class.Class.{Class}
 use Rattle.hierarchy.specs.declared.class.ClassId.{ClassId}
-use Rattle.hierarchy.specs.Ancestry.{ancestry_within, ancestry, superclass_alone, superclasses, IsWholeAbove}
+use Rattle.hierarchy.specs.Ancestry.{ancestry_within, ancestry, superclass_alone, IsWholeAbove}
 use Rattle.hierarchy.specs.ClassLists.{Among, first, later, add_new, add_all, distinct, is_among}
 use Rattle.hierarchy.specs.Fields.{field_order, interfaces_first}
 use Rattle.hierarchy.specs.FinishedLists.{AreFinished, listed, CoversAll}

@@ -1,5 +1,5 @@
 -- Enumerations of superinterfaces, where each way up ends.
-use Rattle.std.proofs.Common.{◌≡◌, ℕ, zero, suc, ◌-◌, ◌<◌, ◌≤◌, arith, length-append, inl, inr, Option, Some, None, List, [], ◌∷◌, ◌++◌, length, slice_get, refl, sym, ap, subst}
+use Rattle.std.proofs.Common.{◌≡◌, ℕ, zero, suc, ◌-◌, ◌≤◌, arith, length-append, inl, inr, Option, Some, None, List, [], ◌∷◌, ◌++◌, length, slice_get, refl, sym, ap, subst}
 use Rattle.std.specs.List.{flat_map}
 use Rattle.hierarchy.specs.declared.class.Class.{Class}
 use Rattle.hierarchy.specs.declared.class.ClassId.{ClassId}
@@ -56,13 +56,6 @@ enumeration-law classes i h =
     ap (λ r. r ++ i ∷ [])
     (flat_map-same (enumeration_within (most_steps classes) classes) (enumeration_within (height classes) classes) (interfaces_of classes i)
     (λ j m. enumeration_within-same classes (most_steps classes) (height classes) j (within_interface classes (most_steps classes) i j (h i) m) (h j)))
-
--- a superinterface enumerates fewer
-pub enumeration-falls : (classes : List Class) (i j : ClassId) → IsAcyclic classes → Among j (interfaces_of classes i) → length (enumeration classes j) < length (enumeration classes i)
-enumeration-falls classes i j a m =
-    let l = ap length (enumeration-law classes i a) in
-    let b = flat_map-longer (enumeration classes) m in
-    omega (arith, l, length-append (flat_map (enumeration classes) (interfaces_of classes i)) (i ∷ []), b)
 
 -- what an interface of an enumeration enumerates stands in it
 pub enumeration_within-whole : (classes : List Class) → IsAcyclic classes → (d : ℕ) (i : ClassId) → IsWithin d classes i → (j : ClassId) → Among j (enumeration classes i) → (k : ClassId) → Among k (enumeration classes j) → Among k (enumeration classes i)

@@ -1,5 +1,5 @@
 -- Finished lists: each is made from those above it, in an order in which each class stands after its supertypes.
-use Rattle.std.proofs.Common.{◌≡◌, ℕ, zero, suc, ◌+◌, ◌<◌, ◌≤◌, ◌⊎◌, inl, inr, Option, Some, None, List, [], ◌∷◌, ◌++◌, length, take, get_or, slice_get, slice_set, refl, sym, ap, subst, ◌∙◌, arith}
+use Rattle.std.proofs.Common.{◌≡◌, ℕ, zero, suc, ◌+◌, ◌<◌, ◌≤◌, ◌⊎◌, inl, inr, Option, Some, None, List, [], ◌∷◌, length, take, get_or, slice_get, slice_set, refl, sym, ap, subst, ◌∙◌, arith}
 use Rattle.std.proofs.lemmas.List.{take_all, take_more, length-set}
 use Rattle.std.proofs.lemmas.Option.{slice_get_within, slice_get-get_or}
 use Rattle.std.specs.Prelude.{IfSome}
@@ -16,7 +16,7 @@ use Rattle.hierarchy.proofs.Positions.{Some_same}
 use Rattle.hierarchy.proofs.Searches.{among_get, among_one, length-get_none}
 use Rattle.hierarchy.proofs.Walks.{none_id}
 
-pub finished_for : {f : ClassId → List ClassId} {classes : List Class} {P Q : ClassId → Type 0} {all : List (List ClassId)} → ((c : ClassId) → Q c → P c) → AreFinished f classes P all → AreFinished f classes Q all
+finished_for : {f : ClassId → List ClassId} {classes : List Class} {P Q : ClassId → Type 0} {all : List (List ClassId)} → ((c : ClassId) → Q c → P c) → AreFinished f classes P all → AreFinished f classes Q all
 finished_for h a = record { count_is = a.count_is; are = λ c q found e. a.are c (h c q) found e }
 
 -- a table is finished for each class

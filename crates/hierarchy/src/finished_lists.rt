@@ -33,7 +33,11 @@ pub(crate) fn last_listed(all: &[ClassSet], number: usize) -> Option<ClassId>
 }
 
 /// Adds the list at that number, each class once.
-pub(crate) fn add_list(all: &[ClassSet], number: usize, found: &mut ClassSet) -> Result<(), AllocError>
+pub(crate) fn add_list(
+    all: &[ClassSet],
+    number: usize,
+    found: &mut ClassSet,
+) -> Result<(), AllocError>
     ensures { OnOk result (found.new ≡ add_all found.old (listed all.now number)) }
 {
     match list_at(all, number) {
@@ -46,12 +50,7 @@ pub(crate) fn add_list(all: &[ClassSet], number: usize, found: &mut ClassSet) ->
 }
 
 /// Whether the nearest class was found and its list is shorter by one than the list at that number.
-fn is_covered(
-    all: &[ClassSet],
-    number: usize,
-    nearest: Option<ClassId>,
-    found: &ClassSet,
-) -> bool
+fn is_covered(all: &[ClassSet], number: usize, nearest: Option<ClassId>, found: &ClassSet) -> bool
     ensures { result ≡ true → IsCovered all.now (listed all.now number) nearest found.now }
 {
     let Some(class) = nearest else {
