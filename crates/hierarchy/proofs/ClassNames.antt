@@ -12,7 +12,7 @@ use Rattle.hierarchy.specs.declared.class.Class.{Class}
 use Rattle.hierarchy.specs.declared.class.ClassId.{ClassId}
 use Rattle.hierarchy.specs.declared.built_in.BuiltIn.{BuiltIn}
 use Rattle.hierarchy.specs.BuiltIn.{number_of, name_of, built_ins, built_in_names, place_of}
-use Rattle.hierarchy.specs.Texts.{has_text}
+use Rattle.texts.specs.Texts.{has_text}
 use Rattle.hierarchy.specs.LinkedProgram.{LinkedProgram, class_at, built_in, id, class_name, class_names, name_at, place_in, class_named}
 use Rattle.hierarchy.specs.Linking.{is_reserved, names_of, kinds_of}
 use Rattle.hierarchy.specs.LinkedTexts.{IsLinked}

@@ -13,7 +13,7 @@ use Rattle.hierarchy.specs.declared.supertype_names.Known.{Known}
 use Rattle.hierarchy.specs.declared.supertype_names.Known.TheVariants as known_as
 use Rattle.hierarchy.specs.declared.built_in.TheConstants.{BUILT_IN_COUNT}
 use Rattle.hierarchy.specs.BuiltIn.{number_of, superclass_of_built_in, built_ins, built_in_named, may_be_superclass}
-use Rattle.hierarchy.specs.Texts.{place_of_text}
+use Rattle.texts.specs.Texts.{place_of_text}
 use Rattle.hierarchy.specs.LinkedProgram.{class_among, id, class_names}
 use Rattle.hierarchy.specs.ClassLists.{Among, first, later}
 use Rattle.hierarchy.specs.Hierarchy.{supers_in, supers_of_built_in, built_in_list, IsInRange}

@@ -3,7 +3,7 @@ use Rattle.std.proofs.Common.{◌≡◌, ℕ, zero, suc, ◌<◌, ◌+◌, inl, 
 use Rattle.std.proofs.lemmas.Bool.{cases_lt}
 use Rattle.std.proofs.lemmas.List.{take_more, length-map}
 use Rattle.jasmin_text.specs.declared.class_text.ClassParts.{ClassParts}
-use Rattle.hierarchy.specs.Texts.{has_text, note_text}
+use Rattle.texts.specs.Texts.{has_text, note_text}
 use Rattle.hierarchy.specs.Linking.{names_of, IsRepeated}
 
 -- the name at a place

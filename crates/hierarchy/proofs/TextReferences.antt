@@ -13,7 +13,7 @@ use Rattle.hierarchy.specs.declared.ready.ReadyObject.{ReadyObject}
 use Rattle.hierarchy.specs.declared.ready.ReadyObject.TheVariants as ready
 use Rattle.hierarchy.specs.Objects.{ready_objects, objects_at_start, text_at}
 use Rattle.hierarchy.specs.Quoted.{quoted_in, quoted_texts, text_reference}
-use Rattle.hierarchy.specs.Texts.{has_text, note_text, place_of_text}
+use Rattle.texts.specs.Texts.{has_text, note_text, place_of_text}
 use Rattle.hierarchy.proofs.Acyclic.{get-pushed}
 use Rattle.hierarchy.proofs.Positions.{Some_same, first_place, found_passes, position_by_steps}
 

@@ -31,6 +31,5 @@ pub mod Subclasses
 pub mod Superinterfaces
 pub mod Supertypes
 pub mod Tables
-pub mod Texts
 pub mod UpwardOrder
 pub mod Walking

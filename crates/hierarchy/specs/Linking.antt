@@ -9,7 +9,7 @@ use Rattle.hierarchy.specs.declared.class.ClassId.{ClassId}
 use Rattle.hierarchy.specs.declared.fault.LinkFault.{LinkFault}
 use Rattle.hierarchy.specs.declared.fault.LinkFaultKind.{LinkFaultKind}
 use Rattle.hierarchy.specs.declared.fault.LinkFaultKind.TheVariants.{NoMemory}
-use Rattle.hierarchy.specs.Texts.{has_text}
+use Rattle.texts.specs.Texts.{has_text}
 use Rattle.hierarchy.specs.Supertypes.{known, superclass_id, interface_ids, joined}
 
 abbrev pub is_reserved : List ℕ → Bool

@@ -11,7 +11,7 @@ use Rattle.jasmin_text.specs.declared.instruction.Instruction.{Instruction}
 use Rattle.jasmin_text.specs.declared.instruction.Instruction.TheVariants as instruction
 use Rattle.hierarchy.specs.declared.class.Class.{Class}
 use Rattle.hierarchy.specs.LinkedProgram.{LinkedProgram}
-use Rattle.hierarchy.specs.Texts.{place_of_text, note_text, distinct_texts}
+use Rattle.texts.specs.Texts.{place_of_text, note_text}
 
 -- each text in turn at the end unless it is there already
 abbrev pub note_all : List (List ℕ) → List (List ℕ) → List (List ℕ)
@@ -44,6 +44,10 @@ texts_of_method m = texts_of_code m.code
 -- the quoted texts of a class: of its static fields, then of its methods
 abbrev pub quoted_in : Class → List (List ℕ)
 quoted_in c = flat_map texts_of_field c.fields ++ flat_map texts_of_method c.methods
+
+-- texts without repeats
+abbrev pub distinct_texts : List (List ℕ) → List (List ℕ)
+distinct_texts texts = fold note_text [] texts
 
 -- the quoted texts of all classes in file order, equal texts once
 abbrev pub quoted_texts : List Class → List (List ℕ)

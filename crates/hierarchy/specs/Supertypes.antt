@@ -10,7 +10,7 @@ use Rattle.hierarchy.specs.declared.supertype_names.Known.{Known}
 use Rattle.hierarchy.specs.declared.supertype_names.Known.TheVariants as known_as
 use Rattle.hierarchy.specs.BuiltIn.{built_in_named, may_be_superclass, number_of}
 use Rattle.hierarchy.specs.LinkedProgram.{id}
-use Rattle.hierarchy.specs.Texts.{place_of_text}
+use Rattle.texts.specs.Texts.{place_of_text}
 
 abbrev pub known_file : ℕ → Option ClassKind → Known
 known_file place None = known_as.Nothing

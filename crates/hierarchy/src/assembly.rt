@@ -8,10 +8,10 @@ ghost use Rattle.hierarchy.specs.declared.fault.LinkFaultKind.TheVariants as bec
 use crate::class::{Class, ClassId};
 use crate::fault::{LinkFault, LinkFaultKind};
 use crate::supertype_names::{interfaces, known_class, superclass};
-use crate::texts::Texts;
 use jasmin_text::{ClassKind, ClassParts, Method};
 use sequence::Sequence;
 use std::alloc::Global;
+use texts::Texts;
 
 /// Whether a method is neither abstract nor static.
 fn is_default_method(method: &Method) -> bool

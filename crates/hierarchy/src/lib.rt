@@ -54,7 +54,6 @@ mod subtype;
 mod supertype_names;
 mod supertypes;
 mod tables;
-mod texts;
 mod type_ops;
 mod upward;
 pub mod value;

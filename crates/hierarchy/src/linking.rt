@@ -30,11 +30,11 @@ use crate::program::Program;
 use crate::quoted::first_beyond_heap;
 use crate::selection_table::{Selections, selections_of};
 use crate::tables::{Tables, tables_with};
-use crate::texts::Texts;
 use crate::upward::{SearchResult, search};
 use descriptors::ClassName;
 use jasmin_text::{ClassKind, ClassParts, ClassText};
 use std::alloc::{AllocError, Global};
+use texts::Texts;
 
 /// A fault of the class at a place.
 #[derive(Clone, Copy)]

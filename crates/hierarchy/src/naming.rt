@@ -3,9 +3,9 @@
 ghost use Rattle.std.specs.Prelude.{◌≡◌, ℕ, ◌<◌, [], map, position, IfOk, IfNone, IfSome};
 ghost use Rattle.hierarchy.specs.Linking.{is_reserved, names_of, kinds_of, IsRepeated, IsFirst};
 
-use crate::texts::Texts;
 use jasmin_text::{ClassKind, ClassParts};
 use std::alloc::{AllocError, Global};
+use texts::Texts;
 
 /// Whether a file's class may not have this name.
 fn is_under_java(name: &[u8]) -> bool

@@ -6,9 +6,9 @@ ghost use Rattle.hierarchy.specs.Linking.{IsFirst};
 ghost use Rattle.hierarchy.specs.Quoted.{note_all, text_of, texts_of_field, texts_of_instruction, texts_of_method, quoted_in, quoted_texts, cells_of, FillsHeap};
 
 use crate::class::Class;
-use crate::texts::Texts;
 use jasmin_text::{Constant, Field, Instruction, Method};
 use std::alloc::{AllocError, Global};
+use texts::Texts;
 
 /// How many cells the heap has.
 const HEAP_CELLS: usize = 1_000_000;

@@ -7,11 +7,11 @@ ghost use Rattle.hierarchy.specs.declared.fault.LinkFaultKind.TheVariants as bec
 use crate::built_in::BuiltIn;
 use crate::class::ClassId;
 use crate::fault::LinkFaultKind;
-use crate::texts::Texts;
 use descriptors::ClassName;
 use jasmin_text::ClassKind;
 use sequence::Sequence;
 use std::alloc::Global;
+use texts::Texts;
 
 /// What a name stands for where a class names a supertype.
 #[derive(Clone, Copy)]

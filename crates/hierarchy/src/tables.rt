@@ -19,8 +19,8 @@ use crate::field_order::field_orders;
 use crate::member_places::MemberPlaces;
 use crate::object_cells::all_object_cells;
 use crate::order::{all_inherited, all_superinterfaces};
-use crate::texts::Texts;
 use std::alloc::{AllocError, Global};
+use texts::Texts;
 
 /// What a program keeps beside its classes: of each class in file order, lists of classes, the cells of
 /// an object and the places of its members; and of all classes the quoted texts.

@@ -1,37 +1,79 @@
--- Labels in a table, seen by their bytes.
-use Rattle.std.proofs.Common.{◌≡◌, ℕ, Bool, true, false, cond, ◌&&◌, eqb, List, [], ◌∷◌, ◌++◌, Vec, Global, Option, Some, None, refl, ap}
-use Rattle.std.specs.Map.{lookup}
-use Rattle.std.specs.Prelude.{map}
+-- Labels beside their places, found by their bytes.
+use Rattle.std.proofs.Common.{◌≡◌, ℕ, suc, ◌+◌, Bool, true, false, cond, ◌||◌, ◌&&◌, eqb, inl, inr, List, [], ◌∷◌, ◌++◌, Option, Some, None, length, slice_get, refl, sym, ap, ◌∙◌, subst, arith, length-append}
+use Rattle.std.proofs.lemmas.Bool.{cases_Bool}
+use Rattle.std.proofs.lemmas.Iterator.Adapters.{position_from-zero}
+use Rattle.std.specs.List.{list_any, position_from, zip}
 use Rattle.std.specs.Str.{bytes_eq}
-use Rattle.indexmap.specs.IndexMap.{insert_entry}
 use Rattle.jasmin_words.specs.Names.{same_bytes}
 use Rattle.jasmin_text.specs.Tables.{find_row}
+use Rattle.texts.specs.Texts.{has_text, note_text, place_of_text}
 
-abbrev pub Stored : Type 0
-Stored = Vec ℕ Global × ℕ
-
-abbrev pub seen : Stored → List ℕ × ℕ
-seen e = (e.0.items, e.1)
-
-pub bytes-same : (xs ys : List ℕ) → bytes_eq xs ys ≡ same_bytes xs ys
+bytes-same : (xs ys : List ℕ) → bytes_eq xs ys ≡ same_bytes xs ys
 bytes-same [] [] = refl
 bytes-same [] (y ∷ ys) = refl
 bytes-same (x ∷ xs) [] = refl
 bytes-same (x ∷ xs) (y ∷ ys) = ap (λ b. eqb x y && b) (bytes-same xs ys)
 
--- a label is found by its bytes
-pub lookup-seen : (w : List ℕ) (es : List Stored) → lookup (λ (k : Vec ℕ Global). bytes_eq w k.items) es ≡ find_row w (map seen es)
-lookup-seen w [] = refl
-lookup-seen w (e ∷ es) = rw (bytes-same w e.0.items, lookup-seen w es) refl
+abbrev at_place : List ℕ → Option ℕ → Option ℕ
+at_place places None = None
+at_place places (Some n) = slice_get places n
+
+middle : (before : List ℕ) (n k : ℕ) (after : List ℕ) → k ≡ length before → slice_get (before ++ n ∷ after) k ≡ Some n
+middle [] n k after e = rw e refl
+middle (m ∷ before) n k after e = rw e (middle before n (length before) after refl)
+
+append-one : (before : List ℕ) (n : ℕ) (after : List ℕ) → (before ++ n ∷ []) ++ after ≡ before ++ n ∷ after
+append-one [] n after = refl
+append-one (m ∷ before) n after = ap (λ rest. m ∷ rest) (append-one before n after)
+
+row_from : (w : List ℕ) (k : ℕ) (before places : List ℕ) (names : List (List ℕ)) → k ≡ length before → length names ≡ length places →
+    at_place (before ++ places) (position_from (bytes_eq w) k names) ≡ find_row w (zip names places)
+row_from w k before places [] e l = refl
+row_from w k before [] (t ∷ names) e l = absurd (omega (arith, l))
+row_from w k before (n ∷ places) (t ∷ names) e l =
+    let more : k + 1 ≡ length (before ++ n ∷ []) = let all = length-append before (n ∷ []) in omega (arith, e, all) in
+    let fewer : length names ≡ length places = omega (arith, l) in
+    elim (cases_Bool (bytes_eq w t)) [
+      | inl y ↦ rw (y, sym (bytes-same w t) ∙ y) (middle before n k places e)
+      | inr y ↦
+          rw (y, sym (bytes-same w t) ∙ y)
+          (ap (λ all. at_place all (position_from (bytes_eq w) (k + 1) names)) (sym (append-one before n places)) ∙ row_from w (k + 1) (before ++ n ∷ []) places names more fewer)
+    ]
+
+row_of : (w : List ℕ) (names : List (List ℕ)) (places : List ℕ) → length names ≡ length places → at_place places (place_of_text w names) ≡ find_row w (zip names places)
+row_of w names places l = ap (at_place places) (position_from-zero (bytes_eq w) names) ∙ row_from w 0 [] places names refl l
+
+-- a label that is there is found at its place
+pub row_there : (w : List ℕ) (names : List (List ℕ)) (places : List ℕ) (n : ℕ) → length names ≡ length places → place_of_text w names ≡ Some n → slice_get places n ≡ find_row w (zip names places)
+row_there w names places n l e = ap (at_place places) (sym e) ∙ row_of w names places l
+
+pub row_absent : (w : List ℕ) (names : List (List ℕ)) (places : List ℕ) → length names ≡ length places → place_of_text w names ≡ None → None ≡ find_row w (zip names places)
+row_absent w names places l e = ap (at_place places) (sym e) ∙ row_of w names places l
 
 skipped : (b : Bool) (n : ℕ) (o : Option ℕ) → cond b (Some n) o ≡ None → (b ≡ false) × (o ≡ None)
 skipped true n o h = absurd cc
 skipped false n o h = (refl, h)
 
--- a new label stands behind those that are there
-pub insert-seen : (v : Vec ℕ Global) (n : ℕ) (es : List Stored) → find_row v.items (map seen es) ≡ None →
-    map seen (insert_entry (λ (a b : Vec ℕ Global). bytes_eq a.items b.items) es v n) ≡ map seen es ++ (v.items, n) ∷ []
-insert-seen v n [] h = refl
-insert-seen v n (e ∷ es) h =
-    let off = skipped (same_bytes v.items e.0.items) e.1 (find_row v.items (map seen es)) h in
-    rw (bytes-same v.items e.0.items, off.0) (ap (λ rest. seen e ∷ rest) (insert-seen v n es off.1))
+new_name : (w : List ℕ) (names : List (List ℕ)) (places : List ℕ) → length names ≡ length places → find_row w (zip names places) ≡ None → has_text w names ≡ false
+new_name w [] places l h = refl
+new_name w (t ∷ names) [] l h = absurd (omega (arith, l))
+new_name w (t ∷ names) (n ∷ places) l h =
+    let off = skipped (same_bytes w t) n (find_row w (zip names places)) h in
+    let fewer : length names ≡ length places = omega (arith, l) in
+    rw (bytes-same w t ∙ off.0) (new_name w names places fewer off.1)
+
+-- a new label's name is noted at the end
+pub new_noted : (w : List ℕ) (names : List (List ℕ)) (places : List ℕ) → length names ≡ length places → find_row w (zip names places) ≡ None → note_text names w ≡ names ++ w ∷ []
+new_noted w names places l h = rw (new_name w names places l h) refl
+
+pub zip_pushed : (w : List ℕ) (n : ℕ) (names : List (List ℕ)) (places : List ℕ) → length names ≡ length places → zip (names ++ w ∷ []) (places ++ n ∷ []) ≡ zip names places ++ (w, n) ∷ []
+zip_pushed w n [] [] l = refl
+zip_pushed w n [] (m ∷ places) l = absurd (omega (arith, l))
+zip_pushed w n (t ∷ names) [] l = absurd (omega (arith, l))
+zip_pushed w n (t ∷ names) (m ∷ places) l = ap (λ rest. (t, m) ∷ rest) (zip_pushed w n names places (omega (arith, l)))
+
+pub zip_length : (names : List (List ℕ)) (places : List ℕ) → length names ≡ length places → length (zip names places) ≡ length places
+zip_length [] [] l = refl
+zip_length [] (m ∷ places) l = absurd (omega (arith, l))
+zip_length (t ∷ names) [] l = absurd (omega (arith, l))
+zip_length (t ∷ names) (m ∷ places) l = ap suc (zip_length names places (omega (arith, l)))

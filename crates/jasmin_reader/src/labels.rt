@@ -1,24 +1,30 @@
 //! The labels of a method.
 
-ghost use Rattle.std.specs.Prelude.{◌≡◌, ◌++◌, ◌∷◌, [], None, OnOk, length};
+ghost use Rattle.std.specs.Prelude.{◌≡◌, ◌++◌, ◌∷◌, [], None, OnErr, OnOk, length};
 ghost use Rattle.jasmin_text.specs.Grammar.{place_of};
 
-use indexmap::IndexMap;
 use std::alloc::{AllocError, Global};
 use std::marker::Model;
+use texts::Texts;
 
 /// The labels of a method with their places, in the order of the file, found by name.
 #[derive(Drop)]
 pub(crate) struct Labels {
-    places: IndexMap<Vec<u8>, u16>,
+    /// The labels themselves.
+    names: Texts,
+    /// The place of each label.
+    places: Vec<u16>,
 }
 
 impl Model for Labels {
-    ghost use Rattle.std.specs.Prelude.{List, ℕ, map};
+    ghost use Rattle.std.specs.Prelude.{◌≡◌, List, ℕ, length};
+    ghost use Rattle.std.specs.List.{zip};
 
     ghost Value = { List (List ℕ × ℕ) };
 
-    ghost view = { λ l. map (λ e. (e.0.items, e.1)) l.places.entries };
+    ghost view = { λ l. zip l.names l.places.items };
+
+    ghost invariant = { λ l. length l.names ≡ length l.places.items };
 }
 
 impl Labels {
@@ -27,7 +33,8 @@ impl Labels {
         ensures { result ≡ [] }
     {
         Labels {
-            places: IndexMap::new(alloc),
+            names: Texts::new(alloc),
+            places: Vec::new(alloc),
         }
     }
 
@@ -42,15 +49,19 @@ impl Labels {
     pub(crate) fn place(&self, label: &[u8]) -> Option<u16>
         ensures { result ≡ place_of self.now label.now }
     {
-        self.places.get(label).copied()
+        let place = self.names.place(label)?;
+        self.places.get(place).copied()
     }
 
-    /// One label more.
+    /// One label more. Out of memory, the labels stay as they were.
     pub(crate) fn add(&mut self, alloc: Global, label: &[u8], place: u16) -> Result<(), AllocError>
         requires { place_of self.old label.now ≡ None }
-        ensures { OnOk result (self.new ≡ self.old ++ (label.now, place) ∷ []) }
+        ensures added { OnOk result (self.new ≡ self.old ++ (label.now, place) ∷ []) }
+        ensures unchanged { OnErr result (self.new ≡ self.old) }
     {
-        self.places.insert(Vec::from_slice(alloc, label)?, place)?;
+        self.places.reserve(1)?;
+        self.names.note(alloc, label)?;
+        self.places.push_reserved(place);
         Ok(())
     }
 }
