@@ -1,8 +1,8 @@
 -- Labels beside their places, found by their bytes.
-use Rattle.std.proofs.Common.{◌≡◌, ℕ, suc, ◌+◌, Bool, true, false, cond, ◌||◌, ◌&&◌, eqb, inl, inr, List, [], ◌∷◌, ◌++◌, Option, Some, None, length, slice_get, refl, sym, ap, ◌∙◌, subst, arith, length-append}
+use Rattle.std.proofs.Common.{◌≡◌, ℕ, suc, ◌+◌, Bool, true, false, cond, ◌&&◌, eqb, inl, inr, List, [], ◌∷◌, ◌++◌, Option, Some, None, length, slice_get, refl, sym, ap, ◌∙◌, arith, length-append}
 use Rattle.std.proofs.lemmas.Bool.{cases_Bool}
 use Rattle.std.proofs.lemmas.Iterator.Adapters.{position_from-zero}
-use Rattle.std.specs.List.{list_any, position_from, zip}
+use Rattle.std.specs.List.{position_from, zip}
 use Rattle.std.specs.Str.{bytes_eq}
 use Rattle.jasmin_words.specs.Names.{same_bytes}
 use Rattle.jasmin_text.specs.Tables.{find_row}
@@ -34,9 +34,9 @@ row_from w k before (n ∷ places) (t ∷ names) e l =
     let more : k + 1 ≡ length (before ++ n ∷ []) = let all = length-append before (n ∷ []) in omega (arith, e, all) in
     let fewer : length names ≡ length places = omega (arith, l) in
     elim (cases_Bool (bytes_eq w t)) [
-      | inl y ↦ rw (y, sym (bytes-same w t) ∙ y) (middle before n k places e)
+      | inl y ↦ rw y (middle before n k places e)
       | inr y ↦
-          rw (y, sym (bytes-same w t) ∙ y)
+          rw y
           (ap (λ all. at_place all (position_from (bytes_eq w) (k + 1) names)) (sym (append-one before n places)) ∙ row_from w (k + 1) (before ++ n ∷ []) places names more fewer)
     ]
 
@@ -77,3 +77,9 @@ zip_length [] [] l = refl
 zip_length [] (m ∷ places) l = absurd (omega (arith, l))
 zip_length (t ∷ names) [] l = absurd (omega (arith, l))
 zip_length (t ∷ names) (m ∷ places) l = ap suc (zip_length names places (omega (arith, l)))
+
+pub as_many_pushed : (w : List ℕ) (n : ℕ) (names more : List (List ℕ)) (places next : List ℕ) → length names ≡ length places → more ≡ names ++ w ∷ [] → next ≡ places ++ n ∷ [] → length more ≡ length next
+as_many_pushed w n names more places next l a b =
+    let named = ap length a ∙ length-append names (w ∷ []) in
+    let placed = ap length b ∙ length-append places (n ∷ []) in
+    omega (arith, named, placed, l)

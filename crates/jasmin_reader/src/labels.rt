@@ -50,7 +50,7 @@ impl Labels {
         ensures { result ≡ place_of self.now label.now }
     {
         let place = self.names.place(label)?;
-        self.places.get(place).copied()
+        Some(self.places[place])
     }
 
     /// One label more. Out of memory, the labels stay as they were.
