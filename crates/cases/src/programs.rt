@@ -17,12 +17,12 @@
 //! A trace that a run wrote must be judged legal.
 
 mod checked;
-mod texts;
+mod named_texts;
 mod threaded;
 
 use crate::archive::{Archive, Part};
 use crate::programs::checked::said_of_trace;
-use crate::programs::texts::Texts;
+use crate::programs::named_texts::Texts;
 use crate::programs::threaded::{ThreadedRun, threaded_run};
 use crate::report::Report;
 use cli::serve;

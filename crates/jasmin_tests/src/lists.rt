@@ -41,7 +41,13 @@ fn have_places(alloc: Global, texts: &mut Texts) -> Result<bool, AllocError> {
     texts.note(alloc, b"main")?;
     let in_order = texts.place(b"main") == Some(0) && texts.place(b"<clinit>") == Some(1);
     let first = texts.at(0) == Some(b"main".as_slice());
-    Ok(in_order && first && texts.len() == 2 && texts.place(b"run").is_none() && texts.at(2).is_none())
+    Ok(
+        in_order
+            && first
+            && texts.len() == 2
+            && texts.place(b"run").is_none()
+            && texts.at(2).is_none(),
+    )
 }
 
 #[test]

@@ -1,6 +1,6 @@
 //! The verdict on the trace that a run wrote.
 
-use crate::programs::texts::Texts;
+use crate::programs::named_texts::Texts;
 use crate::report::push_all;
 use cli::{Asked, Run, parse, serve};
 use std::alloc::{AllocError, Global};

@@ -1,6 +1,6 @@
 //! The run of a program's one main class on a thread of its own, beside which its ordered run is held.
 
-use crate::programs::texts::Texts;
+use crate::programs::named_texts::Texts;
 use cli::{Asked, Named, parse, write_outcomes};
 use guest_threads::{NoGate, RunFault, run_threads};
 use hierarchy::{ClassId, Program, link};

@@ -13,12 +13,12 @@ pub overflow_add-above : goal.overflow_add-above
 overflow_add-above c =
     let k = c.loop-id.id-index in
     let fits =
-      cells_fit
-      c.args.classes.now c.requires.acyclic c.requires.fields c.requires.few c.args.order.now c.requires.upward k (get_or c.args.order.now k (id 0)) c.in-Some.class.now c.cells_among-above.result c.instance_count.result c.loop-id.all.items c.loop-id.invariant
-      (slice_get-get_or c.args.order.now k (id 0) c.loop-id-test.true)
-      (sym c.class_among.ensures ∙ ap option_copied c.in-Some.is)
-      (c.cells_among-above.ensures ∙ ap (λ all. unwrap_or (slice_get all c.in-Some.class.now.superclass.number) 0) c.deref.ensures.value)
-      (c.instance_count.ensures.count ∙ ap (λ fields. length (filter is_instance_field fields)) c.as_slice.ensures)
+    cells_fit
+    c.args.classes.now c.requires.acyclic c.requires.fields c.requires.few c.args.order.now c.requires.upward k (get_or c.args.order.now k (id 0)) c.in-Some.class.now c.cells_among-above.result c.instance_count.result c.loop-id.all.items c.loop-id.invariant
+    (slice_get-get_or c.args.order.now k (id 0) c.loop-id-test.true)
+    (sym c.class_among.ensures ∙ ap option_copied c.in-Some.is)
+    (c.cells_among-above.ensures ∙ ap (λ all. unwrap_or (slice_get all c.in-Some.class.now.superclass.number) 0) c.deref.ensures.value)
+    (c.instance_count.ensures.count ∙ ap (λ fields. length (filter is_instance_field fields)) c.as_slice.ensures)
     in
     omega (arith, fits)
 
