@@ -46,9 +46,6 @@ pub record HasCellsOf (classes : List Class) (seen : List ClassId) (cells : List
   pub count_is : length cells ≡ length classes
   pub are : (c : ClassId) → Among c seen → c.number < length classes → slice_get cells c.number ≡ Some (length (object_fields (linked classes) c))
 
-pub cells_at_first : (classes : List Class) (order : List ClassId) (cells : List ℕ) → length cells ≡ length classes → HasCellsOf classes (take 0 order) cells
-cells_at_first classes order cells l = record { count_is = l; are = λ c a h. elim a [ ] }
-
 -- the cells of a class above, which was seen or is built in
 pub cells_of_above : (classes : List Class) (seen : List ClassId) (cells : List ℕ) → IsAcyclic classes → HasCellsOf classes seen cells → (s : ClassId) → Among s seen → unwrap_or (slice_get cells s.number) 0 ≡ length (object_fields (linked classes) s)
 cells_of_above classes seen cells a h s m =
