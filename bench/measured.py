@@ -66,14 +66,32 @@ class Program:
         self.memory = max(self.memory, used.ru_maxrss * 1024)
 
 
-def bench(name):
+BENCH = f"{TOP}/crates/bench/out/bench"
+
+
+def is_built():
+    """Whether crates/bench is built, and no source changed since."""
+    if not os.path.isfile(BENCH):
+        return False
+    built = os.path.getmtime(BENCH)
+    parts = (f"{TOP}/crates/{crate}/{part}" for crate in os.listdir(f"{TOP}/crates") for part in ("src", "specs", "proofs"))
+    return all(os.path.getmtime(f"{folder}/{it}") <= built for part in parts for folder, _, files in os.walk(part) for it in files)
+
+
+def bench(*words):
     """The program of crates/bench, built where it isn't, and run once with the name of a benchmark."""
-    folder = f"{TOP}/crates/bench"
-    if subprocess.run(["rt", "run"], cwd=folder, stdout=subprocess.DEVNULL).returncode:
+    if not is_built() and subprocess.run(["rt", "run"], cwd=f"{TOP}/crates/bench", stdout=subprocess.DEVNULL).returncode:
         sys.exit("crates/bench was not built")
-    program = Program([f"{folder}/out/bench", name])
+    program = Program([BENCH, *words])
     program.run()
     return program
+
+
+def show(*words):
+    """Prints what a benchmark prints, and the most memory that it took, files and programs included."""
+    ran = bench(*words)
+    print(ran.output.decode(), end="")
+    print(f"most memory: {ran.memory / 1e6:.0f} MB")
 
 
 def java(folder, files, name):
