@@ -59,7 +59,7 @@ pub(crate) const ROWS: &[Row] = &[
         most: 10_000_000,
         unit: Sample::Read(LABELS),
         unit_size: Some(1),
-        repeats: 5,
+        repeats: 20,
     },
     Row {
         what: "access words of one line, one read, beside the first",
@@ -68,7 +68,7 @@ pub(crate) const ROWS: &[Row] = &[
         most: 10_000_000,
         unit: Sample::Read(WORDS),
         unit_size: Some(1),
-        repeats: 5,
+        repeats: 20,
     },
     Row {
         what: "comments, one read, beside the first",
@@ -77,7 +77,7 @@ pub(crate) const ROWS: &[Row] = &[
         most: 10_000_000,
         unit: Sample::Read(COMMENTS),
         unit_size: Some(1),
-        repeats: 5,
+        repeats: 20,
     },
     Row {
         what: "falling keys of one lookupswitch, one read, beside the first",
@@ -86,7 +86,7 @@ pub(crate) const ROWS: &[Row] = &[
         most: 4_000,
         unit: Sample::Read(KEYS),
         unit_size: Some(1),
-        repeats: 5,
+        repeats: 20,
     },
     Row {
         what: "methods, one read, beside the first",
@@ -95,7 +95,7 @@ pub(crate) const ROWS: &[Row] = &[
         most: 256,
         unit: Sample::Read(METHODS),
         unit_size: Some(1),
-        repeats: 5,
+        repeats: 20,
     },
     Row {
         what: "bytes of methods of arithmetic, one read, beside a pass",
