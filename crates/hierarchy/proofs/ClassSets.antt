@@ -1,13 +1,15 @@
 -- Sets of classes: each once, with a mark at its number.
-use Rattle.std.proofs.Common.{◌≡◌, ℕ, zero, suc, ◌<◌, Bool, true, false, inl, inr, List, [], ◌∷◌, ◌++◌, length, slice_index_or, slice_set, refl, sym, ap, ◌∙◌, arith}
+use Rattle.std.proofs.Common.{◌≡◌, ℕ, zero, suc, ◌<◌, ◌≤◌, Bool, true, false, inl, inr, Some, None, List, [], ◌∷◌, ◌++◌, length, slice_get, slice_index_or, slice_set, refl, sym, ap, subst, ◌∙◌, arith, append-nil, append_assoc}
 use Rattle.std.specs.Prelude.{◌||◌}
 use Rattle.std.proofs.lemmas.Bool.{cases_Bool, eqb-true, eq-eqb, true≢false}
 use Rattle.std.proofs.lemmas.List.Folds.{list_any-append}
 use Rattle.std.specs.List.{AllByRecursion, IsDistinct, list_any}
 use Rattle.std.specs.Cmp.{nat_eq_equiv}
 use Rattle.hierarchy.specs.declared.class.ClassId.{ClassId}
-use Rattle.hierarchy.specs.ClassLists.{is_among, add_new, add_all, distinct, same_class}
+use Rattle.hierarchy.specs.ClassLists.{Among, first, later, is_among, add_new, add_all, distinct, same_class}
 use Rattle.hierarchy.specs.LinkedProgram.{id}
+use Rattle.hierarchy.proofs.ClassMembership.{same_class-true, true_from_among}
+use Rattle.hierarchy.proofs.Positions.{Some_same}
 
 none_pushed : (y : ClassId) (xs : List ClassId) (x : ClassId) → AllByRecursion (λ z. same_class y z ≡ false) xs → same_class y x ≡ false → AllByRecursion (λ z. same_class y z ≡ false) (xs ++ x ∷ [])
 none_pushed y [] x a e = (e, tt)
@@ -66,3 +68,52 @@ none_distinct = tt
 
 pub distinct-once : (xs : List ClassId) → IsDistinct same_class (distinct xs)
 distinct-once xs = add_all-distinct [] xs none_distinct
+
+all_at : (P : ClassId → Type 0) {x : ClassId} {xs : List ClassId} → AllByRecursion P xs → Among x xs → P x
+all_at P a first = a.0
+all_at P a (later m) = all_at P a.1 m
+
+-- adding a list without repeats appends it, where none of it is there
+add_all-apart : (xs ys : List ClassId) → IsDistinct same_class ys → ((y : ClassId) → Among y ys → is_among y xs ≡ false) → add_all xs ys ≡ xs ++ ys
+unfolding IsDistinct
+add_all-apart xs [] d h = sym (append-nil xs)
+add_all-apart xs (y ∷ ys) d h =
+    ap (λ z. add_all z ys) pushed ∙ add_all-apart (xs ++ y ∷ []) ys d.1 lacks ∙ append_assoc xs (y ∷ []) ys
+  where
+    pushed : add_new xs y ≡ xs ++ y ∷ []
+    pushed = rw (h y first) refl
+
+    lacks : (z : ClassId) → Among z ys → is_among z (xs ++ y ∷ []) ≡ false
+    lacks z m = let other : same_class z y ≡ false = nat_eq_equiv.symm z.number y.number ∙ all_at (λ x. same_class y x ≡ false) d.0 m in list_any-append (same_class z) xs (y ∷ []) ∙ rw (h z (later m), other) refl
+
+pub none_apart : (xs ys : List ClassId) → None ≡ slice_get xs 0 → IsDistinct same_class ys → add_all xs ys ≡ xs ++ ys
+none_apart [] ys e d = add_all-apart [] ys d (λ y m. refl)
+none_apart (x ∷ xs) ys e d = absurd cc
+
+pub one_apart : (xs ys : List ClassId) (x : ClassId) → length xs ≤ 1 → Some x ≡ slice_get xs 0 → IsDistinct same_class ys → is_among x ys ≡ false → add_all xs ys ≡ xs ++ ys
+one_apart [] ys x few e d n = absurd cc
+one_apart (z ∷ []) ys x few e d n = add_all-apart (z ∷ []) ys d lacks
+  where
+    lacks : (y : ClassId) → Among y ys → is_among y (z ∷ []) ≡ false
+    lacks y m = elim (cases_Bool (same_class y z)) [
+      | inl same ↦ absurd (true≢false (sym (true_from_among (subst (λ w. Among w ys) (same_class-true y z same ∙ sym (Some_same e)) m)) ∙ n))
+      | inr other ↦ rw other refl
+    ]
+one_apart (z ∷ w ∷ xs) ys x few e d n = absurd (omega (arith, few))
+
+or_before : (a b : Bool) → a || (b || false) ≡ b || a
+or_before true true = refl
+or_before true false = refl
+or_before false true = refl
+or_before false false = refl
+
+-- one class before the others, with its mark
+pub marked_before : (marks : List Bool) (xs ys : List ClassId) (x : ClassId) → length xs ≤ 1 → Some x ≡ slice_get xs 0 → ((n : ℕ) → is_marked marks n ≡ is_among (id n) ys) → x.number < length marks → (n : ℕ) → is_marked (slice_set marks x.number true) n ≡ is_among (id n) (xs ++ ys)
+marked_before marks [] ys x few e m h n = absurd cc
+marked_before marks (y ∷ []) ys x few e m h n =
+    marked_more marks ys x m h n ∙ list_any-append (same_class (id n)) ys (x ∷ []) ∙ or_before (is_among (id n) ys) (same_class (id n) x) ∙ ap (λ z. is_among (id n) (z ∷ ys)) (Some_same e)
+marked_before marks (y ∷ z ∷ xs) ys x few e m h n = absurd (omega (arith, few))
+
+pub marked_alone : (marks : List Bool) (xs ys : List ClassId) → None ≡ slice_get xs 0 → ((n : ℕ) → is_marked marks n ≡ is_among (id n) ys) → (n : ℕ) → is_marked marks n ≡ is_among (id n) (xs ++ ys)
+marked_alone marks [] ys e m = m
+marked_alone marks (x ∷ xs) ys e m = absurd cc

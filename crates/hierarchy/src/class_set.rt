@@ -1,8 +1,8 @@
 //! Sets of classes in the order in which they were found.
 
-ghost use Rattle.std.specs.Prelude.{◌≡◌, ◌<◌, ℕ, [], false, IfOk, OnOk, OnErr, length, slice_get, slice_index_or, option_copied};
+ghost use Rattle.std.specs.Prelude.{◌≡◌, ◌<◌, ◌≤◌, ℕ, [], ◌++◌, true, false, IfOk, OnOk, OnErr, length, slice_get, slice_index_or, option_copied};
 ghost use Rattle.std.specs.List.{IsDistinct};
-ghost use Rattle.hierarchy.specs.ClassLists.{is_among, add_new, same_class};
+ghost use Rattle.hierarchy.specs.ClassLists.{is_among, add_new, add_all, same_class};
 
 use crate::class::ClassId;
 use std::alloc::{AllocError, Global};
@@ -86,6 +86,49 @@ impl ClassSet {
         make_room(&mut self.marks, id.number)?;
         self.ids.push(id)?;
         self.marks[id.number] = true;
+        Ok(())
+    }
+
+    /// Adds each class, in order.
+    pub(crate) fn add_each(&mut self, ids: &[ClassId]) -> Result<(), AllocError>
+        ensures { OnOk result (self.new ≡ add_all self.old ids.now) }
+    {
+        let mut rest = ids;
+        while let [id, after @ ..] = rest {
+            self.add(*id)?;
+            rest = after;
+        }
+        Ok(())
+    }
+
+    /// Whether there is at most one class, and the other set lacks it.
+    fn is_short_of(&self, other: &ClassSet) -> bool
+        ensures few { result ≡ true → length self.now ≤ 1 }
+        ensures apart { result ≡ true → add_all self.now other.now ≡ self.now ++ other.now }
+    {
+        other.is_distinct();
+        match self.at(0) {
+            Some(first) => self.as_slice().len() < 2 && !other.contains(first),
+            None => true,
+        }
+    }
+
+    /// Adds each class of the other set, in order. A set with at most one class, which the other lacks, takes
+    /// copies of what the other has: much faster than class by class.
+    pub(crate) fn add_set(&mut self, other: &ClassSet) -> Result<(), AllocError>
+        ensures { OnOk result (self.new ≡ add_all self.old other.now) }
+    {
+        if !self.is_short_of(other) {
+            self.add_each(other.as_slice())?;
+            return Ok(());
+        }
+        let mut marks = Vec::from_slice(*self.ids.allocator(), other.marks.as_slice())?;
+        if let Some(id) = self.at(0) {
+            make_room(&mut marks, id.number)?;
+            marks[id.number] = true;
+        }
+        self.ids.extend_from_slice(other.ids.as_slice())?;
+        self.marks = marks;
         Ok(())
     }
 }

@@ -12,7 +12,7 @@ ghost use Rattle.hierarchy.specs.UpwardOrder.{IsUpwardOrder};
 use crate::built_in::BuiltIn;
 use crate::class::{Class, ClassId};
 use crate::class_set::ClassSet;
-use crate::finished_lists::{add_list_unless_covered, empty_sets, last_listed};
+use crate::finished_lists::{add_list, add_list_unless_covered, empty_sets, last_listed};
 use crate::order::interfaces;
 use std::alloc::{AllocError, Global};
 
@@ -71,6 +71,11 @@ fn add_order(
         return Ok(());
     }
     if id.number < classes.len() {
+        if found.as_slice().len() < 2 {
+            // So short a list is made longer by a copy, in which the class itself stands first.
+            add_list(finished, id.number, found)?;
+            return Ok(());
+        }
         found.add(id)?;
         let nearest = last_listed(superinterfaces, id.number);
         add_list_unless_covered(finished, id.number, nearest, found)?;

@@ -8,7 +8,6 @@ ghost use Rattle.hierarchy.specs.Superinterfaces.{IsTable};
 use crate::class::ClassId;
 use crate::class_set::ClassSet;
 use crate::subtype::list_at;
-use crate::supertypes::add_each;
 use std::alloc::{AllocError, Global};
 
 /// So many sets without a class.
@@ -42,7 +41,7 @@ pub(crate) fn add_list(
 {
     match list_at(all, number) {
         Some(list) => {
-            add_each(list.as_slice(), found)?;
+            found.add_set(list)?;
             Ok(())
         }
         None => Ok(()),

@@ -9,18 +9,6 @@ use crate::class::{Class, ClassId};
 use crate::class_set::ClassSet;
 use std::alloc::{AllocError, Global};
 
-/// Adds each class once, in order.
-pub(crate) fn add_each(ids: &[ClassId], found: &mut ClassSet) -> Result<(), AllocError>
-    ensures { OnOk result (found.new ≡ add_all found.old ids.now) }
-{
-    let mut rest = ids;
-    while let [id, after @ ..] = rest {
-        found.add(*id)?;
-        rest = after;
-    }
-    Ok(())
-}
-
 /// Adds the direct supertypes of a class.
 fn add_supers(classes: &[Class], id: ClassId, found: &mut ClassSet) -> Result<(), AllocError>
     requires { length classes.now ≤ 1024 }
@@ -29,7 +17,7 @@ fn add_supers(classes: &[Class], id: ClassId, found: &mut ClassSet) -> Result<()
     match classes.get(id.number) {
         Some(class) => {
             found.add(class.superclass)?;
-            add_each(class.interfaces.as_slice(), found)?;
+            found.add_each(class.interfaces.as_slice())?;
             Ok(())
         }
         None => match BuiltIn::at(id.number - classes.len()) {

@@ -1,7 +1,8 @@
-use Rattle.std.proofs.Common.{◌∙◌, inl, refl, sym, ap}
+use Rattle.std.proofs.Common.{◌∙◌, [], inl, refl, sym, ap}
 use Rattle.hierarchy.specs.ClassLists.{add_all}
-use Rattle.hierarchy.specs.Fields.{interfaces_first}
+use Rattle.hierarchy.specs.Fields.{field_order, interfaces_first}
 use Rattle.hierarchy.proofs.Ancestries.{interfaces_first_upward, skipped_order}
+use Rattle.hierarchy.proofs.ClassMembership.{add_all-added}
 use Rattle.hierarchy.proofs.CoveredLists.{order_covered, ordered_again}
 use Rattle.hierarchy.proofs.FinishedLists.{listed_within}
 use Rattle.hierarchy.proofs.Superclasses.{order_past}
@@ -11,6 +12,10 @@ pub returns-then-contains : goal.returns-then-contains
 returns-then-contains c =
     let classes = c.args.classes.now in
     skipped_order classes (interfaces_first classes) (interfaces_first_upward classes) c.requires.acyclic c.args.found.now c.args.id c.requires.whole (sym c.contains.ensures ∙ c.if-contains.true)
+
+pub returns-then-as_slice-lt2 : goal.returns-then-as_slice-lt2
+returns-then-as_slice-lt2 c =
+    c.in_ok-add_list.ensures ∙ ap (add_all c.args.found.now) (listed_within c.requires.finished c.args.id (inl refl) c.if-id-classes.true) ∙ add_all-added c.args.found.now [] (field_order c.args.classes.now c.args.id)
 
 pub add_list_unless_covered-requires : goal.add_list_unless_covered-requires
 add_list_unless_covered-requires c = record {
