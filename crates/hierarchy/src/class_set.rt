@@ -127,6 +127,8 @@ impl ClassSet {
             make_room(&mut marks, id.number)?;
             marks[id.number] = true;
         }
+        // A few places more than are filled, as a few classes mostly follow.
+        self.ids.reserve(other.ids.len().saturating_add(4))?;
         self.ids.extend_from_slice(other.ids.as_slice())?;
         self.marks = marks;
         Ok(())

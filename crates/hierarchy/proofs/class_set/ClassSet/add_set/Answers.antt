@@ -16,7 +16,7 @@ invariant_of-self-2 c =
     let apart : add_all xs ys ≡ xs ++ ys =
     subst (λ z. add_all xs z ≡ xs ++ z) (sym c.other.view_is)
     (subst (λ z. add_all z c.args.other.now ≡ z ++ c.args.other.now) (sym c.self.view_is) (c.is_short_of.ensures.apart short)) in
-    let joined : c.extend_from_slice.new.self.items ≡ xs ++ ys = c.in_ok-extend_from_slice.ensures.items ∙ ap (λ z. xs ++ z) c.as_slice-3.ensures.value in
+    let joined : c.extend_from_slice.new.self.items ≡ xs ++ ys = c.in_ok-extend_from_slice.ensures.items ∙ ap (λ z. z ++ c.as_slice-3.result.now) c.in_ok-reserve.ensures.items ∙ ap (λ z. xs ++ z) c.as_slice-3.ensures.value in
     let copied : c.in_ok-marks.marks.items ≡ c.other.inside.marks.items = c.in_ok-marks.ensures.items ∙ c.as_slice-2.ensures.value in
     record {
       once = subst (IsDistinct same_class) (apart ∙ sym joined) (add_all-distinct xs ys c.self.invariant.once);
