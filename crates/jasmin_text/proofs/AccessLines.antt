@@ -17,7 +17,7 @@ use Rattle.jasmin_text.specs.Keywords.{spelled}
 use Rattle.jasmin_text.specs.Tables.{access_of, access_words, is_access_word, member_access_of, is_member_word}
 use Rattle.jasmin_text.specs.Canonical.{word_if, visibility_text, binding_text, storage_text, access_text, class_line, constant_text, value_text, field_end, field_line, method_line}
 use Rattle.jasmin_text.specs.Spellable.{is_taken, is_int, is_string, is_element_type, is_type, is_field_type, is_method_type, is_int_type, is_string_type, is_value_of, is_field}
-use Rattle.jasmin_text.specs.Grammar.{with_word, is_taken_in, IsAccess, IsMemberAccess, IsClassAccess, IsValue, ClassRow, FieldRow, MethodRow, none, more, int, text, class, interface, field, method}
+use Rattle.jasmin_text.specs.Grammar.{no_access, with_word, is_taken_in, IsAccessBy, IsAccess, IsMemberAccess, IsClassAccess, IsValue, ClassRow, FieldRow, MethodRow, none, more, int, text, class, interface, field, method}
 use Rattle.jasmin_text.specs.declared.access.Access.{Access}
 use Rattle.jasmin_text.specs.declared.table.AccessWord.{AccessWord}
 use Rattle.jasmin_text.specs.declared.table.AccessWord.TheVariants as word
@@ -58,26 +58,26 @@ items_joined : (a : Access) (items : List Item) → access_items a ++ items ≡ 
 unfolding access_items
 items_joined a items = simp append_assoc
 
-one_word : (p : Bool) (w : List ℕ) (k : AccessWord) (f : Bool → Access) (rest : List Item) → access_of w ≡ Some k → is_taken_in k ≡ true → f true ≡ with_word k (f false) → IsAccess rest (f false) → IsAccess (word_items p w ++ rest) (f p)
-one_word true w k f rest e t u h = subst (IsAccess (Word w ∷ rest)) (sym u) (more e t h)
-one_word false w k f rest e t u h = h
+one_word : (p : Bool) (w : List ℕ) (k : AccessWord) (f : Bool → Access) (rest : List Item) (a : Access) → access_of w ≡ Some k → is_taken_in k ≡ true → f true ≡ with_word k (f false) → IsAccessBy access_of (f p) rest a → IsAccessBy access_of (f false) (word_items p w ++ rest) a
+one_word true w k f rest a e t u h = more e t (subst (λ (b : Access). IsAccessBy access_of b rest a) u h)
+one_word false w k f rest a e t u h = h
 
 access_is : (a : Access) → IsAccess (access_items a) a
 unfolding access_items access_of access_words
 access_is a =
-    one_word a.public (codes "public") word.Public (λ p. access_with p a.private a.protected a.is_static a.is_final a.synchronized a.volatile a.transient a.is_abstract) _ refl refl refl (
-    one_word a.private (codes "private") word.Private (λ p. access_with false p a.protected a.is_static a.is_final a.synchronized a.volatile a.transient a.is_abstract) _ refl refl refl (
-    one_word a.protected (codes "protected") word.Protected (λ p. access_with false false p a.is_static a.is_final a.synchronized a.volatile a.transient a.is_abstract) _ refl refl refl (
-    one_word a.is_static (codes "static") word.Static (λ p. access_with false false false p a.is_final a.synchronized a.volatile a.transient a.is_abstract) _ refl refl refl (
-    one_word a.is_final (codes "final") word.Final (λ p. access_with false false false false p a.synchronized a.volatile a.transient a.is_abstract) _ refl refl refl (
-    one_word a.synchronized (codes "synchronized") word.Synchronized (λ p. access_with false false false false false p a.volatile a.transient a.is_abstract) _ refl refl refl (
-    one_word a.volatile (codes "volatile") word.Volatile (λ p. access_with false false false false false false p a.transient a.is_abstract) _ refl refl refl (
-    one_word a.transient (codes "transient") word.Transient (λ p. access_with false false false false false false false p a.is_abstract) _ refl refl refl (
-    one_word a.is_abstract (codes "abstract") word.Abstract (λ p. access_with false false false false false false false false p) _ refl refl refl none))))))))
+    one_word a.public (codes "public") word.Public (λ p. access_with p false false false false false false false false) _ a refl refl refl (
+    one_word a.private (codes "private") word.Private (λ p. access_with a.public p false false false false false false false) _ a refl refl refl (
+    one_word a.protected (codes "protected") word.Protected (λ p. access_with a.public a.private p false false false false false false) _ a refl refl refl (
+    one_word a.is_static (codes "static") word.Static (λ p. access_with a.public a.private a.protected p false false false false false) _ a refl refl refl (
+    one_word a.is_final (codes "final") word.Final (λ p. access_with a.public a.private a.protected a.is_static p false false false false) _ a refl refl refl (
+    one_word a.synchronized (codes "synchronized") word.Synchronized (λ p. access_with a.public a.private a.protected a.is_static a.is_final p false false false) _ a refl refl refl (
+    one_word a.volatile (codes "volatile") word.Volatile (λ p. access_with a.public a.private a.protected a.is_static a.is_final a.synchronized p false false) _ a refl refl refl (
+    one_word a.transient (codes "transient") word.Transient (λ p. access_with a.public a.private a.protected a.is_static a.is_final a.synchronized a.volatile p false) _ a refl refl refl (
+    one_word a.is_abstract (codes "abstract") word.Abstract (λ p. access_with a.public a.private a.protected a.is_static a.is_final a.synchronized a.volatile a.transient p) _ a refl refl refl none))))))))
 
-class_access : (items : List Item) (a : Access) → IsAccess items a → IsClassAccess items kind.Class a
-class_access items a none = none
-class_access items a (more {rest = rest} {access = access} e t h) = more e t (class_access rest access h)
+class_access : (a b : Access) (items : List Item) → IsAccessBy access_of a items b → IsClassAccess kind.Class a items kind.Class b
+class_access a b items none = none
+class_access a b items (more {k} {rest} e t h) = more e t (class_access (with_word k a) b rest h)
 
 pub access_not_interface : (w : List ℕ) (a : AccessWord) → access_of w ≡ Some a → same_bytes w (codes "interface") ≡ false
 unfolding access_of access_words
@@ -91,9 +91,9 @@ member_word : (w : List ℕ) (a : AccessWord) → access_of w ≡ Some a → mem
 unfolding member_access_of
 member_word w a e = rw (access_not_interface w a e) e
 
-member_access : (items : List Item) (a : Access) → IsAccess items a → IsMemberAccess items a
-member_access items a none = none
-member_access items a (more {w} {a = said_by} {rest} {access} e t h) = more (member_word w said_by e) t (member_access rest access h)
+member_access : (a b : Access) (items : List Item) → IsAccessBy access_of a items b → IsAccessBy member_access_of a items b
+member_access a b items none = none
+member_access a b items (more {w} {k} {rest} e t h) = more (member_word w k e) t (member_access (with_word k a) b rest h)
 
 -- ---- access words, as they are written
 
@@ -152,7 +152,7 @@ class_row kind.Class a name h f free =
     let t = class_tail a name h f in
     said (codes ".class" ++ (access_text a ++ 32 ∷ name)) (Word (codes ".class") ∷ (access_items a ++ Word name ∷ [])) (ClassRow kind.Class a name ∷ [])
     (a_word (codes ".class") (access_text a ++ 32 ∷ name) refl (refl, refl) refl t.parts t.written)
-    (class (access_items a) refl (class_access (access_items a) a (access_is a)) h (not_interface name free))
+    (class (access_items a) refl (class_access no_access a (access_items a) (access_is a)) h (not_interface name free))
 class_row kind.Interface a name h f free =
     let t = class_tail a name h f in
     said (codes ".interface" ++ (access_text a ++ 32 ∷ name)) (Word (codes ".interface") ∷ (access_items a ++ Word name ∷ [])) (ClassRow kind.Interface a name ∷ [])
@@ -219,7 +219,7 @@ field_row f h =
     subst (λ (line : List ℕ). IsLine line (FieldRow f ∷ [])) (sym (field_spaced f))
     (said (codes ".field" ++ (access_text f.access ++ 32 ∷ (n ++ 32 ∷ (d ++ v)))) (Word (codes ".field") ∷ (access_items f.access ++ Word n ∷ Word d ∷ value_items f.value)) (FieldRow f ∷ [])
     (a_word (codes ".field") (access_text f.access ++ 32 ∷ (n ++ 32 ∷ (d ++ v))) refl (refl, refl) refl t.parts t.written)
-    (field (access_items f.access) (value_items f.value) d refl (member_access (access_items f.access) f.access (access_is f.access)) p.0 (record { spelling = refl; field_type = is_type_of f.field_type (leb-true f.field_type.dimensions 255 r.0) r.1 }) (value_is f.field_type f.value p.4)))
+    (field (access_items f.access) (value_items f.value) d refl (member_access no_access f.access (access_items f.access) (access_is f.access)) p.0 (record { spelling = refl; field_type = is_type_of f.field_type (leb-true f.field_type.dimensions 255 r.0) r.1 }) (value_is f.field_type f.value p.4)))
 
 -- ---- methods
 
@@ -235,4 +235,4 @@ method_row m h k f =
     subst (λ (line : List ℕ). IsLine line (MethodRow m.access m.name m.method_type ∷ [])) (sym (method_spaced m))
     (said (codes ".method" ++ (access_text m.access ++ 32 ∷ w)) (Word (codes ".method") ∷ (access_items m.access ++ Word w ∷ [])) (MethodRow m.access m.name m.method_type ∷ [])
     (a_word (codes ".method") (access_text m.access ++ 32 ∷ w) refl (refl, refl) refl t.parts t.written)
-    (method (access_items m.access) w refl refl (member_access (access_items m.access) m.access (access_is m.access)) h (is_signature m.method_type k)))
+    (method (access_items m.access) w refl refl (member_access no_access m.access (access_items m.access) (access_is m.access)) h (is_signature m.method_type k)))

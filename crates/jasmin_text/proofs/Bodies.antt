@@ -1,5 +1,5 @@
 -- The canonical lines of a body say rows that stand in a body for its code.
-use Rattle.std.proofs.Common.{◌≡◌, ℕ, ◌+◌, ◌<◌, ◌≤◌, Bool, true, false, eqb, List, [], ◌∷◌, ◌++◌, map, length, Some, inl, inr, refl, sym, subst, append_assoc, arith}
+use Rattle.std.proofs.Common.{◌≡◌, ℕ, ◌+◌, ◌<◌, ◌≤◌, Bool, true, false, eqb, List, [], ◌∷◌, ◌++◌, map, length, length-append, Some, inl, inr, refl, sym, ap, ◌∙◌, subst, append_assoc, arith}
 use Rattle.std.specs.Prelude.{ℤ, nat_le}
 use Rattle.std.specs.List.{list_all, flat_map}
 use Rattle.std.proofs.lemmas.Bool.{and_parts, eq-eqb, or_cases, or_left, or_right, leb-true}
@@ -15,7 +15,7 @@ use Rattle.jasmin_text.proofs.Conditions.{four}
 use Rattle.jasmin_text.proofs.Written.{IsLine}
 use Rattle.jasmin_text.proofs.Rows.{label_row, stack_row, locals_row}
 use Rattle.jasmin_text.proofs.CodeLines.{handler_row}
-use Rattle.jasmin_text.proofs.Labels.{labels_if, labels_from, found, distinct}
+use Rattle.jasmin_text.proofs.Labels.{labels_if, labels_from, found, IsNewFrom, new_behind}
 use Rattle.jasmin_text.proofs.Lines.{AreLines, no_lines, one_line, line_before, lines_joined, each_line}
 use Rattle.jasmin_text.proofs.Instructions.{case_by_label, by_label, instruction_rows, instruction_are, in_body}
 use Rattle.jasmin_text.proofs.Places.{IsGoodCode}
@@ -45,20 +45,35 @@ body_are count places place (i ∷ is) less fit h =
     (label_are (is_named places place) place (omega arith))
     (lines_joined (instruction_lines i) (body_lines places (place + 1) is) (instruction_rows i) (body_rows places (place + 1) is) (instruction_are count i less p.0) (body_are count places (place + 1) is less (omega arith) p.1)))
 
--- what stands from a place on
-abbrev body_from : List ℕ → ℕ → List (Instruction ℕ) → Body
-body_from places place is = record { stacks = []; locals = []; labels = labels_from places place is; catches = []; instructions = map by_label is }
+-- with the labels and instructions from a place on
+abbrev body_with : Body → List ℕ → ℕ → List (Instruction ℕ) → Body
+body_with b places place is = record b { labels = b.labels ++ labels_from places place is; instructions = b.instructions ++ map by_label is }
 
-label_in_body : (b : Bool) (place : ℕ) (rows : List Row) (body : Body) → IsBody place rows body → IsBody place (label_rows b place ++ rows) (record body { labels = labels_if b place ++ body.labels })
-label_in_body true place rows body h = label h
-label_in_body false place rows body h = h
+label_in_body : (named : Bool) (place : ℕ) (rows : List Row) (b c : Body) → length b.instructions ≡ place → place < 65536 → IsNewFrom place b.labels → IsBody (record b { labels = b.labels ++ labels_if named place }) rows c → IsBody b (label_rows named place ++ rows) c
+label_in_body true place rows b c here less fresh h =
+    label (fresh place (omega arith) less) (subst (λ (p : ℕ). IsBody (record b { labels = b.labels ++ (label_text place, p) ∷ [] }) rows c) (sym here) h)
+label_in_body false place rows b c here less fresh h = subst (λ (l : List (List ℕ × ℕ)). IsBody (record b { labels = l }) rows c) (append-nil b.labels) h
 
-is_body : (count : ℕ) (places : List ℕ) (place : ℕ) (is : List (Instruction ℕ)) → list_all (is_instruction count) is ≡ true → IsBody place (body_rows places place is) (body_from places place is)
-is_body count places place [] h = label_in_body (is_named places place) place [] empty_body none
-is_body count places place (i ∷ is) h =
+is_body : (count : ℕ) (places : List ℕ) (place : ℕ) (is : List (Instruction ℕ)) (b : Body) → list_all (is_instruction count) is ≡ true → length b.instructions ≡ place → place + length is < 65536 → IsNewFrom place b.labels
+    → IsBody b (body_rows places place is) (body_with b places place is)
+is_body count places place [] b h here fit fresh =
+    let named = is_named places place in
+    let last : record b { labels = b.labels ++ labels_if named place } ≡ body_with b places place [] =
+    ap (λ (l : List (List ℕ × ℕ)). record b { labels = b.labels ++ l }) (sym (append-nil (labels_if named place)))
+    ∙ ap (λ (l : List (Instruction (List ℕ))). record b { labels = b.labels ++ (labels_if named place ++ []); instructions = l }) (sym (append-nil b.instructions)) in
+    label_in_body named place [] b (body_with b places place []) here (omega arith) fresh (subst (IsBody (record b { labels = b.labels ++ labels_if named place }) []) last none)
+is_body count places place (i ∷ is) b h here fit fresh =
     let p = and_parts (is_instruction count i) (list_all (is_instruction count) is) h in
-    label_in_body (is_named places place) place (instruction_rows i ++ body_rows places (place + 1) is) (record (body_from places (place + 1) is) { instructions = by_label i ∷ map by_label is })
-    (in_body count place i (body_rows places (place + 1) is) (body_from places (place + 1) is) p.0 (is_body count places (place + 1) is p.1))
+    let named = is_named places place in
+    let next : Body = record b { labels = b.labels ++ labels_if named place; instructions = b.instructions ++ by_label i ∷ [] } in
+    let behind : length next.instructions ≡ place + 1 = length-append b.instructions (by_label i ∷ []) ∙ ap (λ (n : ℕ). n + 1) here in
+    let last : body_with next places (place + 1) is ≡ body_with b places place (i ∷ is) =
+    ap (λ (l : List (List ℕ × ℕ)). record b { labels = l; instructions = (b.instructions ++ by_label i ∷ []) ++ map by_label is }) (append_assoc b.labels (labels_if named place) (labels_from places (place + 1) is))
+    ∙ ap (λ (l : List (Instruction (List ℕ))). record b { labels = b.labels ++ labels_from places place (i ∷ is); instructions = l }) (append_assoc b.instructions (by_label i ∷ []) (map by_label is)) in
+    subst (IsBody b (body_rows places place (i ∷ is))) last
+    (label_in_body named place (instruction_rows i ++ body_rows places (place + 1) is) b (body_with next places (place + 1) is) here (omega arith) fresh
+    (in_body count i (body_rows places (place + 1) is) (record b { labels = b.labels ++ labels_if named place }) (body_with next places (place + 1) is) p.0
+    (is_body count places (place + 1) is next p.1 behind (omega arith) (new_behind named place b.labels (omega arith) fresh))))
 
 -- ---- places
 
@@ -131,11 +146,12 @@ handler_are count h less e =
     let using = leb-true h.handler count p.3 in
     handler_row h p.0 (omega arith) (omega arith) (omega arith)
 
-catches_in_body : (cs : List Catch) (place : ℕ) (rows : List Row) (body : Body) → IsBody place rows body → IsBody place (map row_of_catch cs ++ rows) (record body { catches = cs ++ body.catches })
-catches_in_body [] place rows body h = h
-catches_in_body (c ∷ cs) place rows body h = catch (catches_in_body cs place rows body h)
+catches_in_body : (cs : List Catch) (rows : List Row) (b c : Body) → IsBody (record b { catches = b.catches ++ cs }) rows c → IsBody b (map row_of_catch cs ++ rows) c
+catches_in_body [] rows b c h = subst (λ (l : List Catch). IsBody (record b { catches = l }) rows c) (append-nil b.catches) h
+catches_in_body (k ∷ cs) rows b c h =
+    catch (catches_in_body cs rows (record b { catches = b.catches ++ k ∷ [] }) c (subst (λ (l : List Catch). IsBody (record b { catches = l }) rows c) (sym (append_assoc b.catches (k ∷ []) cs)) h))
 
-are_handlers : (labels : List (List ℕ × ℕ)) (hs : List Handler) → AreFound labels (flat_map handler_places hs) → AreHandlers labels (map catch_by_label hs ++ []) hs
+are_handlers : (labels : List (List ℕ × ℕ)) (hs : List Handler) → AreFound labels (flat_map handler_places hs) → AreHandlers labels (map catch_by_label hs) hs
 are_handlers labels [] f = none
 are_handlers labels (h ∷ hs) f =
     let g : AreFound labels (handler_places h) = λ p e. f p (named_front (handler_places h) (flat_map handler_places hs) p e) in
@@ -153,7 +169,7 @@ pub code_rows : Code → List Row
 code_rows c = StackRow c.stack ∷ LocalsRow c.locals ∷ (map row_of_catch (map catch_by_label c.handlers) ++ body_rows (code_places c) 0 c.instructions)
 
 pub code_body : Code → Body
-code_body c = record { stacks = c.stack ∷ []; locals = c.locals ∷ []; labels = labels_from (code_places c) 0 c.instructions; catches = map catch_by_label c.handlers ++ []; instructions = map by_label c.instructions }
+code_body c = record { stack = c.stack; locals = c.locals; labels = labels_from (code_places c) 0 c.instructions; catches = map catch_by_label c.handlers; instructions = map by_label c.instructions }
 
 pub code_are : (c : Code) → IsGoodCode c → AreLines (code_lines c) (code_rows c)
 unfolding code_lines code_rows
@@ -166,11 +182,12 @@ code_are c good =
     (each_line handler_line catch_by_label row_of_catch (is_handler n) c.handlers (λ h e. handler_are n h less e) good.handlers)
     (body_are n (code_places c) 0 c.instructions less (omega arith) good.instructions)))
 
-pub code_is_body : (c : Code) → IsGoodCode c → IsBody 0 (code_rows c) (code_body c)
+pub code_is_body : (c : Code) → IsGoodCode c → IsBody empty_body (code_rows c) (code_body c)
 unfolding code_rows code_body
 code_is_body c good =
-    stack (locals (catches_in_body (map catch_by_label c.handlers) 0 (body_rows (code_places c) 0 c.instructions) (body_from (code_places c) 0 c.instructions)
-    (is_body (length c.instructions) (code_places c) 0 c.instructions good.instructions)))
+    let b : Body = record { stack = c.stack; locals = c.locals; labels = []; catches = map catch_by_label c.handlers; instructions = [] } in
+    stack (locals (catches_in_body (map catch_by_label c.handlers) (body_rows (code_places c) 0 c.instructions) (record b { catches = [] }) (code_body c)
+    (is_body (length c.instructions) (code_places c) 0 c.instructions b good.instructions refl (omega (arith, good.few)) (λ p low high. refl))))
 
 pub code_is_code : (c : Code) → IsGoodCode c → IsCodeOf (code_body c) c
 unfolding code_body
@@ -181,7 +198,6 @@ code_is_code c good =
     record {
       stack = refl;
       locals = refl;
-      distinct = distinct (code_places c) 0 c.instructions fit;
       handlers = are_handlers labels c.handlers (λ p e. f p (named_front (flat_map handler_places c.handlers) (flat_map instruction_places c.instructions) p e));
       instructions = are_placed labels c.instructions (λ p e. f p (named_back (flat_map handler_places c.handlers) (flat_map instruction_places c.instructions) p e));
     }

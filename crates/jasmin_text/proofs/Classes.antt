@@ -41,7 +41,7 @@ optional_are : (b : Bool) (o : Option Code) → is_optional_code b o ≡ true �
 optional_are b None h = no_lines
 optional_are b (Some c) h = code_are c (good_code c (code_good b c h))
 
-optional_is_body : (b : Bool) (o : Option Code) → is_optional_code b o ≡ true → IsBody 0 (optional_rows o) (optional_body o)
+optional_is_body : (b : Bool) (o : Option Code) → is_optional_code b o ≡ true → IsBody empty_body (optional_rows o) (optional_body o)
 optional_is_body b None h = none
 optional_is_body b (Some c) h = code_is_body c (good_code c (code_good b c h))
 

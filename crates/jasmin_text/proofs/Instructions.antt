@@ -1,16 +1,17 @@
 -- Canonical lines of instructions say their rows, which stand in a body for the instruction.
-use Rattle.std.proofs.Common.{◌≡◌, ℕ, ◌+◌, ◌<◌, true, not, ◌&&◌, eqb, List, [], ◌∷◌, ◌++◌, map, None, refl, subst, ap, ◌∙◌, append_assoc, arith}
+use Rattle.std.proofs.Common.{◌≡◌, ℕ, ◌<◌, Bool, true, false, not, ◌&&◌, eqb, List, [], ◌∷◌, ◌++◌, map, None, refl, sym, subst, ap, append_assoc, arith}
 use Rattle.std.specs.Prelude.{ℤ, nat_le, int_lt}
 use Rattle.std.specs.List.{list_all}
 use Rattle.std.specs.Str.{is_utf8}
-use Rattle.std.proofs.lemmas.Bool.{and_parts, leb-true, not-true}
+use Rattle.std.proofs.lemmas.Bool.{and_from, and_parts, leb-true, not-true}
+use Rattle.std.proofs.lemmas.Int.{ints}
 use Rattle.descriptors.specs.ClassName.{is_class_name}
 use Rattle.descriptors.specs.Spelling.{field_spelling, method_spelling}
 use Rattle.jasmin_words.specs.Lexing.{fits}
 use Rattle.jasmin_words.specs.Names.{is_member_name}
 use Rattle.jasmin_text.specs.Canonical.{label_text, default_line, case_line, instruction_lines}
 use Rattle.jasmin_text.specs.Spellable.{is_int, is_short, is_local, is_element_type, is_type, is_field_type, is_method_type, is_field_reference, is_method_reference, is_instruction, rises_from, rises}
-use Rattle.jasmin_text.specs.Grammar.{Row, InstructionRow, TableRow, LookupRow, TargetRow, CaseRow, DefaultRow, Body, with_case, sorted, IsBody, operation, table, lookup}
+use Rattle.jasmin_text.specs.Grammar.{Row, InstructionRow, TableRow, LookupRow, TargetRow, CaseRow, DefaultRow, Body, with_instruction, Cases, with_case, lacks_key, AreSorted, none, more, IsBody, operation, table, lookup}
 use Rattle.jasmin_text.specs.Grammar as grammar
 use Rattle.jasmin_text.specs.declared.class_text.Constant.TheVariants as constant
 use Rattle.jasmin_text.specs.declared.instruction.Instruction.{Instruction}
@@ -103,24 +104,61 @@ instruction_are count (instruction.TypeUse t (reference.Array a)) less h =
 
 -- ---- in a body
 
+lt_asym : (x y : ℤ) → int_lt x y ≡ true → int_lt y x ≡ false
+lt_asym x y h = by (int_lt y x) refl
+  where
+    by : (t : Bool) → int_lt y x ≡ t → t ≡ false
+    by true e = absurd (omega (arith, ints))
+    by false e = refl
+
+lt_trans : (x y z : ℤ) → int_lt x y ≡ true → int_lt y z ≡ true → int_lt x z ≡ true
+lt_trans x y z h k = by (int_lt x z) refl
+  where
+    by : (t : Bool) → int_lt x z ≡ t → t ≡ true
+    by true e = refl
+    by false e = absurd (omega (arith, ints))
+
+-- all keys are below this one
+abbrev are_below : ℤ → Cases → Bool
+are_below key [] = true
+are_below key (c ∷ cs) = int_lt c.0 key && are_below key cs
+
+put_last : (c : ℤ × List ℕ) (cs : Cases) → are_below c.0 cs ≡ true → (lacks_key c.0 cs ≡ true) × (with_case c cs ≡ cs ++ c ∷ [])
+put_last c [] h = (refl, refl)
+put_last c (d ∷ ds) h =
+    let p = and_parts (int_lt d.0 c.0) (are_below c.0 ds) h in
+    let q = put_last c ds p.1 in
+    let back = lt_asym d.0 c.0 p.0 in
+    (rw (back, p.0) q.0, rw back (ap (λ (l : Cases). d ∷ l) q.1))
+
+still_below : (c : ℤ × List ℕ) (key : ℤ) (cs : Cases) → are_below c.0 cs ≡ true → int_lt c.0 key ≡ true → are_below key (cs ++ c ∷ []) ≡ true
+still_below c key [] h less = rw less refl
+still_below c key (d ∷ ds) h less =
+    let p = and_parts (int_lt d.0 c.0) (are_below c.0 ds) h in
+    and_from (int_lt d.0 key) (are_below key (ds ++ c ∷ [])) (lt_trans d.0 c.0 key p.0 less) (still_below c key ds p.1 less)
+
+-- one case more, behind all that stand
+put_behind : (before : Cases) (c : ℤ × List ℕ) (cs all : Cases) → are_below c.0 before ≡ true → AreSorted (before ++ c ∷ []) cs all → AreSorted before (c ∷ cs) all
+put_behind before c cs all below h = let last = put_last c before below in more last.0 (subst (λ (s : Cases). AreSorted s cs all) (sym last.1) h)
+
 -- rising keys stand in their order
-sorted_from : (c : ℤ × ℕ) (cs : List (ℤ × ℕ)) → rises_from c.0 cs ≡ true → sorted (map case_by_label (c ∷ cs)) ≡ map case_by_label (c ∷ cs)
-sorted_from c [] h = refl
-sorted_from c (d ∷ ds) h =
+sorted_from : (before : Cases) (c : ℤ × ℕ) (cs : List (ℤ × ℕ)) → are_below c.0 before ≡ true → rises_from c.0 cs ≡ true → AreSorted before (map case_by_label (c ∷ cs)) (before ++ map case_by_label (c ∷ cs))
+sorted_from before c [] below h = put_behind before (case_by_label c) [] _ below none
+sorted_from before c (d ∷ ds) below h =
     let p = and_parts (int_lt c.0 d.0) (rises_from d.0 ds) h in
-    ap (with_case (case_by_label c)) (sorted_from d ds p.1) ∙ rw p.0 refl
+    put_behind before (case_by_label c) (map case_by_label (d ∷ ds)) _ below
+    (subst (AreSorted (before ++ case_by_label c ∷ []) (map case_by_label (d ∷ ds))) (append_assoc before (case_by_label c ∷ []) (map case_by_label (d ∷ ds)))
+    (sorted_from (before ++ case_by_label c ∷ []) d ds (still_below (case_by_label c) d.0 before below p.0) p.1))
 
-sorted_same : (cs : List (ℤ × ℕ)) → rises cs ≡ true → sorted (map case_by_label cs) ≡ map case_by_label cs
-sorted_same [] h = refl
-sorted_same (c ∷ cs) h = sorted_from c cs h
+sorted_same : (cs : List (ℤ × ℕ)) → rises cs ≡ true → AreSorted [] (map case_by_label cs) (map case_by_label cs)
+sorted_same [] h = none
+sorted_same (c ∷ cs) h = sorted_from [] c cs refl h
 
-pub in_body : (count place : ℕ) (i : Instruction ℕ) (rest : List Row) (b : Body) → is_instruction count i ≡ true → IsBody (place + 1) rest b
-    → IsBody place (instruction_rows i ++ rest) (record b { instructions = by_label i ∷ b.instructions })
+pub in_body : (count : ℕ) (i : Instruction ℕ) (rest : List Row) (b c : Body) → is_instruction count i ≡ true → IsBody (with_instruction b (by_label i)) rest c → IsBody b (instruction_rows i ++ rest) c
 unfolding is_instruction
-in_body count place (instruction.TableSwitch low places default) rest b h k =
+in_body count (instruction.TableSwitch low places default) rest b c h k =
     table (map label_text places) (label_text default) rest (append_assoc (map TargetRow (map label_text places)) (DefaultRow (label_text default) ∷ []) rest) tt k
-in_body count place (instruction.LookupSwitch cases default) rest b h k =
+in_body count (instruction.LookupSwitch cases default) rest b c h k =
     let p = three (list_all (λ c. is_int c.0 && nat_le c.1 count) cases) (rises cases) (nat_le default count) h in
-    subst (λ (cs : List (ℤ × List ℕ)). IsBody place (instruction_rows (instruction.LookupSwitch cases default) ++ rest) (record b { instructions = instruction.LookupSwitch cs (label_text default) ∷ b.instructions })) (sorted_same cases p.1)
-    (lookup (map case_by_label cases) (label_text default) rest (append_assoc (map grammar.case_row (map case_by_label cases)) (DefaultRow (label_text default) ∷ []) rest) k)
-in_body count place other rest b h k = operation k
+    lookup (map case_by_label cases) (map case_by_label cases) (label_text default) rest (append_assoc (map grammar.case_row (map case_by_label cases)) (DefaultRow (label_text default) ∷ []) rest) (sorted_same cases p.1) k
+in_body count other rest b c h k = operation k

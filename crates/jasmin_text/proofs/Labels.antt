@@ -1,12 +1,13 @@
 -- The labels of places: each place has its own, and a place that is named is found by its label.
-use Rattle.std.proofs.Common.{◌≡◌, ℕ, ◌+◌, ◌<◌, ◌≤◌, Bool, true, false, eqb, List, [], ◌∷◌, ◌++◌, length, Some, None, inl, inr, refl, sym, subst, ap, ◌∙◌, arith}
+use Rattle.std.proofs.Common.{◌≡◌, ℕ, ◌+◌, ◌<◌, ◌≤◌, Bool, true, false, cond, eqb, List, [], ◌∷◌, ◌++◌, length, Some, None, inl, inr, refl, sym, subst, ap, ◌∙◌, arith}
 use Rattle.std.specs.Fmt.{decimal}
 use Rattle.std.specs.Str.Parse.{digits_value}
 use Rattle.std.proofs.lemmas.Bool.{and_from, eq-eqb, cases_eq, false_from_ne_true}
+use Rattle.std.proofs.lemmas.List.{append-nil}
 use Rattle.std.proofs.lemmas.Fmt.{decimal_is_IsNumeral}
 use Rattle.jasmin_words.specs.Names.{same_bytes}
 use Rattle.jasmin_text.specs.Canonical.{label_text, is_named}
-use Rattle.jasmin_text.specs.Grammar.{place_of, are_distinct}
+use Rattle.jasmin_text.specs.Grammar.{place_of}
 use Rattle.jasmin_text.specs.declared.instruction.Instruction.{Instruction}
 use Rattle.jasmin_text.proofs.WordBytes.{same_is}
 
@@ -44,11 +45,6 @@ here : (b : Bool) (place : ℕ) (rest : List (List ℕ × ℕ)) → b ≡ true �
 here true place rest e = rw (same_self (label_text place)) refl
 here false place rest e = absurd cc
 
-not_behind : (places : List ℕ) (place : ℕ) (is : List (Instruction ℕ)) (p : ℕ) → p < place → place + length is < 65536 → place_of (labels_from places place is) (label_text p) ≡ None
-not_behind places place [] p less fit = passed (is_named places place) place p [] (omega arith) (omega arith) (λ e. omega arith)
-not_behind places place (i ∷ is) p less fit =
-    passed (is_named places place) place p (labels_from places (place + 1) is) (omega arith) (omega arith) (λ e. omega arith) ∙ not_behind places (place + 1) is p (omega arith) (omega arith)
-
 abbrev Finds : List ℕ → ℕ → List (Instruction ℕ) → ℕ → Type 0
 Finds places place is p = place_of (labels_from places place is) (label_text p) ≡ Some p
 
@@ -63,11 +59,19 @@ found places place (i ∷ is) p n low high fit = elim (cases_eq p place) as (λ 
       passed (is_named places place) place p (labels_from places (place + 1) is) (omega arith) (omega arith) other ∙ found places (place + 1) is p n low_then (omega arith) (omega arith)
 ]
 
-one_distinct : (b : Bool) (place : ℕ) (rest : List (List ℕ × ℕ)) → place_of rest (label_text place) ≡ None → are_distinct rest ≡ true → are_distinct (labels_if b place ++ rest) ≡ true
-one_distinct true place rest n d = rw (n, d) refl
-one_distinct false place rest n d = d
+-- the labels of places from this one on don't stand there yet
+abbrev pub IsNewFrom : ℕ → List (List ℕ × ℕ) → Type 0
+IsNewFrom place labels = (p : ℕ) → place ≤ p → p < 65536 → place_of labels (label_text p) ≡ None
 
-pub distinct : (places : List ℕ) (place : ℕ) (is : List (Instruction ℕ)) → place + length is < 65536 → are_distinct (labels_from places place is) ≡ true
-distinct places place [] fit = one_distinct (is_named places place) place [] refl refl
-distinct places place (i ∷ is) fit =
-    one_distinct (is_named places place) place (labels_from places (place + 1) is) (not_behind places (place + 1) is place (omega arith) (omega arith)) (distinct places (place + 1) is (omega arith))
+behind : (labels : List (List ℕ × ℕ)) (place p : ℕ) → p < 65536 → place < 65536 → (p ≡ place → ⊥) → place_of labels (label_text p) ≡ None → place_of (labels ++ (label_text place, place) ∷ []) (label_text p) ≡ None
+behind [] place p h k n e = rw (other_label p place h k n) refl
+behind (l ∷ labels) place p h k n e = by (same_bytes (label_text p) l.0) (behind labels place p h k n) e
+  where
+    by : (t : Bool) → (place_of labels (label_text p) ≡ None → place_of (labels ++ (label_text place, place) ∷ []) (label_text p) ≡ None)
+        → cond t (Some l.1) (place_of labels (label_text p)) ≡ None → cond t (Some l.1) (place_of (labels ++ (label_text place, place) ∷ []) (label_text p)) ≡ None
+    by true rest e = absurd cc
+    by false rest e = rest e
+
+pub new_behind : (b : Bool) (place : ℕ) (labels : List (List ℕ × ℕ)) → place < 65536 → IsNewFrom place labels → IsNewFrom (place + 1) (labels ++ labels_if b place)
+new_behind true place labels less new p low high = behind labels place p high less (λ e. omega arith) (new p (omega arith) high)
+new_behind false place labels less new p low high = subst (λ (l : List (List ℕ × ℕ)). place_of l (label_text p) ≡ None) (sym (append-nil labels)) (new p (omega arith) high)

@@ -1,6 +1,6 @@
 -- Which lines spell which class: the file form of the Jasmin user guide. "Own choice" marks this project's own
 -- choice (docs/JASMIN.md), where the form is told in words.
-use Rattle.std.specs.Prelude.{◌≡◌, ℕ, ◌+◌, Bool, true, false, not, ◌&&◌, ◌==◌, List, [], ◌∷◌, ◌++◌, length, map, Option, Some, None, is_some, ℤ, pos, ◌+ℤ◌, int_lt, int_le, neg_ℤ, if◌then◌else◌, codes}
+use Rattle.std.specs.Prelude.{◌≡◌, ℕ, ◌+◌, Bool, true, false, ◌&&◌, ◌||◌, ◌==◌, List, [], ◌∷◌, ◌++◌, length, map, Option, Some, None, ℤ, pos, ◌+ℤ◌, int_lt, int_le, neg_ℤ, if◌then◌else◌, codes}
 use Rattle.descriptors.specs.ClassName.{IsClassName}
 use Rattle.descriptors.specs.Signature.{Signature}
 use Rattle.descriptors.specs.Spelling.{field_spelling, method_spelling, IsFieldType, IsMethodType}
@@ -56,25 +56,24 @@ abbrev pub is_taken_in : AccessWord → Bool
 is_taken_in word.LeftOut = false
 is_taken_in other = true
 
--- access words, in any order; own choice: any of them may stand before any name, and some say nothing
-pub data IsAccessBy (says : List ℕ → Option AccessWord) : List Item → Access → Type 0 where
-  none : IsAccessBy says [] no_access
-  more : {w : List ℕ} {a : AccessWord} {rest : List Item} {access : Access} → says w ≡ Some a → is_taken_in a ≡ true → IsAccessBy says rest access
-      → IsAccessBy says (Word w ∷ rest) (with_word a access)
+-- access words, in any order, behind those that stand already; own choice: any of them may stand before any name, and some say nothing
+pub data IsAccessBy (says : List ℕ → Option AccessWord) : Access → List Item → Access → Type 0 where
+  none : {a : Access} → IsAccessBy says a [] a
+  more : {w : List ℕ} {k : AccessWord} {rest : List Item} {a b : Access} → says w ≡ Some k → is_taken_in k ≡ true → IsAccessBy says (with_word k a) rest b → IsAccessBy says a (Word w ∷ rest) b
 
 -- behind .interface, where the word interface is no access word
 abbrev pub IsAccess : List Item → Access → Type 0
-IsAccess = IsAccessBy access_of
+IsAccess = IsAccessBy access_of no_access
 
 -- before the name of a field or a method, where the word interface is one that says nothing
 abbrev pub IsMemberAccess : List Item → Access → Type 0
-IsMemberAccess = IsAccessBy member_access_of
+IsMemberAccess = IsAccessBy member_access_of no_access
 
 -- behind .class the word interface makes an interface
-pub data IsClassAccess : List Item → ClassKind → Access → Type 0 where
-  none : IsClassAccess [] kind.Class no_access
-  more : {w : List ℕ} {a : AccessWord} {rest : List Item} {k : ClassKind} {access : Access} → access_of w ≡ Some a → is_taken_in a ≡ true → IsClassAccess rest k access → IsClassAccess (Word w ∷ rest) k (with_word a access)
-  interface : {rest : List Item} {k : ClassKind} {access : Access} → IsClassAccess rest k access → IsClassAccess (Word (codes "interface") ∷ rest) kind.Interface access
+pub data IsClassAccess : ClassKind → Access → List Item → ClassKind → Access → Type 0 where
+  none : {k : ClassKind} {a : Access} → IsClassAccess k a [] k a
+  more : {w : List ℕ} {word : AccessWord} {rest : List Item} {k l : ClassKind} {a b : Access} → access_of w ≡ Some word → is_taken_in word ≡ true → IsClassAccess k (with_word word a) rest l b → IsClassAccess k a (Word w ∷ rest) l b
+  interface : {rest : List Item} {k l : ClassKind} {a b : Access} → IsClassAccess kind.Interface a rest l b → IsClassAccess k a (Word (codes "interface") ∷ rest) l b
 
 -- ---- operands
 
@@ -184,7 +183,7 @@ pub data IsRow : List Item → List Row → Type 0 where
   -- nothing behind the first word is looked at
   skipped : {w : List ℕ} {rest : List Item} → directive_at w ≡ Some directive.Skipped → IsRow (Word w ∷ rest) []
   -- behind .class the word interface is an access word and no name
-  class : {items : List Item} {k : ClassKind} {a : Access} {name : List ℕ} → (access : List Item) → items ≡ access ++ Word name ∷ [] → IsClassAccess access k a → IsClassName name
+  class : {items : List Item} {k : ClassKind} {a : Access} {name : List ℕ} → (access : List Item) → items ≡ access ++ Word name ∷ [] → IsClassAccess kind.Class no_access access k a → IsClassName name
       → same_bytes name (codes "interface") ≡ false → IsRow (Word (codes ".class") ∷ items) (ClassRow k a name ∷ [])
   interface : {items : List Item} {a : Access} {name : List ℕ} → (access : List Item) → items ≡ access ++ Word name ∷ [] → IsAccess access a → IsClassName name
       → IsRow (Word (codes ".interface") ∷ items) (ClassRow kind.Interface a name ∷ [])
@@ -221,66 +220,73 @@ pub record Catch : Type 0 where
   pub to : List ℕ
   pub handler : List ℕ
 
--- What stands in a method, with labels as targets.
+-- What stands in a method so far, with labels as targets.
 pub record Body : Type 0 where
-  pub stacks : List ℕ
-  pub locals : List ℕ
+  pub stack : ℕ
+  pub locals : ℕ
   pub labels : List (List ℕ × ℕ)
   pub catches : List Catch
   pub instructions : List (Instruction (List ℕ))
 
+-- limits that no line gives are the most: own choice
 abbrev pub empty_body : Body
-empty_body = record { stacks = []; locals = []; labels = []; catches = []; instructions = [] }
+empty_body = record { stack = 1024; locals = 1024; labels = []; catches = []; instructions = [] }
+
+abbrev pub with_instruction : Body → Instruction (List ℕ) → Body
+with_instruction b i = record b { instructions = b.instructions ++ i ∷ [] }
+
+-- the place of a label
+abbrev pub place_of : List (List ℕ × ℕ) → List ℕ → Option ℕ
+place_of labels l = find_row l labels
 
 -- the last key of a tableswitch, where it is given, fits the number of labels; own choice: no label is needed
 abbrev pub FitsHigh : ℤ → Option ℤ → ℕ → Type 0
 FitsHigh low None count = Unit {0}
 FitsHigh low (Some high) count = high +ℤ pos 1 ≡ low +ℤ pos count
 
+abbrev pub Cases : Type 0
+Cases = List (ℤ × List ℕ)
+
 abbrev pub case_row : ℤ × List ℕ → Row
 case_row c = CaseRow c.0 c.1
 
 -- a case at its place among those with rising keys
-abbrev pub with_case : {L : Type 0} → ℤ × L → List (ℤ × L) → List (ℤ × L)
+abbrev pub with_case : ℤ × List ℕ → Cases → Cases
 with_case c [] = c ∷ []
 with_case c (d ∷ ds) = if int_lt c.0 d.0 then c ∷ d ∷ ds else d ∷ with_case c ds
 
--- the keys may stand in any order
-abbrev pub sorted : {L : Type 0} → List (ℤ × L) → List (ℤ × L)
-sorted [] = []
-sorted (c ∷ cs) = with_case c (sorted cs)
+-- no case has this key
+abbrev pub lacks_key : ℤ → Cases → Bool
+lacks_key key [] = true
+lacks_key key (c ∷ cs) = (int_lt key c.0 || int_lt c.0 key) && lacks_key key cs
 
--- what stands in a method from a place on
-pub data IsBody : ℕ → List Row → Body → Type 0 where
-  none : {place : ℕ} → IsBody place [] empty_body
-  stack : {place n : ℕ} {rows : List Row} {b : Body} → IsBody place rows b → IsBody place (StackRow n ∷ rows) (record b { stacks = n ∷ b.stacks })
-  locals : {place n : ℕ} {rows : List Row} {b : Body} → IsBody place rows b → IsBody place (LocalsRow n ∷ rows) (record b { locals = n ∷ b.locals })
-  catch : {place : ℕ} {class : Option (List ℕ)} {from to using : List ℕ} {rows : List Row} {b : Body} → IsBody place rows b
-      → IsBody place (CatchRow class from to using ∷ rows) (record b { catches = record { class = class; from = from; to = to; handler = using } ∷ b.catches })
-  label : {place : ℕ} {l : List ℕ} {rows : List Row} {b : Body} → IsBody place rows b → IsBody place (LabelRow l ∷ rows) (record b { labels = (l, place) ∷ b.labels })
-  operation : {place : ℕ} {i : Instruction (List ℕ)} {rows : List Row} {b : Body} → IsBody (place + 1) rows b → IsBody place (InstructionRow i ∷ rows) (record b { instructions = i ∷ b.instructions })
-  table : {place : ℕ} {low : ℤ} {high : Option ℤ} {rows : List Row} {b : Body} → (labels : List (List ℕ)) (default : List ℕ) (rest : List Row) → rows ≡ map TargetRow labels ++ DefaultRow default ∷ rest
-      → FitsHigh low high (length labels) → IsBody (place + 1) rest b → IsBody place (TableRow low high ∷ rows) (record b { instructions = instruction.TableSwitch low labels default ∷ b.instructions })
-  lookup : {place : ℕ} {rows : List Row} {b : Body} → (cases : List (ℤ × List ℕ)) (default : List ℕ) (rest : List Row) → rows ≡ map case_row cases ++ DefaultRow default ∷ rest
-      → IsBody (place + 1) rest b → IsBody place (LookupRow ∷ rows) (record b { instructions = instruction.LookupSwitch (sorted cases) default ∷ b.instructions })
+-- cases, each at its place among those before it: the keys may stand in any order, and none stands twice
+pub data AreSorted : Cases → Cases → Cases → Type 0 where
+  none : {sorted : Cases} → AreSorted sorted [] sorted
+  more : {c : ℤ × List ℕ} {cs sorted all : Cases} → lacks_key c.0 sorted ≡ true → AreSorted (with_case c sorted) cs all → AreSorted sorted (c ∷ cs) all
 
--- the place of a label
-abbrev pub place_of : List (List ℕ × ℕ) → List ℕ → Option ℕ
-place_of labels l = find_row l labels
-
--- no label stands twice in a method
-abbrev pub are_distinct : List (List ℕ × ℕ) → Bool
-are_distinct [] = true
-are_distinct (l ∷ ls) = not (is_some (place_of ls l.0)) && are_distinct ls
+-- what rows add to what stands in a method: the last limit counts, and no label stands twice
+pub data IsBody : Body → List Row → Body → Type 0 where
+  none : {b : Body} → IsBody b [] b
+  stack : {n : ℕ} {rows : List Row} {b c : Body} → IsBody (record b { stack = n }) rows c → IsBody b (StackRow n ∷ rows) c
+  locals : {n : ℕ} {rows : List Row} {b c : Body} → IsBody (record b { locals = n }) rows c → IsBody b (LocalsRow n ∷ rows) c
+  catch : {class : Option (List ℕ)} {from to using : List ℕ} {rows : List Row} {b c : Body} → IsBody (record b { catches = b.catches ++ record { class = class; from = from; to = to; handler = using } ∷ [] }) rows c
+      → IsBody b (CatchRow class from to using ∷ rows) c
+  label : {l : List ℕ} {rows : List Row} {b c : Body} → place_of b.labels l ≡ None → IsBody (record b { labels = b.labels ++ (l, length b.instructions) ∷ [] }) rows c → IsBody b (LabelRow l ∷ rows) c
+  operation : {i : Instruction (List ℕ)} {rows : List Row} {b c : Body} → IsBody (with_instruction b i) rows c → IsBody b (InstructionRow i ∷ rows) c
+  table : {low : ℤ} {high : Option ℤ} {rows : List Row} {b c : Body} → (labels : List (List ℕ)) (default : List ℕ) (rest : List Row) → rows ≡ map TargetRow labels ++ DefaultRow default ∷ rest
+      → FitsHigh low high (length labels) → IsBody (with_instruction b (instruction.TableSwitch low labels default)) rest c → IsBody b (TableRow low high ∷ rows) c
+  lookup : {rows : List Row} {b c : Body} → (cases sorted : Cases) (default : List ℕ) (rest : List Row) → rows ≡ map case_row cases ++ DefaultRow default ∷ rest
+      → AreSorted [] cases sorted → IsBody (with_instruction b (instruction.LookupSwitch sorted default)) rest c → IsBody b (LookupRow ∷ rows) c
 
 -- the places of labels
 pub data ArePlaces (labels : List (List ℕ × ℕ)) : List (List ℕ) → List ℕ → Type 0 where
   none : ArePlaces labels [] []
   more : {l : List ℕ} {place : ℕ} {ls : List (List ℕ)} {places : List ℕ} → place_of labels l ≡ Some place → ArePlaces labels ls places → ArePlaces labels (l ∷ ls) (place ∷ places)
 
-pub data AreCases (labels : List (List ℕ × ℕ)) : List (ℤ × List ℕ) → List (ℤ × ℕ) → Type 0 where
+pub data AreCases (labels : List (List ℕ × ℕ)) : Cases → List (ℤ × ℕ) → Type 0 where
   none : AreCases labels [] []
-  more : {key : ℤ} {l : List ℕ} {place : ℕ} {cs : List (ℤ × List ℕ)} {ds : List (ℤ × ℕ)} → place_of labels l ≡ Some place → AreCases labels cs ds → AreCases labels ((key, l) ∷ cs) ((key, place) ∷ ds)
+  more : {key : ℤ} {l : List ℕ} {place : ℕ} {cs : Cases} {ds : List (ℤ × ℕ)} → place_of labels l ≡ Some place → AreCases labels cs ds → AreCases labels ((key, l) ∷ cs) ((key, place) ∷ ds)
 
 -- an instruction with places for its labels
 pub data IsPlaced (labels : List (List ℕ × ℕ)) : Instruction (List ℕ) → Instruction ℕ → Type 0 where
@@ -290,7 +296,7 @@ pub data IsPlaced (labels : List (List ℕ × ℕ)) : Instruction (List ℕ) →
   increment : {n : ℕ} {by : ℤ} → IsPlaced labels (instruction.Increment n by) (instruction.Increment n by)
   jump : {j : _} {l : List ℕ} {place : ℕ} → place_of labels l ≡ Some place → IsPlaced labels (instruction.Jump j l) (instruction.Jump j place)
   table : {low : ℤ} {ls : List (List ℕ)} {d : List ℕ} {places : List ℕ} {place : ℕ} → ArePlaces labels ls places → place_of labels d ≡ Some place → IsPlaced labels (instruction.TableSwitch low ls d) (instruction.TableSwitch low places place)
-  lookup : {cs : List (ℤ × List ℕ)} {d : List ℕ} {cases : List (ℤ × ℕ)} {place : ℕ} → AreCases labels cs cases → place_of labels d ≡ Some place → IsPlaced labels (instruction.LookupSwitch cs d) (instruction.LookupSwitch cases place)
+  lookup : {cs : Cases} {d : List ℕ} {cases : List (ℤ × ℕ)} {place : ℕ} → AreCases labels cs cases → place_of labels d ≡ Some place → IsPlaced labels (instruction.LookupSwitch cs d) (instruction.LookupSwitch cases place)
   field : {f : _} {r : _} → IsPlaced labels (instruction.Field f r) (instruction.Field f r)
   call : {c : _} {r : _} → IsPlaced labels (instruction.Call c r) (instruction.Call c r)
   interface : {r : _} → IsPlaced labels (instruction.CallInterface r) (instruction.CallInterface r)
@@ -312,16 +318,9 @@ pub data AreHandlers (labels : List (List ℕ × ℕ)) : List Catch → List Han
   none : AreHandlers labels [] []
   more : {c : Catch} {h : Handler} {cs : List Catch} {hs : List Handler} → IsPlacedRow labels c h → AreHandlers labels cs hs → AreHandlers labels (c ∷ cs) (h ∷ hs)
 
--- the last number, and where there is none the most: own choice
-abbrev pub last_limit : List ℕ → ℕ
-last_limit [] = 1024
-last_limit (n ∷ []) = n
-last_limit (n ∷ m ∷ ns) = last_limit (m ∷ ns)
-
 pub record IsCodeOf (b : Body) (code : Code) : Type 0 where
-  pub stack : code.stack ≡ last_limit b.stacks
-  pub locals : code.locals ≡ last_limit b.locals
-  pub distinct : are_distinct b.labels ≡ true
+  pub stack : code.stack ≡ b.stack
+  pub locals : code.locals ≡ b.locals
   pub handlers : AreHandlers b.labels b.catches code.handlers
   pub instructions : ArePlaced b.labels b.instructions code.instructions
 
@@ -348,7 +347,7 @@ pub data AreMembers : List Row → List Field → List Method → Type 0 where
   none : AreMembers [] [] []
   field : {f : Field} {rows : List Row} {fields : List Field} {methods : List Method} → AreMembers rows fields methods → AreMembers (FieldRow f ∷ rows) (f ∷ fields) methods
   method : {a : Access} {name : List ℕ} {type : Signature} {rows : List Row} {code : Option Code} {fields : List Field} {methods : List Method} → (body rest : List Row) (b : Body) → rows ≡ body ++ EndRow ∷ rest
-      → IsBody 0 body b → IsCodeOrNone b code → AreMembers rest fields methods
+      → IsBody empty_body body b → IsCodeOrNone b code → AreMembers rest fields methods
       → AreMembers (MethodRow a name type ∷ rows) fields (record { access = a; name = name; method_type = type; code = code } ∷ methods)
 
 -- absent, the superclass is java/lang/Object
