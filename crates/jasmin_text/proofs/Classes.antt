@@ -1,5 +1,5 @@
 -- The canonical spelling of a class text is a file that spells it.
-use Rattle.std.proofs.Common.{◌≡◌, ℕ, ◌-◌, Bool, true, not, ◌&&◌, List, [], ◌∷◌, ◌++◌, map, length, Option, Some, None, cond, refl, sym, subst, append_assoc, false}
+use Rattle.std.proofs.Common.{◌≡◌, ℕ, ◌-◌, Bool, true, not, ◌&&◌, List, [], ◌∷◌, ◌++◌, map, length, Option, Some, None, cond, refl, sym, subst, append_assoc, append-nil, false}
 use Rattle.std.specs.Prelude.{nat_le, codes}
 use Rattle.std.specs.List.{list_all, flat_map}
 use Rattle.std.proofs.lemmas.Bool.{and_parts}
@@ -11,7 +11,7 @@ use Rattle.jasmin_text.specs.Keywords.{spelled}
 use Rattle.jasmin_text.specs.Lines.{lines_of}
 use Rattle.jasmin_text.specs.Canonical.{class_line, super_line, implements_line, field_line, method_line, optional_code_lines, method_lines, class_lines, canonical_text}
 use Rattle.jasmin_text.specs.Spellable.{is_class_word, is_method_type, is_optional_code, is_initializer, is_code, is_field, is_method, is_taken, is_spellable, IsSpellable}
-use Rattle.jasmin_text.specs.Grammar.{Row, ClassRow, SuperRow, ImplementsRow, FieldRow, MethodRow, EndRow, Body, empty_body, IsBody, IsCodeOrNone, IsHeader, AreMembers, IsClass, Spells, none, super, implements, field, method}
+use Rattle.jasmin_text.specs.Grammar.{Row, ClassRow, SuperRow, ImplementsRow, FieldRow, MethodRow, EndRow, Body, empty_body, IsBody, IsCodeOrNone, Members, IsHeader, AreMembers, IsClass, Spells, none, super, implements, field, method}
 use Rattle.jasmin_text.specs.declared.keyword.Keyword.TheVariants as keyword
 use Rattle.jasmin_text.specs.declared.class_text.Code.{Code}
 use Rattle.jasmin_text.specs.declared.class_text.Field.{Field}
@@ -73,23 +73,25 @@ method_are m h =
     line_before (method_line m) (optional_code_lines m.code ++ spelled keyword.EndMethod ∷ []) (MethodRow m.access m.name m.method_type ∷ []) (optional_rows m.code ++ EndRow ∷ []) (method_row m good.name good.type good.fit)
     (lines_joined (optional_code_lines m.code) (spelled keyword.EndMethod ∷ []) (optional_rows m.code) (EndRow ∷ []) (optional_are m.access.is_abstract m.code good.code) (one_line (spelled keyword.EndMethod) EndRow end_row))
 
-methods_are : (ms : List Method) → list_all is_method ms ≡ true → AreMembers (flat_map method_rows ms) [] ms
-methods_are [] h = none
-methods_are (m ∷ ms) h =
-    let p = and_parts (is_method m) (list_all is_method ms) h in
-    let good = good_method m p.0 in
-    method (optional_rows m.code) (flat_map method_rows ms) (optional_body m.code) (append_assoc (optional_rows m.code) (EndRow ∷ []) (flat_map method_rows ms))
-    (optional_is_body m.access.is_abstract m.code good.code) (optional_is_code m.access.is_abstract m.code good.code) (methods_are ms p.1)
+methods_are : (ms : List Method) (m : Members) → list_all is_method ms ≡ true → AreMembers m (flat_map method_rows ms) (record m { methods = m.methods ++ ms })
+methods_are [] m h = subst (λ (l : List Method). AreMembers m [] (record m { methods = l })) (sym (append-nil m.methods)) none
+methods_are (x ∷ ms) m h =
+    let p = and_parts (is_method x) (list_all is_method ms) h in
+    let good = good_method x p.0 in
+    method (optional_rows x.code) (flat_map method_rows ms) (optional_body x.code) x.code (append_assoc (optional_rows x.code) (EndRow ∷ []) (flat_map method_rows ms))
+    (optional_is_body x.access.is_abstract x.code good.code) (optional_is_code x.access.is_abstract x.code good.code)
+    (subst (λ (l : List Method). AreMembers (record m { methods = m.methods ++ x ∷ [] }) (flat_map method_rows ms) (record m { methods = l })) (append_assoc m.methods (x ∷ []) ms) (methods_are ms (record m { methods = m.methods ++ x ∷ [] }) p.1))
 
 -- ---- fields and interfaces
 
-fields_are : (fs : List Field) (rows : List Row) (ms : List Method) → AreMembers rows [] ms → AreMembers (map FieldRow fs ++ rows) fs ms
-fields_are [] rows ms h = h
-fields_are (f ∷ fs) rows ms h = field (fields_are fs rows ms h)
+fields_are : (fs : List Field) (rows : List Row) (m n : Members) → AreMembers (record m { fields = m.fields ++ fs }) rows n → AreMembers m (map FieldRow fs ++ rows) n
+fields_are [] rows m n h = subst (λ (l : List Field). AreMembers (record m { fields = l }) rows n) (append-nil m.fields) h
+fields_are (f ∷ fs) rows m n h = field (fields_are fs rows (record m { fields = m.fields ++ f ∷ [] }) n (subst (λ (l : List Field). AreMembers (record m { fields = l }) rows n) (sym (append_assoc m.fields (f ∷ []) fs)) h))
 
-interfaces_are : (names : List (List ℕ)) → IsHeader (map ImplementsRow names) [] names
-interfaces_are [] = none
-interfaces_are (n ∷ ns) = implements (interfaces_are ns)
+interfaces_are : (names : List (List ℕ)) (rows : List Row) (m n : Members) → IsHeader m → AreMembers (record m { interfaces = m.interfaces ++ names }) rows n → AreMembers m (map ImplementsRow names ++ rows) n
+interfaces_are [] rows m n head h = subst (λ (l : List (List ℕ)). AreMembers (record m { interfaces = l }) rows n) (append-nil m.interfaces) h
+interfaces_are (name ∷ names) rows m n head h =
+    implements head (interfaces_are names rows (record m { interfaces = m.interfaces ++ name ∷ [] }) n head (subst (λ (l : List (List ℕ)). AreMembers (record m { interfaces = l }) rows n) (sym (append_assoc m.interfaces (name ∷ []) names)) h))
 
 -- ---- classes
 
@@ -153,14 +155,14 @@ class_are c h =
 is_class : (c : ClassParts) → IsSpellable c → IsClass (class_rows c) c
 is_class c h =
     let good = good_class c h in
+    let before : Members = record { superclass = Some c.superclass; interfaces = c.interfaces; fields = []; methods = [] } in
     record {
-      header = header_rows c;
-      members = member_rows c;
-      supers = c.superclass ∷ [];
+      members = header_rows c ++ member_rows c;
+      given = Some c.superclass;
       parts = refl;
-      heads = super (interfaces_are c.interfaces);
+      are_members = super (refl, refl) refl (interfaces_are c.interfaces (member_rows c) (record before { interfaces = [] }) _ (refl, refl)
+      (fields_are c.fields (flat_map method_rows c.methods) before _ (methods_are c.methods (record before { fields = c.fields }) good.methods)));
       superclass = refl;
-      are_members = fields_are c.fields (flat_map method_rows c.methods) c.methods (methods_are c.methods good.methods);
       spellable = h;
     }
 

@@ -1,6 +1,6 @@
 -- Which lines spell which class: the file form of the Jasmin user guide. "Own choice" marks this project's own
 -- choice (docs/JASMIN.md), where the form is told in words.
-use Rattle.std.specs.Prelude.{◌≡◌, ℕ, ◌+◌, Bool, true, false, ◌&&◌, ◌||◌, ◌==◌, List, [], ◌∷◌, ◌++◌, length, map, Option, Some, None, ℤ, pos, ◌+ℤ◌, int_lt, int_le, neg_ℤ, if◌then◌else◌, codes}
+use Rattle.std.specs.Prelude.{◌≡◌, ℕ, ◌+◌, Bool, true, false, ◌&&◌, ◌||◌, ◌==◌, List, [], ◌∷◌, ◌++◌, length, map, Option, Some, None, unwrap_or, ℤ, pos, ◌+ℤ◌, int_lt, int_le, neg_ℤ, if◌then◌else◌, codes}
 use Rattle.descriptors.specs.ClassName.{IsClassName}
 use Rattle.descriptors.specs.Signature.{Signature}
 use Rattle.descriptors.specs.Spelling.{field_spelling, method_spelling, IsFieldType, IsMethodType}
@@ -336,34 +336,37 @@ IsCodeOrNone b (Some code) = IsCodeOf b code
 
 -- ---- the class
 
--- superclass and interfaces, before the first field or method; at most one superclass
-pub data IsHeader : List Row → List (List ℕ) → List (List ℕ) → Type 0 where
-  none : IsHeader [] [] []
-  super : {name : List ℕ} {rows : List Row} {interfaces : List (List ℕ)} → IsHeader rows [] interfaces → IsHeader (SuperRow name ∷ rows) (name ∷ []) interfaces
-  implements : {name : List ℕ} {rows : List Row} {supers interfaces : List (List ℕ)} → IsHeader rows supers interfaces → IsHeader (ImplementsRow name ∷ rows) supers (name ∷ interfaces)
+-- What stands in a class so far, behind the line that names it.
+pub record Members : Type 0 where
+  pub superclass : Option (List ℕ)
+  pub interfaces : List (List ℕ)
+  pub fields : List Field
+  pub methods : List Method
 
--- fields and methods, mixed
-pub data AreMembers : List Row → List Field → List Method → Type 0 where
-  none : AreMembers [] [] []
-  field : {f : Field} {rows : List Row} {fields : List Field} {methods : List Method} → AreMembers rows fields methods → AreMembers (FieldRow f ∷ rows) (f ∷ fields) methods
-  method : {a : Access} {name : List ℕ} {type : Signature} {rows : List Row} {code : Option Code} {fields : List Field} {methods : List Method} → (body rest : List Row) (b : Body) → rows ≡ body ++ EndRow ∷ rest
-      → IsBody empty_body body b → IsCodeOrNone b code → AreMembers rest fields methods
-      → AreMembers (MethodRow a name type ∷ rows) fields (record { access = a; name = name; method_type = type; code = code } ∷ methods)
+abbrev pub no_members : Members
+no_members = record { superclass = None; interfaces = []; fields = []; methods = [] }
 
--- absent, the superclass is java/lang/Object
-abbrev pub superclass_of : List (List ℕ) → List ℕ
-superclass_of [] = codes "java/lang/Object"
-superclass_of (name ∷ names) = name
+-- before the first field or method
+abbrev pub IsHeader : Members → Type 0
+IsHeader m = (m.fields ≡ []) × (m.methods ≡ [])
 
--- the rows of a class
+-- what rows add to what stands in a class: at most one superclass; fields and methods are mixed
+pub data AreMembers : Members → List Row → Members → Type 0 where
+  none : {m : Members} → AreMembers m [] m
+  super : {name : List ℕ} {rows : List Row} {m n : Members} → IsHeader m → m.superclass ≡ None → AreMembers (record m { superclass = Some name }) rows n → AreMembers m (SuperRow name ∷ rows) n
+  implements : {name : List ℕ} {rows : List Row} {m n : Members} → IsHeader m → AreMembers (record m { interfaces = m.interfaces ++ name ∷ [] }) rows n → AreMembers m (ImplementsRow name ∷ rows) n
+  field : {f : Field} {rows : List Row} {m n : Members} → AreMembers (record m { fields = m.fields ++ f ∷ [] }) rows n → AreMembers m (FieldRow f ∷ rows) n
+  method : {a : Access} {name : List ℕ} {type : Signature} {rows : List Row} {m n : Members} → (body rest : List Row) (b : Body) (code : Option Code) → rows ≡ body ++ EndRow ∷ rest
+      → IsBody empty_body body b → IsCodeOrNone b code → AreMembers (record m { methods = m.methods ++ record { access = a; name = name; method_type = type; code = code } ∷ [] }) rest n
+      → AreMembers m (MethodRow a name type ∷ rows) n
+
+-- The rows of a class. Absent, the superclass is java/lang/Object.
 pub record IsClass (rows : List Row) (c : ClassParts) : Type 0 where
-  pub header : List Row
   pub members : List Row
-  pub supers : List (List ℕ)
-  pub parts : rows ≡ ClassRow c.kind c.access c.name ∷ (header ++ members)
-  pub heads : IsHeader header supers c.interfaces
-  pub superclass : c.superclass ≡ superclass_of supers
-  pub are_members : AreMembers members c.fields c.methods
+  pub given : Option (List ℕ)
+  pub parts : rows ≡ ClassRow c.kind c.access c.name ∷ members
+  pub are_members : AreMembers no_members members (record { superclass = given; interfaces = c.interfaces; fields = c.fields; methods = c.methods })
+  pub superclass : c.superclass ≡ unwrap_or given (codes "java/lang/Object")
   pub spellable : IsSpellable c
 
 -- The lines spell the class: each line says its rows, and the rows are those of the class.
