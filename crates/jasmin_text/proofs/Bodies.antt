@@ -6,7 +6,7 @@ use Rattle.std.proofs.lemmas.Bool.{and_parts, eq-eqb, or_cases, or_left, or_righ
 use Rattle.std.proofs.lemmas.List.{append-nil}
 use Rattle.jasmin_text.specs.Canonical.{label_text, label_line, handler_line, handler_places, instruction_lines, instruction_places, code_places, is_named, lines_if, place_lines, body_lines, stack_line, locals_line, code_lines}
 use Rattle.jasmin_text.specs.Spellable.{is_caught, is_handler, is_instruction}
-use Rattle.jasmin_text.specs.Grammar.{Row, StackRow, LocalsRow, CatchRow, LabelRow, Body, Catch, empty_body, IsBody, place_of, ArePlaces, AreCases, IsPlaced, ArePlaced, AreHandlers, IsCodeOf, none, more, stack, locals, catch, label, plain, pushes, local, increment, jump, table, lookup, field, call, interface, new, new_array, type_use}
+use Rattle.jasmin_text.specs.Grammar.{Row, StackRow, LocalsRow, CatchRow, LabelRow, Body, Catch, empty_body, IsBody, place_of, Each, IsPlaceOf, IsPlacedCase, IsPlaced, IsPlacedRow, IsCodeOf, none, more, stack, locals, catch, label, plain, pushes, local, increment, jump, table, lookup, field, call, interface, new, new_array, type_use}
 use Rattle.jasmin_text.specs.declared.class_text.Code.{Code}
 use Rattle.jasmin_text.specs.declared.class_text.Handler.{Handler}
 use Rattle.jasmin_text.specs.declared.instruction.Instruction.{Instruction}
@@ -98,13 +98,13 @@ named_later q ps p h = or_right (eqb q p) (is_named ps p) h
 abbrev AreFound : List (List ℕ × ℕ) → List ℕ → Type 0
 AreFound labels ps = (p : ℕ) → is_named ps p ≡ true → place_of labels (label_text p) ≡ Some p
 
-are_places : (labels : List (List ℕ × ℕ)) (ps : List ℕ) → AreFound labels ps → ArePlaces labels (map label_text ps) ps
+are_places : (labels : List (List ℕ × ℕ)) (ps : List ℕ) → AreFound labels ps → Each (IsPlaceOf labels) (map label_text ps) ps
 are_places labels [] f = none
 are_places labels (p ∷ ps) f = more (f p (named_first p ps)) (are_places labels ps (λ q e. f q (named_later p ps q e)))
 
-are_cases : (labels : List (List ℕ × ℕ)) (cs : List (ℤ × ℕ)) → AreFound labels (map (λ c. c.1) cs) → AreCases labels (map case_by_label cs) cs
+are_cases : (labels : List (List ℕ × ℕ)) (cs : List (ℤ × ℕ)) → AreFound labels (map (λ c. c.1) cs) → Each (IsPlacedCase labels) (map case_by_label cs) cs
 are_cases labels [] f = none
-are_cases labels (c ∷ cs) f = more (f c.1 (named_first c.1 (map (λ c. c.1) cs))) (are_cases labels cs (λ q e. f q (named_later c.1 (map (λ c. c.1) cs) q e)))
+are_cases labels (c ∷ cs) f = more (refl, f c.1 (named_first c.1 (map (λ c. c.1) cs))) (are_cases labels cs (λ q e. f q (named_later c.1 (map (λ c. c.1) cs) q e)))
 
 is_placed : (labels : List (List ℕ × ℕ)) (i : Instruction ℕ) → AreFound labels (instruction_places i) → IsPlaced labels (by_label i) i
 is_placed labels (instruction.Plain p) f = plain
@@ -123,7 +123,7 @@ is_placed labels (instruction.New name) f = new
 is_placed labels (instruction.NewArray b) f = new_array
 is_placed labels (instruction.TypeUse t r) f = type_use
 
-are_placed : (labels : List (List ℕ × ℕ)) (is : List (Instruction ℕ)) → AreFound labels (flat_map instruction_places is) → ArePlaced labels (map by_label is) is
+are_placed : (labels : List (List ℕ × ℕ)) (is : List (Instruction ℕ)) → AreFound labels (flat_map instruction_places is) → Each (IsPlaced labels) (map by_label is) is
 are_placed labels [] f = none
 are_placed labels (i ∷ is) f =
     more (is_placed labels i (λ p e. f p (named_front (instruction_places i) (flat_map instruction_places is) p e)))
@@ -151,7 +151,7 @@ catches_in_body [] rows b c h = subst (λ (l : List Catch). IsBody (record b { c
 catches_in_body (k ∷ cs) rows b c h =
     catch (catches_in_body cs rows (record b { catches = b.catches ++ k ∷ [] }) c (subst (λ (l : List Catch). IsBody (record b { catches = l }) rows c) (sym (append_assoc b.catches (k ∷ []) cs)) h))
 
-are_handlers : (labels : List (List ℕ × ℕ)) (hs : List Handler) → AreFound labels (flat_map handler_places hs) → AreHandlers labels (map catch_by_label hs) hs
+are_handlers : (labels : List (List ℕ × ℕ)) (hs : List Handler) → AreFound labels (flat_map handler_places hs) → Each (IsPlacedRow labels) (map catch_by_label hs) hs
 are_handlers labels [] f = none
 are_handlers labels (h ∷ hs) f =
     let g : AreFound labels (handler_places h) = λ p e. f p (named_front (handler_places h) (flat_map handler_places hs) p e) in

@@ -279,14 +279,16 @@ pub data IsBody : Body → List Row → Body → Type 0 where
   lookup : {rows : List Row} {b c : Body} → (cases sorted : Cases) (default : List ℕ) (rest : List Row) → rows ≡ map case_row cases ++ DefaultRow default ∷ rest
       → AreSorted [] cases sorted → IsBody (with_instruction b (instruction.LookupSwitch sorted default)) rest c → IsBody b (LookupRow ∷ rows) c
 
--- the places of labels
-pub data ArePlaces (labels : List (List ℕ × ℕ)) : List (List ℕ) → List ℕ → Type 0 where
-  none : ArePlaces labels [] []
-  more : {l : List ℕ} {place : ℕ} {ls : List (List ℕ)} {places : List ℕ} → place_of labels l ≡ Some place → ArePlaces labels ls places → ArePlaces labels (l ∷ ls) (place ∷ places)
+-- R holds of each two at the same place, and the lists are equally long
+pub data Each {A B : Type 0} (R : A → B → Type 0) : List A → List B → Type 0 where
+  none : Each R [] []
+  more : {x : A} {y : B} {xs : List A} {ys : List B} → R x y → Each R xs ys → Each R (x ∷ xs) (y ∷ ys)
 
-pub data AreCases (labels : List (List ℕ × ℕ)) : Cases → List (ℤ × ℕ) → Type 0 where
-  none : AreCases labels [] []
-  more : {key : ℤ} {l : List ℕ} {place : ℕ} {cs : Cases} {ds : List (ℤ × ℕ)} → place_of labels l ≡ Some place → AreCases labels cs ds → AreCases labels ((key, l) ∷ cs) ((key, place) ∷ ds)
+abbrev pub IsPlaceOf : List (List ℕ × ℕ) → List ℕ → ℕ → Type 0
+IsPlaceOf labels l place = place_of labels l ≡ Some place
+
+abbrev pub IsPlacedCase : List (List ℕ × ℕ) → ℤ × List ℕ → ℤ × ℕ → Type 0
+IsPlacedCase labels c d = (d.0 ≡ c.0) × IsPlaceOf labels c.1 d.1
 
 -- an instruction with places for its labels
 pub data IsPlaced (labels : List (List ℕ × ℕ)) : Instruction (List ℕ) → Instruction ℕ → Type 0 where
@@ -294,9 +296,9 @@ pub data IsPlaced (labels : List (List ℕ × ℕ)) : Instruction (List ℕ) →
   pushes : {c : Constant} → IsPlaced labels (instruction.Constant c) (instruction.Constant c)
   local : {l : _} {n : ℕ} → IsPlaced labels (instruction.Local l n) (instruction.Local l n)
   increment : {n : ℕ} {by : ℤ} → IsPlaced labels (instruction.Increment n by) (instruction.Increment n by)
-  jump : {j : _} {l : List ℕ} {place : ℕ} → place_of labels l ≡ Some place → IsPlaced labels (instruction.Jump j l) (instruction.Jump j place)
-  table : {low : ℤ} {ls : List (List ℕ)} {d : List ℕ} {places : List ℕ} {place : ℕ} → ArePlaces labels ls places → place_of labels d ≡ Some place → IsPlaced labels (instruction.TableSwitch low ls d) (instruction.TableSwitch low places place)
-  lookup : {cs : Cases} {d : List ℕ} {cases : List (ℤ × ℕ)} {place : ℕ} → AreCases labels cs cases → place_of labels d ≡ Some place → IsPlaced labels (instruction.LookupSwitch cs d) (instruction.LookupSwitch cases place)
+  jump : {j : _} {l : List ℕ} {place : ℕ} → IsPlaceOf labels l place → IsPlaced labels (instruction.Jump j l) (instruction.Jump j place)
+  table : {low : ℤ} {ls : List (List ℕ)} {d : List ℕ} {places : List ℕ} {place : ℕ} → Each (IsPlaceOf labels) ls places → IsPlaceOf labels d place → IsPlaced labels (instruction.TableSwitch low ls d) (instruction.TableSwitch low places place)
+  lookup : {cs : Cases} {d : List ℕ} {cases : List (ℤ × ℕ)} {place : ℕ} → Each (IsPlacedCase labels) cs cases → IsPlaceOf labels d place → IsPlaced labels (instruction.LookupSwitch cs d) (instruction.LookupSwitch cases place)
   field : {f : _} {r : _} → IsPlaced labels (instruction.Field f r) (instruction.Field f r)
   call : {c : _} {r : _} → IsPlaced labels (instruction.Call c r) (instruction.Call c r)
   interface : {r : _} → IsPlaced labels (instruction.CallInterface r) (instruction.CallInterface r)
@@ -304,25 +306,17 @@ pub data IsPlaced (labels : List (List ℕ × ℕ)) : Instruction (List ℕ) →
   new_array : {b : BaseType} → IsPlaced labels (instruction.NewArray b) (instruction.NewArray b)
   type_use : {t : _} {r : _} → IsPlaced labels (instruction.TypeUse t r) (instruction.TypeUse t r)
 
-pub data ArePlaced (labels : List (List ℕ × ℕ)) : List (Instruction (List ℕ)) → List (Instruction ℕ) → Type 0 where
-  none : ArePlaced labels [] []
-  more : {i : Instruction (List ℕ)} {j : Instruction ℕ} {is : List (Instruction (List ℕ))} {js : List (Instruction ℕ)} → IsPlaced labels i j → ArePlaced labels is js → ArePlaced labels (i ∷ is) (j ∷ js)
-
 pub record IsPlacedRow (labels : List (List ℕ × ℕ)) (c : Catch) (h : Handler) : Type 0 where
   pub class : h.class ≡ c.class
-  pub from : place_of labels c.from ≡ Some h.from
-  pub to : place_of labels c.to ≡ Some h.to
-  pub handler : place_of labels c.handler ≡ Some h.handler
-
-pub data AreHandlers (labels : List (List ℕ × ℕ)) : List Catch → List Handler → Type 0 where
-  none : AreHandlers labels [] []
-  more : {c : Catch} {h : Handler} {cs : List Catch} {hs : List Handler} → IsPlacedRow labels c h → AreHandlers labels cs hs → AreHandlers labels (c ∷ cs) (h ∷ hs)
+  pub from : IsPlaceOf labels c.from h.from
+  pub to : IsPlaceOf labels c.to h.to
+  pub handler : IsPlaceOf labels c.handler h.handler
 
 pub record IsCodeOf (b : Body) (code : Code) : Type 0 where
   pub stack : code.stack ≡ b.stack
   pub locals : code.locals ≡ b.locals
-  pub handlers : AreHandlers b.labels b.catches code.handlers
-  pub instructions : ArePlaced b.labels b.instructions code.instructions
+  pub handlers : Each (IsPlacedRow b.labels) b.catches code.handlers
+  pub instructions : Each (IsPlaced b.labels) b.instructions code.instructions
 
 -- own choice: under abstract only limits may stand, and they say nothing
 pub record IsNoBody (b : Body) : Type 0 where
