@@ -17,7 +17,7 @@ use Rattle.jasmin_text.specs.Keywords.{spelled}
 use Rattle.jasmin_text.specs.Tables.{access_of, access_words, is_access_word, member_access_of, is_member_word}
 use Rattle.jasmin_text.specs.Canonical.{word_if, visibility_text, binding_text, storage_text, access_text, class_line, constant_text, value_text, field_end, field_line, method_line}
 use Rattle.jasmin_text.specs.Spellable.{is_taken, is_int, is_string, is_element_type, is_type, is_field_type, is_method_type, is_int_type, is_string_type, is_value_of, is_field}
-use Rattle.jasmin_text.specs.Grammar.{no_access, with_word, is_taken_in, IsAccessBy, IsAccess, IsMemberAccess, IsClassAccess, IsValue, ClassRow, FieldRow, MethodRow, none, more, int, text, class, interface, field, method}
+use Rattle.jasmin_text.specs.Grammar.{no_access, with_word, is_taken_in, IsAccessBy, IsAccess, IsClassAccess, IsValue, ClassRow, FieldRow, MethodRow, none, more, int, text, class, interface, field, method}
 use Rattle.jasmin_text.specs.declared.access.Access.{Access}
 use Rattle.jasmin_text.specs.declared.table.AccessWord.{AccessWord}
 use Rattle.jasmin_text.specs.declared.table.AccessWord.TheVariants as word

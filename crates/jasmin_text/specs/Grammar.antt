@@ -1,6 +1,6 @@
 -- Which lines spell which class: the file form of the Jasmin user guide. "Own choice" marks this project's own
 -- choice (docs/JASMIN.md), where the form is told in words.
-use Rattle.std.specs.Prelude.{◌≡◌, ℕ, ◌+◌, Bool, true, false, ◌&&◌, ◌||◌, ◌==◌, List, [], ◌∷◌, ◌++◌, length, map, Option, Some, None, unwrap_or, ℤ, pos, ◌+ℤ◌, int_lt, int_le, neg_ℤ, if◌then◌else◌, codes}
+use Rattle.std.specs.Prelude.{◌≡◌, ℕ, Bool, true, false, ◌&&◌, ◌||◌, ◌==◌, List, [], ◌∷◌, ◌++◌, length, map, Option, Some, None, unwrap_or, ℤ, pos, ◌+ℤ◌, int_lt, int_le, neg_ℤ, if◌then◌else◌, codes}
 use Rattle.descriptors.specs.ClassName.{IsClassName}
 use Rattle.descriptors.specs.Signature.{Signature}
 use Rattle.descriptors.specs.Spelling.{field_spelling, method_spelling, IsFieldType, IsMethodType}
