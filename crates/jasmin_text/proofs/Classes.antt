@@ -161,7 +161,7 @@ is_class c h =
       given = Some c.superclass;
       parts = refl;
       are_members = super (refl, refl) refl (interfaces_are c.interfaces (member_rows c) (record before { interfaces = [] }) _ (refl, refl)
-      (fields_are c.fields (flat_map method_rows c.methods) before _ (methods_are c.methods (record before { fields = c.fields }) good.methods)));
+          (fields_are c.fields (flat_map method_rows c.methods) before _ (methods_are c.methods (record before { fields = c.fields }) good.methods)));
       superclass = refl;
       spellable = h;
     }
