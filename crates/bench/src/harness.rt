@@ -1,7 +1,8 @@
 //! What all benchmarks measure with: rows, the least of many times, lines of figures.
 //!
-//! A row is measured in rounds. In each of them its sample is taken once, then what stands beside it, then some `fetch_add`s, so
-//! that a busy minute of the machine meets all three. The first round warms up and doesn't count.
+//! A line is measured in rounds. In each of them its sample is taken once, then what stands beside it, then some `fetch_add`s, so
+//! that a busy minute of the machine meets all three. The rounds are spread over several sweeps through all lines, so that such
+//! a minute doesn't meet all rounds of a line. The first round of each sweep warms up and doesn't count.
 
 use crate::sample::Sample;
 use hierarchy::Program;
@@ -16,7 +17,10 @@ use std::{fmt, io};
 // The size of each sample where only a little is done.
 const LITTLE: usize = 4;
 
-// How many rounds come before those that count.
+// How often all lines are gone through.
+const SWEEPS: usize = 5;
+
+// How many rounds come before those that count, in each sweep.
 const WARM_UPS: usize = 1;
 
 // How many `fetch_add`s are timed in a round.
@@ -85,7 +89,7 @@ pub(crate) struct Row {
     pub unit: Sample,
     /// The size of the unit in the same way; or the size of the sample.
     pub unit_size: Option<usize>,
-    /// How many rounds count: of each the least time.
+    /// How many rounds of each of the five sweeps count; the least time of all is taken.
     pub repeats: usize,
 }
 
@@ -103,24 +107,24 @@ fn add_time(rt: &impl Clock, count: usize) -> Result<u128, Failure> {
     watch.share(rt, count)
 }
 
-/// A number with one decimal.
+/// A number with two decimals.
 #[derive(Clone, Copy)]
 struct Figure {
-    tenths: u128,
+    hundredths: u128,
 }
 
 // How often one time holds another.
 fn ratio(time: u128, unit: u128) -> Figure {
     Figure {
-        tenths: time.saturating_mul(10) / unit.max(1),
+        hundredths: time.saturating_mul(100) / unit.max(1),
     }
 }
 
 impl fmt::Display for Figure {
     fn fmt<W: fmt::Write>(&self, f: &mut fmt::Formatter<W>) -> fmt::Result {
-        let whole = self.tenths / 10;
-        let tenth = self.tenths % 10;
-        write!(f, "{whole}.{tenth}")
+        let whole = self.hundredths / 100;
+        let rest = self.hundredths % 100;
+        write!(f, "{whole}.{rest:02}")
     }
 }
 
@@ -220,34 +224,51 @@ impl Pair {
     }
 }
 
-// Prints how many millions of bytes are done in a second, where the parts are bytes.
-fn print_rate(rt: &impl Print, sample: Sample, time: u128) -> Result<(), Failure> {
-    if sample.is_of_bytes() {
-        let rate = ratio(MILLION_A_SECOND, time);
-        print!(rt; ", {rate} MB/s")?;
+/// A line to print: a row at one of its sizes, and the least times so far.
+#[derive(Clone, Copy)]
+struct Line<'a> {
+    row: &'a Row,
+    pair: Pair,
+    least: Times,
+}
+
+impl Line<'_> {
+    // Takes the rounds of one sweep.
+    fn sweep<R: Clock + Threads + Wait + Sync>(
+        &mut self,
+        rt: &R,
+        alloc: Global,
+    ) -> Result<(), Failure> {
+        let times = self.pair.times(rt, alloc, self.row.repeats)?;
+        self.least = self.least.least(times);
+        Ok(())
     }
-    Ok(())
+
+    // Prints how many millions of bytes are done in a second, where the parts are bytes.
+    fn print_rate(self, rt: &impl Print) -> Result<(), Failure> {
+        if self.pair.sample.is_of_bytes() {
+            let rate = ratio(MILLION_A_SECOND, self.least.sample);
+            print!(rt; ", {rate} MB/s")?;
+        }
+        Ok(())
+    }
+
+    // Prints how often the time of the unit is in that of the sample, the time of the sample, and how often that of a
+    // `fetch_add` is in it; of bytes also how many a second.
+    fn print(self, rt: &impl Print) -> Result<(), Failure> {
+        let size = self.pair.size;
+        let what = self.row.what;
+        let beside = ratio(self.least.sample, self.least.unit);
+        let nanos = ratio(self.least.sample, 1000);
+        let adds = ratio(self.least.sample, self.least.add);
+        print!(rt; "{size} {what}: {beside} ({nanos} ns, {adds} fetch_adds")?;
+        self.print_rate(rt)?;
+        Ok(println!(rt; ")")?)
+    }
 }
 
-// Prints a line: how often the time of the unit is in that of the sample, the time of the sample, and how often that of a
-// `fetch_add` is in it; of bytes also how many a second.
-fn print_line(rt: &impl Print, row: &Row, size: usize, times: Times) -> Result<(), Failure> {
-    let what = row.what;
-    let beside = ratio(times.sample, times.unit);
-    let nanos = ratio(times.sample, 1000);
-    let adds = ratio(times.sample, times.add);
-    print!(rt; "{size} {what}: {beside} ({nanos} ns, {adds} fetch_adds")?;
-    print_rate(rt, row.sample, times.sample)?;
-    Ok(println!(rt; ")")?)
-}
-
-// Measures a row with this number.
-fn measure_row<R: Clock + Print + Threads + Wait + Sync>(
-    rt: &R,
-    alloc: Global,
-    row: &Row,
-    number: usize,
-) -> Result<(), Failure> {
+// Adds the lines of a row with this number.
+fn add_lines<'a>(lines: &mut Vec<Line<'a>>, row: &'a Row, number: usize) -> Result<(), Failure> {
     let times = number.min(row.most);
     for size in row.sizes {
         let pair = Pair {
@@ -256,20 +277,42 @@ fn measure_row<R: Clock + Print + Threads + Wait + Sync>(
             unit: row.unit,
             unit_size: row.unit_size.unwrap_or(*size).saturating_mul(times),
         };
-        print_line(rt, row, pair.size, pair.times(rt, alloc, row.repeats)?)?;
+        let least = Times::LONGEST;
+        if lines.push(Line { row, pair, least }).is_err() {
+            return Err(Failure::Memory);
+        }
     }
     Ok(())
 }
 
-/// Measures these rows with this number, and prints a line for each size.
+// Goes through all lines once.
+fn sweep<R: Clock + Threads + Wait + Sync>(
+    rt: &R,
+    alloc: Global,
+    lines: &mut [Line<'_>],
+) -> Result<(), Failure> {
+    for line in lines.iter_mut() {
+        line.sweep(rt, alloc)?;
+    }
+    Ok(())
+}
+
+/// Measures these rows with this number, and then prints a line for each size.
 pub(crate) fn measure<R: Clock + Print + Threads + Wait + Sync>(
     rt: &R,
     alloc: Global,
     rows: &[Row],
     number: usize,
 ) -> Result<(), Failure> {
+    let mut lines = Vec::new(alloc);
     for row in rows {
-        measure_row(rt, alloc, row, number)?;
+        add_lines(&mut lines, row, number)?;
+    }
+    for _ in 0..SWEEPS {
+        sweep(rt, alloc, &mut lines)?;
+    }
+    for line in &lines {
+        line.print(rt)?;
     }
     Ok(())
 }

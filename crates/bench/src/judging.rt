@@ -37,7 +37,7 @@ pub(crate) const ROWS: &[Row] = &[
         most: 1,
         unit: Sample::With(Scene::Pass(Story::Looks)),
         unit_size: None,
-        repeats: 15,
+        repeats: 3,
     },
     Row {
         what: "looks with reads and writes, one judged, beside a pass",
@@ -46,7 +46,7 @@ pub(crate) const ROWS: &[Row] = &[
         most: 1,
         unit: Sample::With(Scene::Pass(Story::Fields)),
         unit_size: None,
-        repeats: 15,
+        repeats: 3,
     },
     Row {
         what: "prints, one judged, beside a pass",
@@ -55,7 +55,7 @@ pub(crate) const ROWS: &[Row] = &[
         most: 1,
         unit: Sample::With(Scene::Pass(Story::Prints)),
         unit_size: None,
-        repeats: 15,
+        repeats: 3,
     },
 ];
 

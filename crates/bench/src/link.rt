@@ -36,7 +36,7 @@ pub(crate) const ROWS: &[Row] = &[
         most: 1,
         unit: Sample::Link(Shape::Members),
         unit_size: Some(128),
-        repeats: 9,
+        repeats: 2,
     },
     Row {
         what: "methods of one name, one linked, beside names of their own",
@@ -45,7 +45,7 @@ pub(crate) const ROWS: &[Row] = &[
         most: 1,
         unit: Sample::Link(Shape::OwnNames),
         unit_size: None,
-        repeats: 9,
+        repeats: 2,
     },
     Row {
         what: "methods of one name, one resolved, beside names of their own",
@@ -54,7 +54,7 @@ pub(crate) const ROWS: &[Row] = &[
         most: 1,
         unit: Sample::With(Scene::Resolve(Shape::OwnNames)),
         unit_size: None,
-        repeats: 9,
+        repeats: 2,
     },
     Row {
         what: "interfaces, a superinterface's name linked, beside 128",
@@ -63,7 +63,7 @@ pub(crate) const ROWS: &[Row] = &[
         most: 1,
         unit: Sample::Link(Shape::Interfaces),
         unit_size: Some(128),
-        repeats: 15,
+        repeats: 3,
     },
     Row {
         what: "rungs of a ladder of diamonds, a rung linked, beside 64",
@@ -72,7 +72,7 @@ pub(crate) const ROWS: &[Row] = &[
         most: 1,
         unit: Sample::Link(Shape::Ladder),
         unit_size: Some(64),
-        repeats: 20,
+        repeats: 4,
     },
 ];
 

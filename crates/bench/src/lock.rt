@@ -45,7 +45,7 @@ pub(crate) const ROWS: &[Row] = &[
         most: 1_000_000,
         unit: Sample::Lock(ALONE),
         unit_size: None,
-        repeats: 100,
+        repeats: 20,
     },
     Row {
         what: "rounds of 2 threads on 1 record, beside 1 thread",
@@ -57,7 +57,7 @@ pub(crate) const ROWS: &[Row] = &[
         most: 1_000_000,
         unit: Sample::Lock(ALONE),
         unit_size: None,
-        repeats: 100,
+        repeats: 20,
     },
     Row {
         what: "rounds of 2 threads on 2 records, beside 1 thread",
@@ -69,7 +69,7 @@ pub(crate) const ROWS: &[Row] = &[
         most: 1_000_000,
         unit: Sample::Lock(ALONE),
         unit_size: None,
-        repeats: 100,
+        repeats: 20,
     },
     Row {
         what: "rounds of 4 threads on 1 record, beside 1 thread",
@@ -81,7 +81,7 @@ pub(crate) const ROWS: &[Row] = &[
         most: 1_000_000,
         unit: Sample::Lock(ALONE),
         unit_size: None,
-        repeats: 100,
+        repeats: 20,
     },
     Row {
         what: "rounds of 4 threads on 4 records, beside 1 thread",
@@ -93,7 +93,7 @@ pub(crate) const ROWS: &[Row] = &[
         most: 1_000_000,
         unit: Sample::Lock(ALONE),
         unit_size: None,
-        repeats: 100,
+        repeats: 20,
     },
 ];
 

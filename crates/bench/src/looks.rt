@@ -36,7 +36,7 @@ pub(crate) const ROWS: &[Row] = &[
         most: 1,
         unit: Sample::With(Scene::Use(Use::LooksInVain)),
         unit_size: Some(125_000),
-        repeats: 40,
+        repeats: 12,
     },
     Row {
         what: "looks, beside pushes",
@@ -45,7 +45,7 @@ pub(crate) const ROWS: &[Row] = &[
         most: 1,
         unit: Sample::Pushes,
         unit_size: None,
-        repeats: 40,
+        repeats: 12,
     },
     Row {
         what: "reads, beside pushes",
@@ -54,7 +54,7 @@ pub(crate) const ROWS: &[Row] = &[
         most: 1,
         unit: Sample::Pushes,
         unit_size: None,
-        repeats: 40,
+        repeats: 12,
     },
     Row {
         what: "writes, beside pushes",
@@ -63,7 +63,7 @@ pub(crate) const ROWS: &[Row] = &[
         most: 1,
         unit: Sample::Pushes,
         unit_size: None,
-        repeats: 40,
+        repeats: 12,
     },
 ];
 

@@ -22,7 +22,7 @@ pub(crate) const ROWS: &[Row] = &[Row {
     most: 1,
     unit: Sample::With(Scene::Needs),
     unit_size: Some(32),
-    repeats: 40,
+    repeats: 8,
 }];
 
 // Adds both interfaces of the rung below, if there is one, as superinterfaces.

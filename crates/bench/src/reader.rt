@@ -59,7 +59,7 @@ pub(crate) const ROWS: &[Row] = &[
         most: 10_000_000,
         unit: Sample::Read(LABELS),
         unit_size: Some(1),
-        repeats: 20,
+        repeats: 4,
     },
     Row {
         what: "access words of one line, one read, beside the first",
@@ -68,7 +68,7 @@ pub(crate) const ROWS: &[Row] = &[
         most: 10_000_000,
         unit: Sample::Read(WORDS),
         unit_size: Some(1),
-        repeats: 20,
+        repeats: 4,
     },
     Row {
         what: "comments, one read, beside the first",
@@ -77,7 +77,7 @@ pub(crate) const ROWS: &[Row] = &[
         most: 10_000_000,
         unit: Sample::Read(COMMENTS),
         unit_size: Some(1),
-        repeats: 20,
+        repeats: 4,
     },
     Row {
         what: "falling keys of one lookupswitch, one read, beside the first",
@@ -86,7 +86,7 @@ pub(crate) const ROWS: &[Row] = &[
         most: 4_000,
         unit: Sample::Read(KEYS),
         unit_size: Some(1),
-        repeats: 20,
+        repeats: 4,
     },
     Row {
         what: "methods, one read, beside the first",
@@ -95,7 +95,7 @@ pub(crate) const ROWS: &[Row] = &[
         most: 256,
         unit: Sample::Read(METHODS),
         unit_size: Some(1),
-        repeats: 20,
+        repeats: 4,
     },
     Row {
         what: "bytes of methods of arithmetic, one read, beside a pass",
@@ -104,7 +104,7 @@ pub(crate) const ROWS: &[Row] = &[
         most: 1,
         unit: Sample::PassBytes(ARITHMETIC),
         unit_size: None,
-        repeats: 20,
+        repeats: 4,
     },
     Row {
         what: "bytes of methods that call, one read, beside a pass",
@@ -113,7 +113,7 @@ pub(crate) const ROWS: &[Row] = &[
         most: 1,
         unit: Sample::PassBytes(CALLS),
         unit_size: None,
-        repeats: 20,
+        repeats: 4,
     },
     Row {
         what: "bytes of methods with fields, one read, beside a pass",
@@ -122,7 +122,7 @@ pub(crate) const ROWS: &[Row] = &[
         most: 1,
         unit: Sample::PassBytes(FIELDS),
         unit_size: None,
-        repeats: 20,
+        repeats: 4,
     },
     Row {
         what: "bytes of methods with switches, one read, beside a pass",
@@ -131,7 +131,7 @@ pub(crate) const ROWS: &[Row] = &[
         most: 1,
         unit: Sample::PassBytes(SWITCHES),
         unit_size: None,
-        repeats: 20,
+        repeats: 4,
     },
     Row {
         what: "bytes of methods with strings, one read, beside a pass",
@@ -140,7 +140,7 @@ pub(crate) const ROWS: &[Row] = &[
         most: 1,
         unit: Sample::PassBytes(STRINGS),
         unit_size: None,
-        repeats: 20,
+        repeats: 4,
     },
     Row {
         what: "bytes of long methods with all of these, one read, beside a pass",
@@ -149,7 +149,7 @@ pub(crate) const ROWS: &[Row] = &[
         most: 1,
         unit: Sample::PassBytes(MIXED),
         unit_size: None,
-        repeats: 20,
+        repeats: 4,
     },
 ];
 

@@ -48,7 +48,7 @@ pub(crate) const ROWS: &[Row] = &[
         most: 1,
         unit: Sample::With(Scene::Run(Chains::Own)),
         unit_size: Some(1),
-        repeats: 200,
+        repeats: 60,
     },
     Row {
         what: "threads, the same interfaces, an event, beside 1",
@@ -57,7 +57,7 @@ pub(crate) const ROWS: &[Row] = &[
         most: 1,
         unit: Sample::With(Scene::Run(Chains::SameInterfaces)),
         unit_size: Some(1),
-        repeats: 200,
+        repeats: 60,
     },
     Row {
         what: "threads, the same main class, an event, beside 1",
@@ -66,7 +66,7 @@ pub(crate) const ROWS: &[Row] = &[
         most: 1,
         unit: Sample::With(Scene::Run(Chains::Same)),
         unit_size: Some(1),
-        repeats: 200,
+        repeats: 60,
     },
 ];
 

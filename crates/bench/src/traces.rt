@@ -21,7 +21,7 @@ pub(crate) const ROWS: &[Row] = &[
         most: 1,
         unit: Sample::With(Scene::PassTrace(Story::Looks)),
         unit_size: None,
-        repeats: 15,
+        repeats: 3,
     },
     Row {
         what: "looks with reads and writes, a byte written, beside a pass",
@@ -30,7 +30,7 @@ pub(crate) const ROWS: &[Row] = &[
         most: 1,
         unit: Sample::With(Scene::PassTrace(Story::Fields)),
         unit_size: None,
-        repeats: 15,
+        repeats: 3,
     },
     Row {
         what: "prints, a byte written, beside a pass",
@@ -39,7 +39,7 @@ pub(crate) const ROWS: &[Row] = &[
         most: 1,
         unit: Sample::With(Scene::PassTrace(Story::Prints)),
         unit_size: None,
-        repeats: 15,
+        repeats: 3,
     },
 ];
 

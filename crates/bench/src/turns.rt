@@ -33,7 +33,7 @@ pub(crate) const ROWS: &[Row] = &[
         most: 1,
         unit: Sample::With(Scene::Turns(Task::Find(2))),
         unit_size: Some(50_000),
-        repeats: 100,
+        repeats: 20,
     },
     Row {
         what: "turns of 16 threads at an initialized class, beside 2 threads",
@@ -42,7 +42,7 @@ pub(crate) const ROWS: &[Row] = &[
         most: 1,
         unit: Sample::With(Scene::Turns(Task::Find(2))),
         unit_size: None,
-        repeats: 100,
+        repeats: 20,
     },
     Row {
         what: "classes of a chain, a turn of 2 threads, beside 128",
@@ -51,7 +51,7 @@ pub(crate) const ROWS: &[Row] = &[
         most: 1,
         unit: Sample::With(Scene::Turns(Task::Climb(2))),
         unit_size: Some(128),
-        repeats: 100,
+        repeats: 20,
     },
     Row {
         what: "classes of a chain, a turn of 16 threads, beside 2 threads",
@@ -60,7 +60,7 @@ pub(crate) const ROWS: &[Row] = &[
         most: 1,
         unit: Sample::With(Scene::Turns(Task::Climb(2))),
         unit_size: None,
-        repeats: 100,
+        repeats: 20,
     },
 ];
 
