@@ -1,5 +1,5 @@
 -- Labels beside their places, found by their bytes.
-use Rattle.std.proofs.Common.{◌≡◌, ℕ, suc, ◌+◌, Bool, true, false, cond, ◌&&◌, eqb, inl, inr, List, [], ◌∷◌, ◌++◌, Option, Some, None, length, slice_get, refl, sym, ap, ◌∙◌, arith, length-append}
+use Rattle.std.proofs.Common.{◌≡◌, ℕ, suc, ◌+◌, Bool, true, false, cond, ◌&&◌, eqb, inl, inr, List, [], ◌∷◌, ◌++◌, Option, Some, None, length, slice_get, refl, sym, ap, ◌∙◌, arith, append_assoc, length-append}
 use Rattle.std.proofs.lemmas.Bool.{cases_Bool}
 use Rattle.std.proofs.lemmas.Iterator.Adapters.{position_from-zero}
 use Rattle.std.specs.List.{position_from, zip}
@@ -22,10 +22,6 @@ middle : (before : List ℕ) (n k : ℕ) (after : List ℕ) → k ≡ length bef
 middle [] n k after e = rw e refl
 middle (m ∷ before) n k after e = rw e (middle before n (length before) after refl)
 
-append-one : (before : List ℕ) (n : ℕ) (after : List ℕ) → (before ++ n ∷ []) ++ after ≡ before ++ n ∷ after
-append-one [] n after = refl
-append-one (m ∷ before) n after = ap (λ rest. m ∷ rest) (append-one before n after)
-
 row_from : (w : List ℕ) (k : ℕ) (before places : List ℕ) (names : List (List ℕ)) → k ≡ length before → length names ≡ length places →
     at_place (before ++ places) (position_from (bytes_eq w) k names) ≡ find_row w (zip names places)
 row_from w k before places [] e l = refl
@@ -37,7 +33,7 @@ row_from w k before (n ∷ places) (t ∷ names) e l =
       | inl y ↦ rw y (middle before n k places e)
       | inr y ↦
           rw y
-          (ap (λ all. at_place all (position_from (bytes_eq w) (k + 1) names)) (sym (append-one before n places)) ∙ row_from w (k + 1) (before ++ n ∷ []) places names more fewer)
+          (ap (λ all. at_place all (position_from (bytes_eq w) (k + 1) names)) (sym (append_assoc before (n ∷ []) places)) ∙ row_from w (k + 1) (before ++ n ∷ []) places names more fewer)
     ]
 
 row_of : (w : List ℕ) (names : List (List ℕ)) (places : List ℕ) → length names ≡ length places → at_place places (place_of_text w names) ≡ find_row w (zip names places)
@@ -50,9 +46,9 @@ row_there w names places n l e = ap (at_place places) (sym e) ∙ row_of w names
 pub row_absent : (w : List ℕ) (names : List (List ℕ)) (places : List ℕ) → length names ≡ length places → place_of_text w names ≡ None → None ≡ find_row w (zip names places)
 row_absent w names places l e = ap (at_place places) (sym e) ∙ row_of w names places l
 
-skipped : (b : Bool) (n : ℕ) (o : Option ℕ) → cond b (Some n) o ≡ None → (b ≡ false) × (o ≡ None)
-skipped true n o h = absurd cc
-skipped false n o h = (refl, h)
+pub skipped : {A : Type 0} (b : Bool) (x : A) (o : Option A) → cond b (Some x) o ≡ None → (b ≡ false) × (o ≡ None)
+skipped true x o h = absurd cc
+skipped false x o h = (refl, h)
 
 new_name : (w : List ℕ) (names : List (List ℕ)) (places : List ℕ) → length names ≡ length places → find_row w (zip names places) ≡ None → has_text w names ≡ false
 new_name w [] places l h = refl
@@ -68,15 +64,13 @@ new_noted w names places l h = rw (new_name w names places l h) refl
 
 pub zip_pushed : (w : List ℕ) (n : ℕ) (names : List (List ℕ)) (places : List ℕ) → length names ≡ length places → zip (names ++ w ∷ []) (places ++ n ∷ []) ≡ zip names places ++ (w, n) ∷ []
 zip_pushed w n [] [] l = refl
-zip_pushed w n [] (m ∷ places) l = absurd (omega (arith, l))
-zip_pushed w n (t ∷ names) [] l = absurd (omega (arith, l))
 zip_pushed w n (t ∷ names) (m ∷ places) l = ap (λ rest. (t, m) ∷ rest) (zip_pushed w n names places (omega (arith, l)))
+zip_pushed w n names places l = absurd (omega (arith, l))
 
 pub zip_length : (names : List (List ℕ)) (places : List ℕ) → length names ≡ length places → length (zip names places) ≡ length places
 zip_length [] [] l = refl
-zip_length [] (m ∷ places) l = absurd (omega (arith, l))
-zip_length (t ∷ names) [] l = absurd (omega (arith, l))
 zip_length (t ∷ names) (m ∷ places) l = ap suc (zip_length names places (omega (arith, l)))
+zip_length names places l = absurd (omega (arith, l))
 
 pub as_many_pushed : (w : List ℕ) (n : ℕ) (names more : List (List ℕ)) (places next : List ℕ) → length names ≡ length places → more ≡ names ++ w ∷ [] → next ≡ places ++ n ∷ [] → length more ≡ length next
 as_many_pushed w n names more places next l a b =

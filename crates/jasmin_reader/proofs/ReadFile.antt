@@ -1,91 +1,91 @@
--- The lines of a file that is read say the rows by which it is read.
-use Rattle.std.proofs.Common.{◌≡◌, ℕ, ◌+◌, Bool, true, false, not, ◌&&◌, cond, eqb, List, [], ◌∷◌, ◌++◌, length, take, drop, Option, Some, None, Result, Ok, Err, refl, ap, subst, ◌∙◌, codes}
+-- All lines of a file, and the rows that they say. Both ways.
+use Rattle.std.proofs.Common.{◌≡◌, ℕ, ◌+◌, Bool, true, not, List, [], ◌∷◌, ◌++◌, Option, Some, None, Result, Ok, Err, refl, ◌∙◌}
 use Rattle.std.specs.List.{list_all}
+use Rattle.std.proofs.lemmas.Bool.{and_from}
+use Rattle.std.proofs.lemmas.List.Folds.{list_all-append}
+use Rattle.jasmin_words.proofs.Lexed.{are_lexed}
 use Rattle.jasmin_words.specs.declared.fault.FaultKind.{FaultKind}
-use Rattle.jasmin_words.proofs.Taken.{IsStringItem, string_is}
+use Rattle.jasmin_words.specs.declared.fault.FaultKind.TheVariants as fault
 use Rattle.jasmin_words.specs.Gives.{◌>>=◌}
-use Rattle.jasmin_words.specs.Lexing.{Item, Word, LongWord, BadWord, Equals, Colon, Text, BadText, is_blank, is_plain, fits, raw_len, closed_at, string_item, string_at, word_item, word_at, word_len, token_at, after_token, words_in, words_from, words_of}
-use Rattle.jasmin_words.specs.Names.{same_bytes}
-use Rattle.jasmin_text.specs.Grammar.{Row, AreRows, none, more}
-use Rattle.jasmin_text.specs.declared.class_text.ClassParts.{ClassParts}
-use Rattle.jasmin_reader.specs.declared.reader.Reader.{Reader}
-use Rattle.jasmin_reader.specs.Reading.{line_at}
+use Rattle.jasmin_words.specs.Lexing.{Item, words_of}
+use Rattle.jasmin_text.specs.Forms.{directive_at, directives}
+use Rattle.jasmin_text.specs.Grammar.{IsRow, blank, skipped, class, interface, super, implements, field, method, end, stack, locals, catch, label, labelled, operation, target, case, default, Row, ClassRow, SuperRow, ImplementsRow, FieldRow, MethodRow, EndRow, StackRow, LocalsRow, CatchRow, LabelRow, TargetRow, CaseRow, DefaultRow, AreRows, none, more}
 use Rattle.jasmin_text.specs.Lines.{lines_of}
+use Rattle.jasmin_text.specs.Tables.{is_member_word}
+use Rattle.jasmin_text.specs.declared.class_text.ClassKind.TheVariants as kind
+use Rattle.jasmin_text.specs.declared.class_text.ClassParts.{ClassParts}
+use Rattle.jasmin_text.specs.declared.form.Directive.{Directive}
+use Rattle.jasmin_reader.specs.declared.body.Body.{Body}
+use Rattle.jasmin_reader.specs.declared.reader.Reader.{Reader}
+use Rattle.jasmin_reader.specs.Places.{within_limit, first_word}
+use Rattle.jasmin_reader.specs.Operands.{begins_with}
+use Rattle.jasmin_reader.specs.Bodies.{statement_at, limit_at, catch_at, end_from}
+use Rattle.jasmin_reader.specs.Reading.{no_word, class_line, super_line, implements_line, field_line, method_line, end_line, directive_line, statement_line, line_by, line_at}
+use Rattle.jasmin_reader.proofs.AccessWords.{short_word, within_ok, first_is}
+use Rattle.jasmin_reader.proofs.Binds.{bind_ok, both_true, then}
+use Rattle.jasmin_reader.proofs.DirectiveLines.{Says, in_body_ok, directive_ok, in_body_said, untaken, row_read}
+use Rattle.jasmin_reader.proofs.GoodRows.{is_good_row, is_typed, is_headed, rows_good}
+use Rattle.jasmin_reader.proofs.Heads.{class_head, interface_head, field_head, method_head}
+use Rattle.jasmin_reader.proofs.RowSteps.{row_at, rows_at, rows_append}
+use Rattle.jasmin_reader.proofs.StatementLines.{line_items, statement_taken, label_said, labelled_said, operation_said, target_said, case_said, default_said}
+use Rattle.jasmin_reader.proofs.Words.{number_read, not_refused}
 use Rattle.jasmin_reader.specs.File.{finished, then_lines, rest_at, empty_reader, class_at}
-use Rattle.jasmin_reader.proofs.Binds.{same_is}
-use Rattle.jasmin_reader.proofs.BareRows.{bare_rows, bare_append}
-use Rattle.jasmin_reader.proofs.HeadsTaken.{item_of}
-use Rattle.jasmin_reader.proofs.StatementsTaken.{IsShortDefault}
-use Rattle.jasmin_reader.proofs.ReadLines.{HasShortDefault, line_taken}
 
--- ---- words that are too long
+-- ---- a line that is read
 
--- what is called too long is so
-abbrev IsLong : Item → Type 0
-IsLong (LongWord w) = fits w ≡ false
-IsLong other = Unit {0}
+statement_ok : (r s : Reader) (w : List ℕ × Bool) (rest : List Item) → (o : Option Body) → r.body ≡ o → statement_line r w rest o ≡ Ok s → Says r (line_items w rest) s
+statement_ok r s w rest None p e = absurd cc
+statement_ok r s w rest (Some b) p e = in_body_ok r s (line_items w rest) (λ c. statement_at c w rest) (λ c d h. statement_taken c d w rest h) (Some b) p e
 
-abbrev IsLongFirst : Option (Item × List ℕ) → Type 0
-IsLongFirst None = Unit {0}
-IsLongFirst (Some x) = IsLong x.0
-
-word_long : (w : List ℕ) → IsLong (word_item w)
-unfolding word_item
-word_long w = by (list_all is_plain w) (fits w) refl
+-- A line that is read is a line of the grammar, and its rows do what was read.
+pub line_taken : (r s : Reader) (items : List Item) → line_at r items ≡ Ok s → Says r items s
+unfolding line_at
+line_taken r s [] e = record { rows = []; is_row = blank; does = e; headed = refl }
+line_taken r s (t ∷ rest) e =
+    let one = bind_ok (first_word (no_word r.body) t) _ s e in
+    let is = first_is (no_word r.body) t one.0 one.1 in
+    rw is (by one.0 (directive_at one.0.0) refl one.2)
   where
-    by : (s t : Bool) → fits w ≡ t → IsLong (cond (not s) BadWord (cond t (Word w) (LongWord w)))
-    by false t e = tt
-    by true true e = tt
-    by true false e = e
+    by : (w : List ℕ × Bool) → (o : Option Directive) → directive_at w.0 ≡ o → line_by r w rest o ≡ Ok s → Says r (line_items w rest) s
+    by w None p h = statement_ok r s w rest r.body refl (not_refused (begins_with 46 w.0) fault.UnknownDirective (statement_line r w rest r.body) s h).1
+    by w (Some d) p h =
+        let one = bind_ok (within_limit w.1) _ s h in
+        rw (short_word w (within_ok w.1 one.0 one.1)) (directive_ok r s w.0 d rest p one.2)
 
-string_item_long : (closed : Bool) (raw : List ℕ) (t : Item) → IsStringItem closed raw t → IsLong t
-string_item_long closed raw (Text x) h = tt
-string_item_long closed raw (BadText k) h = tt
-string_item_long closed raw (Word w) h = absurd h
-string_item_long closed raw (LongWord w) h = absurd h
-string_item_long closed raw BadWord h = absurd h
-string_item_long closed raw Equals h = absurd h
-string_item_long closed raw Colon h = absurd h
+-- ---- a line of the grammar
 
-string_long : (closed : Bool) (raw : List ℕ) → IsLong (string_item closed raw)
-string_long closed raw = string_item_long closed raw (string_item closed raw) (string_is closed raw)
+single : (r s : Reader) (row : Row) → rows_at r (row ∷ []) ≡ Ok s → row_at r row ≡ Ok s
+single r s row e = let one = bind_ok (row_at r row) _ s e in one.1 ∙ one.2
 
-closed_long : (raw rest : List ℕ) → IsLong (closed_at raw rest).0
-closed_long raw [] = string_long false raw
-closed_long raw (q ∷ after) = string_long true raw
+two_rows : (r s : Reader) (one two : Row) → rows_at r (one ∷ two ∷ []) ≡ Ok s → (row_at r one >>= λ t. row_at t two) ≡ Ok s
+two_rows r s one two e =
+    let a = bind_ok (row_at r one) _ s e in
+    rw (a.1) (single a.0 s two a.2)
 
-token_long : (fresh : Bool) (bytes : List ℕ) → IsLongFirst (token_at fresh bytes)
-unfolding token_at word_at string_at
-token_long fresh [] = tt
-token_long fresh (b ∷ bs) = by (is_blank b) (eqb b 59 && fresh) (eqb b 61) (eqb b 58) (eqb b 34) (token_long true bs)
-  where
-    by : (p q r s t : Bool) → IsLongFirst (token_at true bs)
-        → IsLongFirst (cond p (token_at true bs) (cond q None (cond r (Some (Equals, bs)) (cond s (Some (Colon, bs)) (cond t (Some (string_at bs)) (Some (word_at (b ∷ bs))))))))
-    by true q r s t h = h
-    by false true r s t h = tt
-    by false false true s t h = tt
-    by false false false true t h = tt
-    by false false false false true h = closed_long (take (raw_len false bs) bs) (drop (raw_len false bs) bs)
-    by false false false false false h = word_long (take (word_len (b ∷ bs)) (b ∷ bs))
-
-short_default : (t : Item) → IsLong t → (w : List ℕ × Bool) → t ≡ item_of w → IsShortDefault w
-short_default t long w is far = by (same_bytes w.0 (codes "default")) refl
-  where
-    by : (s : Bool) → same_bytes w.0 (codes "default") ≡ s → s ≡ false
-    by false e = refl
-    by true e =
-        let too_long : t ≡ LongWord w.0 = is ∙ ap (λ (l : Bool). cond l (LongWord w.0) (Word w.0)) far in
-        let no_fit : fits w.0 ≡ false = subst IsLong too_long long in
-        let fits_here : fits w.0 ≡ true = ap fits (same_is w.0 (codes "default") e) in
-        absurd cc
-
-first_short : (next : List ℕ → List Item) (o : Option (Item × List ℕ)) → IsLongFirst o → HasShortDefault (after_token next o)
-first_short next None h = tt
-first_short next (Some x) h = short_default x.0 h
-
-line_short : (line : List ℕ) → HasShortDefault (words_of line)
-unfolding words_from words_in
-line_short line = first_short (words_in (length line) false) (token_at true line) (token_long true line)
+-- A line of the grammar is read, and adds what its rows do.
+pub row_said : (r s : Reader) (items : List Item) (rows : List Row) → IsRow items rows → list_all is_headed rows ≡ true → rows_at r rows ≡ Ok s → line_at r items ≡ Ok s
+unfolding line_at directive_at directives directive_line class_line super_line implements_line field_line method_line end_line end_from limit_at catch_at
+row_said r s items rows blank headed done = done
+row_said r s items rows (skipped {w} {rest} e) headed done = rw e done
+row_said r s items rows (class {items = i} {k} {a} {name} access e is h other) headed done =
+    rw (class_head i access k a name e is h (rw other (untaken k name (both_true _ true headed).0))) (single r s (ClassRow k a name) done)
+row_said r s items rows (interface {items = i} {a} {name} access e is h) headed done = rw (interface_head i access a name e is h (untaken kind.Interface name (both_true _ true headed).0)) (single r s (ClassRow kind.Interface a name) done)
+row_said r s items rows (super {name} h) headed done = rw h (single r s (SuperRow name) done)
+row_said r s items rows (implements {name} h) headed done = rw h (single r s (ImplementsRow name) done)
+row_said r s items rows (field {items = i} {a} {name} {type} {value} access rest w e is h d v) headed done =
+    let parts = both_true (not (is_member_word name)) (is_typed type value) (both_true _ true headed).0 in
+    rw (field_head i access rest a name w type value e is h d v parts.0 parts.1) (single r s (FieldRow (record { access = a; name = name; field_type = type; value = value })) done)
+row_said r s items rows (method {items = i} {a} {name} {type} access w e spelled is h m) headed done = rw (method_head i access w a name type e spelled is h m (both_true _ true headed).0) (single r s (MethodRow a name type) done)
+row_said r s items rows end headed done = single r s EndRow done
+row_said r s items rows (stack {w} {n} h) headed done = in_body_said r s r.body _ _ (λ b c e. rw (number_read 0 1024 fault.LimitExceeded w n h) e) (single r s (StackRow n) done)
+row_said r s items rows (locals {w} {n} h) headed done = in_body_said r s r.body _ _ (λ b c e. rw (number_read 0 1024 fault.LimitExceeded w n h) e) (single r s (LocalsRow n) done)
+row_said r s items rows (catch {w} {from} {to} {using} {class = k} h i j l) headed done = in_body_said r s r.body _ _ (λ b c e. rw (row_read w from to using k h i j l) e) (single r s (CatchRow k from to using) done)
+row_said r s items rows (label {l} h) headed done = label_said r s l h (single r s (LabelRow l) done)
+row_said r s items rows (labelled {l} {items = i} {row} h is) headed done = labelled_said r s l i row h is (two_rows r s (LabelRow l) row done)
+row_said r s items rows (operation {items = i} {row} is) headed done = operation_said r s i row is (single r s row done)
+row_said r s items rows (target {l} h) headed done = target_said r s l h (single r s (TargetRow l) done)
+row_said r s items rows (case {w} {l} {key} i h) headed done = case_said r s w l key i h (single r s (CaseRow key l) done)
+row_said r s items rows (default {l} h) headed done = default_said r s l h (single r s (DefaultRow l) done)
 
 -- ---- line after line
 
@@ -94,25 +94,27 @@ pub record Tells (r : Reader) (lines : List (List ℕ)) (c : ClassParts) : Type 
   pub rows : List Row
   pub are_rows : AreRows lines rows
   pub last : Reader
-  pub does : bare_rows r rows ≡ Ok last
+  pub does : rows_at r rows ≡ Ok last
+  pub good : list_all is_good_row rows ≡ true
   pub count : ℕ
   pub ends : finished last count ≡ Ok c
 
 pub lines_tell : (n : ℕ) (r : Reader) (lines : List (List ℕ)) (c : ClassParts) → rest_at n r lines ≡ Ok c → Tells r lines c
 unfolding rest_at
-lines_tell n r [] c e = record { rows = []; are_rows = none; last = r; does = refl; count = n; ends = e }
+lines_tell n r [] c e = record { rows = []; are_rows = none; last = r; does = refl; good = refl; count = n; ends = e }
 lines_tell n r (line ∷ lines) c e = by (line_at r (words_of line)) refl (λ s h. lines_tell (n + 1) s lines c h) e
   where
     by : (x : Result Reader FaultKind) → line_at r (words_of line) ≡ x → ((s : Reader) → rest_at (n + 1) s lines ≡ Ok c → Tells s lines c) → then_lines (n + 1) (λ s. rest_at (n + 1) s lines) x ≡ Ok c → Tells r (line ∷ lines) c
     by (Err k) p rest h = absurd cc
     by (Ok s) p rest h =
-        let one = line_taken r s (words_of line) (line_short line) p in
+        let one = line_taken r s (words_of line) p in
         let t = rest s h in
         record {
           rows = one.rows ++ t.rows;
           are_rows = more one.rows t.rows one.is_row t.are_rows refl;
           last = t.last;
-          does = bare_append r one.rows t.rows ∙ ap (λ (x : Result Reader FaultKind). x >>= λ u. bare_rows u t.rows) one.does ∙ t.does;
+          does = rows_append r one.rows t.rows ∙ then (rows_at r one.rows) _ s t.last one.does t.does;
+          good = list_all-append is_good_row one.rows t.rows ∙ and_from _ _ (rows_good (words_of line) one.rows one.is_row (are_lexed true line) one.headed) t.good;
           count = t.count;
           ends = t.ends;
         }

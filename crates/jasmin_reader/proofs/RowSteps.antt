@@ -1,23 +1,20 @@
 -- What a row of the grammar does to what is read.
-use Rattle.std.specs.Prelude.{ℕ, ◌-◌, Bool, not, ◌&&◌, List, [], ◌∷◌, ◌++◌, length, Option, Some, None, is_none, is_some, Result, Ok, Err, nat_lt, ℤ, codes}
-use Rattle.descriptors.specs.Signature.{Signature}
+use Rattle.std.proofs.Common.{◌≡◌, ℕ, ◌-◌, Bool, true, false, List, [], ◌∷◌, ◌++◌, length, Option, Some, None, is_none, is_some, Result, Ok, Err, ℤ, refl, ap, ◌∙◌}
+use Rattle.std.specs.Prelude.{nat_lt}
+use Rattle.std.specs.List.{list_all}
 use Rattle.jasmin_words.specs.declared.fault.FaultKind.{FaultKind}
 use Rattle.jasmin_words.specs.declared.fault.FaultKind.TheVariants as fault
 use Rattle.jasmin_words.specs.Gives.{◌>>=◌}
-use Rattle.jasmin_words.specs.Names.{same_bytes}
 use Rattle.jasmin_text.specs.Grammar.{Row, ClassRow, SuperRow, ImplementsRow, FieldRow, MethodRow, EndRow, StackRow, LocalsRow, CatchRow, LabelRow, InstructionRow, TableRow, LookupRow, TargetRow, CaseRow, DefaultRow, place_of}
-use Rattle.jasmin_text.specs.Spellable.{is_taken, is_field}
-use Rattle.jasmin_text.specs.declared.access.Access.{Access}
-use Rattle.jasmin_text.specs.declared.class_text.ClassKind.TheVariants as kind
 use Rattle.jasmin_text.specs.declared.instruction.Instruction.TheVariants as instruction
 use Rattle.jasmin_reader.specs.declared.body.Body.{Body}
 use Rattle.jasmin_reader.specs.declared.reader.Reader.{Reader}
 use Rattle.jasmin_reader.specs.declared.switch.Switch.{Switch}
 use Rattle.jasmin_reader.specs.declared.switch.Switch.TheVariants as switch
 use Rattle.jasmin_reader.specs.Operands.{labels_between, table_of}
-use Rattle.jasmin_reader.specs.Heads.{may_initialize}
 use Rattle.jasmin_reader.specs.Listing.{Listing, has_room, with_instruction, with_switch, without_switch, less_room, is_full, with_target, new_key, case_of, with_key}
 use Rattle.jasmin_reader.specs.Bodies.{new_label, with_label, listed, outside_switch}
+use Rattle.jasmin_reader.proofs.Binds.{bind_ok, given, both_true}
 use Rattle.jasmin_reader.specs.Reading.{allowed, has_room_for, is_in_class, is_in_header, member_room, empty_body, in_body, ended_by}
 
 -- ---- in a method
@@ -59,19 +56,69 @@ body_rows b (row ∷ rows) = body_row b row >>= λ c. body_rows c rows
 
 -- ---- in a class
 
--- JVMS SE 8 2.9 and 4.6: what no method's head has
-abbrev pub fits_head : Access → List ℕ → Signature → Bool
-fits_head a name type = not (a.is_abstract && a.is_static) && not (same_bytes name (codes "<clinit>") && not (may_initialize a type))
+abbrev pub is_body_row : Row → Bool
+is_body_row (ClassRow k a name) = false
+is_body_row (SuperRow name) = false
+is_body_row (ImplementsRow name) = false
+is_body_row (FieldRow f) = false
+is_body_row (MethodRow a name type) = false
+is_body_row EndRow = false
+is_body_row other = true
 
 abbrev pub row_at : Reader → Row → Result Reader FaultKind
-row_at r (ClassRow k a name) = allowed (is_none r.class) >>= λ _. allowed (not (is_taken kind.Interface name)) >>= λ _. Ok (record r { class = Some (record { kind = k; access = a }, name) })
+row_at r (ClassRow k a name) = allowed (is_none r.class) >>= λ _. Ok (record r { class = Some (record { kind = k; access = a }, name) })
 row_at r (SuperRow name) = allowed (is_in_header r) >>= λ _. allowed (is_none r.superclass) >>= λ _. Ok (record r { superclass = Some name })
 row_at r (ImplementsRow name) = allowed (is_in_header r) >>= λ _. has_room_for (nat_lt (length r.interfaces) 255) >>= λ _. Ok (record r { interfaces = r.interfaces ++ name ∷ [] })
-row_at r (FieldRow f) = allowed (is_in_class r) >>= λ _. has_room_for (member_room r) >>= λ _. allowed (is_field f) >>= λ _. Ok (record r { fields = r.fields ++ f ∷ [] })
-row_at r (MethodRow a name type) = allowed (is_in_class r) >>= λ _. has_room_for (member_room r) >>= λ _. allowed (fits_head a name type) >>= λ _. Ok (record r { body = Some (empty_body a name type) })
+row_at r (FieldRow f) = allowed (is_in_class r) >>= λ _. has_room_for (member_room r) >>= λ _. Ok (record r { fields = r.fields ++ f ∷ [] })
+row_at r (MethodRow a name type) = allowed (is_in_class r) >>= λ _. has_room_for (member_room r) >>= λ _. Ok (record r { body = Some (empty_body a name type) })
 row_at r EndRow = ended_by r [] r.body
 row_at r row = in_body r r.body (λ b. body_row b row)
 
 abbrev pub rows_at : Reader → List Row → Result Reader FaultKind
 rows_at r [] = Ok r
 rows_at r (row ∷ rows) = row_at r row >>= λ s. rows_at s rows
+
+pub one_row : (r s : Reader) (row : Row) → row_at r row ≡ Ok s → rows_at r (row ∷ []) ≡ Ok s
+one_row r s row e = ap (λ (x : Result Reader FaultKind). x >>= λ t. Ok t) e
+
+pub rows_append : (r : Reader) (xs ys : List Row) → rows_at r (xs ++ ys) ≡ (rows_at r xs >>= λ s. rows_at s ys)
+rows_append r [] ys = refl
+rows_append r (x ∷ xs) ys = by (row_at r x) (λ s. rows_append s xs ys)
+  where
+    by : (y : Result Reader FaultKind) → ((s : Reader) → rows_at s (xs ++ ys) ≡ (rows_at s xs >>= λ t. rows_at t ys)) → (y >>= λ s. rows_at s (xs ++ ys)) ≡ ((y >>= λ s. rows_at s xs) >>= λ t. rows_at t ys)
+    by (Ok s) h = h s
+    by (Err k) h = refl
+
+row_in_body : (row : Row) → is_body_row row ≡ true → (r : Reader) → row_at r row ≡ in_body r r.body (λ b. body_row b row)
+row_in_body (ClassRow k a name) h r = absurd cc
+row_in_body (SuperRow name) h r = absurd cc
+row_in_body (ImplementsRow name) h r = absurd cc
+row_in_body (FieldRow f) h r = absurd cc
+row_in_body (MethodRow a name type) h r = absurd cc
+row_in_body EndRow h r = absurd cc
+row_in_body row h r = refl
+
+-- the rows of a method
+pub rows_in_method : (rows : List Row) → list_all is_body_row rows ≡ true → (r : Reader) (b last : Body) → body_rows b rows ≡ Ok last → rows_at (record r { body = Some b }) rows ≡ Ok (record r { body = Some last })
+rows_in_method [] h r b last e = given (λ (x : Body). rows_at (record r { body = Some b }) [] ≡ Ok (record r { body = Some x })) e refl
+rows_in_method (row ∷ rows) h r b last e =
+    let p = both_true (is_body_row row) (list_all is_body_row rows) h in
+    let one = bind_ok (body_row b row) _ last e in
+    let step : row_at (record r { body = Some b }) row ≡ Ok (record r { body = Some one.0 }) = row_in_body row p.0 (record r { body = Some b }) ∙ ap (λ (x : Result Body FaultKind). x >>= λ c. Ok (record r { body = Some c })) one.1 in
+    ap (λ (x : Result Reader FaultKind). x >>= λ s. rows_at s rows) step ∙ rows_in_method rows p.1 r one.0 last one.2
+
+-- the rows of a line in a method
+pub lifted : (rows : List Row) → list_all is_body_row rows ≡ true → (r : Reader) (b last : Body) → r.body ≡ Some b → body_rows b rows ≡ Ok last → rows_at r rows ≡ Ok (record r { body = Some last })
+lifted rows h r b last here e =
+    let same : r ≡ record r { body = Some b } = ap (λ (o : Option Body). record r { body = o }) here in
+    ap (λ (x : Reader). rows_at x rows) same ∙ rows_in_method rows h r b last e
+
+-- ---- guards that were passed
+
+pub allowed_ok : {B : Type 0} (b : Bool) (f : Result B FaultKind) (y : B) → (allowed b >>= λ _. f) ≡ Ok y → (b ≡ true) × (f ≡ Ok y)
+allowed_ok true f y e = (refl, e)
+allowed_ok false f y e = absurd cc
+
+pub room_ok : {B : Type 0} (b : Bool) (f : Result B FaultKind) (y : B) → (has_room_for b >>= λ _. f) ≡ Ok y → (b ≡ true) × (f ≡ Ok y)
+room_ok true f y e = (refl, e)
+room_ok false f y e = absurd cc

@@ -135,13 +135,19 @@ catch_at b items = outside_switch b >>= λ _. catch_from items >>= λ c. Ok (rec
 abbrev pub placed_label : List (List ℕ × ℕ) → List ℕ → Result ℕ FaultKind
 placed_label labels l = ok_or (place_of labels l) fault.UnknownLabel
 
-unfoldable pub placed_labels : List (List ℕ × ℕ) → List (List ℕ) → Result (List ℕ) FaultKind
-placed_labels labels [] = Ok []
-placed_labels labels (l ∷ ls) = placed_label labels l >>= λ place. placed_labels labels ls >>= λ places. Ok (place ∷ places)
+-- what f gives of each, up to the first fault
+unfoldable pub each : {A B : Type 0} → (A → Result B FaultKind) → List A → Result (List B) FaultKind
+each f [] = Ok []
+each f (x ∷ xs) = f x >>= λ y. each f xs >>= λ ys. Ok (y ∷ ys)
 
-unfoldable pub placed_cases : List (List ℕ × ℕ) → List (ℤ × List ℕ) → Result (List (ℤ × ℕ)) FaultKind
-placed_cases labels [] = Ok []
-placed_cases labels (c ∷ cs) = placed_label labels c.1 >>= λ place. placed_cases labels cs >>= λ rest. Ok ((c.0, place) ∷ rest)
+abbrev pub placed_labels : List (List ℕ × ℕ) → List (List ℕ) → Result (List ℕ) FaultKind
+placed_labels labels ls = each (placed_label labels) ls
+
+abbrev pub placed_case : List (List ℕ × ℕ) → ℤ × List ℕ → Result (ℤ × ℕ) FaultKind
+placed_case labels c = placed_label labels c.1 >>= λ place. Ok (c.0, place)
+
+abbrev pub placed_cases : List (List ℕ × ℕ) → List (ℤ × List ℕ) → Result (List (ℤ × ℕ)) FaultKind
+placed_cases labels cs = each (placed_case labels) cs
 
 -- an instruction with places for its labels
 unfoldable pub placed : List (List ℕ × ℕ) → Instruction (List ℕ) → Result (Instruction ℕ) FaultKind
@@ -159,9 +165,8 @@ placed labels (instruction.New name) = Ok (instruction.New name)
 placed labels (instruction.NewArray b) = Ok (instruction.NewArray b)
 placed labels (instruction.TypeUse t r) = Ok (instruction.TypeUse t r)
 
-unfoldable pub all_placed : List (List ℕ × ℕ) → List (Instruction (List ℕ)) → Result (List (Instruction ℕ)) FaultKind
-all_placed labels [] = Ok []
-all_placed labels (i ∷ is) = placed labels i >>= λ j. all_placed labels is >>= λ js. Ok (j ∷ js)
+abbrev pub all_placed : List (List ℕ × ℕ) → List (Instruction (List ℕ)) → Result (List (Instruction ℕ)) FaultKind
+all_placed labels is = each (placed labels) is
 
 abbrev pub handler_of : Option (List ℕ) → ℕ → ℕ → ℕ → Handler
 handler_of class from to handler = record { class = class; from = from; to = to; handler = handler }
@@ -170,9 +175,8 @@ handler_of class from to handler = record { class = class; from = from; to = to;
 unfoldable pub placed_catch : List (List ℕ × ℕ) → Catch → Result Handler FaultKind
 placed_catch labels c = placed_label labels c.from >>= λ from. placed_label labels c.to >>= λ to. placed_label labels c.handler >>= λ handler. Ok (handler_of c.class from to handler)
 
-unfoldable pub placed_catches : List (List ℕ × ℕ) → List Catch → Result (List Handler) FaultKind
-placed_catches labels [] = Ok []
-placed_catches labels (c ∷ cs) = placed_catch labels c >>= λ h. placed_catches labels cs >>= λ hs. Ok (h ∷ hs)
+abbrev pub placed_catches : List (List ℕ × ℕ) → List Catch → Result (List Handler) FaultKind
+placed_catches labels cs = each (placed_catch labels) cs
 
 -- neither an instruction nor a label nor a row of the handler table
 abbrev pub has_nothing : Body → Bool

@@ -1,7 +1,7 @@
 -- The lines that name a class, a field or a method: access words, then the name.
 use Rattle.std.specs.Prelude.{ℕ, Bool, true, false, not, ◌&&◌, List, [], ◌∷◌, Option, Some, None, is_some, Result, Ok, Err, ◌==◌, if◌then◌else◌, length, codes}
 use Rattle.std.specs.List.{list_any}
-use Rattle.std.specs.Option.{option_map}
+use Rattle.std.specs.Option.{option_map, ok_or}
 use Rattle.descriptors.specs.Signature.{Signature}
 use Rattle.descriptors.specs.declared.field.FieldType.{FieldType}
 use Rattle.jasmin_words.specs.declared.fault.FaultKind.{FaultKind}
@@ -11,6 +11,7 @@ use Rattle.jasmin_words.specs.Lexing.{Item, Word, LongWord, BadWord, Equals}
 use Rattle.jasmin_words.specs.Names.{same_bytes}
 use Rattle.jasmin_text.specs.Spellable.{is_int_type, is_string_type}
 use Rattle.jasmin_text.specs.Tables.{access_of, member_access_of}
+use Rattle.jasmin_text.specs.Grammar.{no_access, with_word as more_access, is_taken_in}
 use Rattle.jasmin_text.specs.declared.access.Access.{Access}
 use Rattle.jasmin_text.specs.declared.class_text.ClassKind.{ClassKind}
 use Rattle.jasmin_text.specs.declared.class_text.ClassKind.TheVariants.{Class, Interface}
@@ -18,13 +19,12 @@ use Rattle.jasmin_text.specs.declared.class_text.Constant.{Constant}
 use Rattle.jasmin_text.specs.declared.class_text.Constant.TheVariants as constant
 use Rattle.jasmin_text.specs.declared.class_text.Field.{Field}
 use Rattle.jasmin_text.specs.declared.table.AccessWord.{AccessWord}
-use Rattle.jasmin_text.specs.declared.table.AccessWord.TheVariants as access
+use Rattle.jasmin_text.specs.declared.table.AccessWord.TheVariants.{LeftOut}
 use Rattle.jasmin_reader.specs.declared.head.Place.{Place}
 use Rattle.jasmin_reader.specs.declared.head.Place.TheVariants as place
 use Rattle.jasmin_reader.specs.declared.head.HeadWords.{HeadWords}
 use Rattle.jasmin_reader.specs.declared.table.ClassWord.{ClassWord}
 use Rattle.jasmin_reader.specs.declared.table.ClassWord.TheVariants as class_word
-use Rattle.jasmin_reader.specs.Table.{class_word_at}
 use Rattle.jasmin_reader.specs.Places.{misplaced, word_of, within_limit, operand, string_from, ended_at}
 use Rattle.jasmin_reader.specs.Operands.{class_name_in, member_name_in, integer_in, type_in, typed_in}
 
@@ -32,30 +32,27 @@ use Rattle.jasmin_reader.specs.Operands.{class_name_in, member_name_in, integer_
 
 -- no word yet
 abbrev pub start : ClassKind → HeadWords
-start k = record { kind = k; access = record { public = false; private = false; protected = false; is_static = false; is_final = false; synchronized = false; volatile = false; transient = false; is_abstract = false } }
+start k = record { kind = k; access = no_access }
 
 -- the access words with one more
 abbrev pub with_access : Access → AccessWord → Result Access FaultKind
-with_access a access.Public = Ok (record a { public = true })
-with_access a access.Private = Ok (record a { private = true })
-with_access a access.Protected = Ok (record a { protected = true })
-with_access a access.Static = Ok (record a { is_static = true })
-with_access a access.Final = Ok (record a { is_final = true })
-with_access a access.Synchronized = Ok (record a { synchronized = true })
-with_access a access.Volatile = Ok (record a { volatile = true })
-with_access a access.Transient = Ok (record a { transient = true })
-with_access a access.Abstract = Ok (record a { is_abstract = true })
-with_access a access.Dropped = Ok a
-with_access a access.LeftOut = Err fault.LeftOut
+with_access a w = if is_taken_in w then Ok (more_access w a) else Err fault.LeftOut
 
 -- abstract and static stand on no method together
+abbrev pub stand_together : Place → Access → Bool
+stand_together place.Method a = not (a.is_abstract && a.is_static)
+stand_together other a = true
+
 abbrev pub fits_place : Place → Access → Result Access FaultKind
-fits_place place.Method a = if a.is_abstract && a.is_static then Err fault.BadOperand else Ok a
-fits_place other a = Ok a
+fits_place p a = if stand_together p a then Ok a else Err fault.BadOperand
 
 abbrev pub with_class_word : Place → HeadWords → ClassWord → Result HeadWords FaultKind
 with_class_word p words class_word.Interface = Ok (record words { kind = Interface })
 with_class_word p words (class_word.Access a) = with_access words.access a >>= λ x. fits_place p x >>= λ y. Ok (record words { access = y })
+
+-- what the word says behind .class, if it is an access word there
+unfoldable pub class_word_at : List ℕ → Option ClassWord
+class_word_at w = if same_bytes w (codes "interface") then Some class_word.Interface else option_map class_word.Access (access_of w)
 
 -- what a word says before a name: the word interface is one more access word, but not behind .interface
 unfoldable pub head_word_at : Place → List ℕ → Option ClassWord
@@ -63,13 +60,9 @@ head_word_at place.Class w = class_word_at w
 head_word_at place.Interface w = option_map class_word.Access (access_of w)
 head_word_at member w = option_map class_word.Access (member_access_of w)
 
-abbrev pub with_known : Place → HeadWords → Option ClassWord → Result HeadWords FaultKind
-with_known p words None = Err fault.BadOperand
-with_known p words (Some c) = with_class_word p words c
-
 -- the words before a name, with one more
 unfoldable pub with_word : Place → HeadWords → List ℕ → Result HeadWords FaultKind
-with_word p words w = with_known p words (head_word_at p w)
+with_word p words w = ok_or (head_word_at p w) fault.BadOperand >>= with_class_word p words
 
 abbrev pub is_word : Item → Bool
 is_word (Word w) = true
@@ -86,9 +79,8 @@ begins_with_word (t ∷ rest) = is_word t
 
 -- signature ends the words of a field unless a word follows
 abbrev pub is_signature : List Item → Bool
-is_signature [] = false
 is_signature (Word w ∷ rest) = same_bytes w (codes "signature") && not (begins_with_word rest)
-is_signature (other ∷ rest) = false
+is_signature other = false
 
 -- a word that belongs to the access words, the name and the descriptor of a field
 abbrev pub begins_with_part : List Item → Bool
@@ -111,13 +103,10 @@ named_from p words (t ∷ rest) = word_of t >>= λ w.
     if is_before_name p rest then (with_word p words w.0 >>= λ more. within_limit w.1 >>= λ _. named_from p more rest)
     else Ok (words, (w, rest))
 
-abbrev pub taken_for_access : ClassWord → FaultKind
-taken_for_access (class_word.Access access.LeftOut) = fault.LeftOut
-taken_for_access _ = fault.BadOperand
-
 abbrev pub no_access_by : Option ClassWord → Result (Unit {0}) FaultKind
 no_access_by None = Ok tt
-no_access_by (Some c) = Err (taken_for_access c)
+no_access_by (Some (class_word.Access LeftOut)) = Err fault.LeftOut
+no_access_by other = Err fault.BadOperand
 
 -- Whether a word in the name's place is an access word is decided first: it is then taken as one, and the name is missing.
 unfoldable pub no_access_in : Place → List ℕ → Result (Unit {0}) FaultKind
@@ -138,21 +127,15 @@ class_from p items = named_from p (start (kind_at p)) items >>= λ n.
 
 -- one signature may stand behind the descriptor; it is skipped
 abbrev pub behind_signature : List Item → Result (List Item) FaultKind
-behind_signature [] = Ok []
 behind_signature (Word w ∷ rest) = if same_bytes w (codes "signature") then (string_from rest >>= λ t. Ok t.1) else Ok (Word w ∷ rest)
-behind_signature (other ∷ rest) = Ok (other ∷ rest)
-
--- where no value may stand
-abbrev pub no_constant : List Item → Result (Constant × List Item) FaultKind
-no_constant [] = Err fault.BadOperand
-no_constant (t ∷ rest) = Err (misplaced t)
+behind_signature items = Ok items
 
 -- a value of a type
 unfoldable pub constant_for : FieldType → List Item → Result (Constant × List Item) FaultKind
 constant_for t items =
     if is_int_type t then (operand integer_in items >>= λ n. Ok (constant.Int n.0, n.1))
     else if is_string_type t then (string_from items >>= λ s. Ok (constant.Text s.0, s.1))
-    else no_constant items
+    else (ended_at items >>= λ _. Err fault.BadOperand)
 
 abbrev pub value_at : FieldType → List Item → Result (Option Constant) FaultKind
 value_at t [] = Ok None
@@ -163,16 +146,13 @@ value_at t (other ∷ rest) = Err (misplaced other)
 unfoldable pub value_from : FieldType → List Item → Result (Option Constant) FaultKind
 value_from t items = behind_signature items >>= value_at t
 
-abbrev pub field_of : Access → List ℕ → FieldType → Option Constant → Field
-field_of a name t value = record { access = a; name = name; field_type = t; value = value }
-
 -- a field's descriptor; it is missing where a signature stands in its place
 abbrev pub described_from : List Item → Result (FieldType × List Item) FaultKind
 described_from items = if is_signature items then Err fault.BadOperand else operand type_in items
 
 -- the field with these access words and this name, by its descriptor and value
 abbrev pub field_named : Access → List ℕ → List Item → Result Field FaultKind
-field_named a name items = described_from items >>= λ t. value_from t.0 t.1 >>= λ value. Ok (field_of a name t.0 value)
+field_named a name items = described_from items >>= λ t. value_from t.0 t.1 >>= λ value. Ok (record { access = a; name = name; field_type = t.0; value = value })
 
 -- behind .field
 unfoldable pub field_from : List Item → Result Field FaultKind

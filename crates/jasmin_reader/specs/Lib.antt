@@ -6,4 +6,3 @@ pub mod Listing
 pub mod Bodies
 pub mod Reading
 pub mod File
-pub mod Good

@@ -1,5 +1,5 @@
 -- The instructions of a method, as far as they are read.
-use Rattle.std.specs.Prelude.{ℕ, ◌+◌, ◌-◌, ◌≤◌, Bool, List, [], ◌∷◌, ◌++◌, length, Option, Some, None, is_some, Result, Ok, Err, ◌==◌, if◌then◌else◌, ℤ, codes}
+use Rattle.std.specs.Prelude.{ℕ, ◌+◌, ◌-◌, ◌≤◌, Bool, not, ◌&&◌, List, [], ◌∷◌, ◌++◌, length, Option, Some, None, is_some, Result, Ok, Err, ◌==◌, if◌then◌else◌, ℤ, codes}
 use Rattle.std.specs.BTreeMap.{insert_entry, is_at}
 use Rattle.std.specs.Map.{lookup}
 use Rattle.std.specs.Ordering.{int_cmp}
@@ -80,8 +80,8 @@ colon_from [] = Err fault.BadOperand
 colon_from (Colon ∷ rest) = Ok rest
 colon_from (other ∷ rest) = Err (misplaced other)
 
-abbrev pub is_default : List ℕ → Bool
-is_default w = same_bytes w (codes "default")
+abbrev pub is_default : List ℕ × Bool → Bool
+is_default w = same_bytes w.0 (codes "default") && not w.1
 
 -- where a last key is given, each key has one label
 abbrev pub less_room : Option ℕ → Result (Option ℕ) FaultKind
@@ -106,7 +106,7 @@ table_end l t rest = is_full t.room >>= λ _. last_operand label_in rest >>= λ 
 
 abbrev pub table_by : Listing → Table → List ℕ × Bool → List Item → Option (List Item) → Result Listing FaultKind
 table_by l t w rest None = target_at l t w rest
-table_by l t w rest (Some after) = if is_default w.0 then table_end l t after else target_at l t w rest
+table_by l t w rest (Some after) = if is_default w then table_end l t after else target_at l t w rest
 
 -- each key stands once
 abbrev pub new_key : Bool → Result (Unit {0}) FaultKind
@@ -142,4 +142,4 @@ lookup_end l cases rest = colon_from rest >>= λ after. last_operand label_in af
 -- a line in a switch that begins with this word; in a tableswitch default may be a label
 unfoldable pub switch_at : Listing → Switch → List ℕ × Bool → List Item → Result Listing FaultKind
 switch_at l (switch.Table t) w rest = table_by l t w rest (behind_colon rest)
-switch_at l (switch.Lookup cases) w rest = if is_default w.0 then lookup_end l cases rest else case_at l cases w rest
+switch_at l (switch.Lookup cases) w rest = if is_default w then lookup_end l cases rest else case_at l cases w rest

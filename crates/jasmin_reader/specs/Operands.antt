@@ -23,7 +23,6 @@ use Rattle.jasmin_text.specs.declared.form.Form.{Form}
 use Rattle.jasmin_text.specs.declared.form.Form.TheVariants as form
 use Rattle.jasmin_text.specs.declared.instruction.Instruction.{Instruction}
 use Rattle.jasmin_text.specs.declared.instruction.Instruction.TheVariants as instruction
-use Rattle.jasmin_text.specs.declared.instruction.FieldReference.{FieldReference}
 use Rattle.jasmin_text.specs.declared.instruction.MethodReference.{MethodReference}
 use Rattle.jasmin_text.specs.declared.instruction.ReferenceType.{ReferenceType}
 use Rattle.jasmin_text.specs.declared.instruction.ReferenceType.TheVariants as reference
@@ -117,12 +116,9 @@ name_len (b ∷ bs) = if b == 40 then 0 else 1 + name_len bs
 unfoldable pub typed_in : {A : Type 0} → (List ℕ → Result A FaultKind) → List ℕ → Result (A × Signature) FaultKind
 typed_in read w = both (read (take (name_len w) w)) (signature_in (drop (name_len w) w))
 
-abbrev pub method_of : (List ℕ × List ℕ) × Signature → MethodReference
-method_of m = record { class = m.0.0; name = m.0.1; method_type = m.1 }
-
 -- a class, a method's name and its descriptor
 abbrev pub method_in : List ℕ → Result MethodReference FaultKind
-method_in w = typed_in member_in w >>= λ m. Ok (method_of m)
+method_in w = typed_in member_in w >>= λ m. Ok (record { class = m.0.0; name = m.0.1; method_type = m.1 })
 
 abbrev pub base_of : Option BaseWord → Result BaseType FaultKind
 base_of None = Err fault.BadOperand
@@ -156,19 +152,10 @@ constant_from (Text t ∷ rest) = Ok (constant.Text t, rest)
 constant_from (BadText k ∷ rest) = Err k
 constant_from (other ∷ rest) = operand integer_in (other ∷ rest) >>= λ n. Ok (constant.Int n.0, n.1)
 
-abbrev pub field_reference : List ℕ × List ℕ → FieldType → FieldReference
-field_reference m t = record { class = m.0; name = m.1; field_type = t }
-
-abbrev pub field_from : List Item → Result FieldReference FaultKind
-field_from items = operand member_in items >>= λ m. last_operand type_in m.1 >>= λ t. Ok (field_reference m.0 t)
-
 -- an optional count, which has no effect
 abbrev pub count_at : List Item → Result (Unit {0}) FaultKind
 count_at [] = Ok tt
 count_at (t ∷ rest) = last_operand count_in (t ∷ rest) >>= λ _. Ok tt
-
-abbrev pub interface_from : List Item → Result MethodReference FaultKind
-interface_from items = operand method_in items >>= λ m. count_at m.1 >>= λ _. Ok m.0
 
 -- how many labels a tableswitch may have
 abbrev pub labels_between : ℤ → ℤ → Result ℕ FaultKind
@@ -185,9 +172,6 @@ room_at low (t ∷ rest) = last_operand (room_in low) (t ∷ rest) >>= λ n. Ok 
 abbrev pub table_of : ℤ → Option ℕ → Switch
 table_of low room = switch.Table (record { low = low; room = room; labels = [] })
 
-abbrev pub table_from : List Item → Result Switch FaultKind
-table_from items = operand integer_in items >>= λ low. room_at low.0 low.1 >>= λ room. Ok (table_of low.0 room)
-
 abbrev pub raw : Instruction (List ℕ) → Result Begun FaultKind
 raw i = Ok (begun.Whole i)
 
@@ -202,11 +186,11 @@ begun_at (form.Local l) items = last_operand local_in items >>= λ n. raw (instr
 begun_at (form.LocalAt l n) items = ended_at items >>= λ _. raw (instruction.Local l n)
 begun_at form.Increment items = operand local_in items >>= λ n. last_operand (int_in short_low (pos 32767)) n.1 >>= λ by. raw (instruction.Increment n.0 by)
 begun_at (form.Jump j) items = last_operand label_in items >>= λ l. raw (instruction.Jump j l)
-begun_at form.TableSwitch items = table_from items >>= λ s. Ok (begun.Opens s)
+begun_at form.TableSwitch items = operand integer_in items >>= λ low. room_at low.0 low.1 >>= λ room. Ok (begun.Opens (table_of low.0 room))
 begun_at form.LookupSwitch items = ended_at items >>= λ _. Ok (begun.Opens (switch.Lookup []))
-begun_at (form.Field f) items = field_from items >>= λ r. raw (instruction.Field f r)
+begun_at (form.Field f) items = operand member_in items >>= λ m. last_operand type_in m.1 >>= λ t. raw (instruction.Field f (record { class = m.0.0; name = m.0.1; field_type = t }))
 begun_at (form.Call c) items = last_operand method_in items >>= λ m. raw (instruction.Call c m)
-begun_at form.CallInterface items = interface_from items >>= λ r. raw (instruction.CallInterface r)
+begun_at form.CallInterface items = operand method_in items >>= λ m. count_at m.1 >>= λ _. raw (instruction.CallInterface m.0)
 begun_at form.New items = last_operand class_name_in items >>= λ name. raw (instruction.New name)
 begun_at form.NewArray items = last_operand base_in items >>= λ b. raw (instruction.NewArray b)
 begun_at (form.TypeUse t) items = last_operand reference_in items >>= λ r. raw (instruction.TypeUse t r)

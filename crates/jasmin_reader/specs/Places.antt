@@ -8,17 +8,23 @@ use Rattle.jasmin_words.specs.Fault.{number_of}
 use Rattle.jasmin_words.specs.Gives.{◌>>=◌}
 use Rattle.jasmin_words.specs.Lexing.{Item, Word, LongWord, BadWord, Text, BadText}
 
--- the fault of a word that may not stand in its place
-abbrev pub misplaced : Item → FaultKind
-misplaced BadWord = fault.BadByte
-misplaced (BadText fault.BadByte) = fault.BadByte
-misplaced _ = fault.BadOperand
+-- the fault of what may not stand in its place; other, where it has none of its own
+abbrev pub fault_in : FaultKind → Item → FaultKind
+fault_in other BadWord = fault.BadByte
+fault_in other (BadText fault.BadByte) = fault.BadByte
+fault_in other _ = other
 
--- the bytes of a word, and whether they are too many
+abbrev pub misplaced : Item → FaultKind
+misplaced t = fault_in fault.BadOperand t
+
+-- the bytes of a word, and whether they are too many; other is the fault where no word stands
+abbrev pub first_word : FaultKind → Item → Result (List ℕ × Bool) FaultKind
+first_word other (Word w) = Ok (w, false)
+first_word other (LongWord w) = Ok (w, true)
+first_word other t = Err (fault_in other t)
+
 abbrev pub word_of : Item → Result (List ℕ × Bool) FaultKind
-word_of (Word w) = Ok (w, false)
-word_of (LongWord w) = Ok (w, true)
-word_of other = Err (misplaced other)
+word_of t = first_word fault.BadOperand t
 
 -- a word's length is looked at where nothing lower is wrong with it
 abbrev pub within_limit : Bool → Result (Unit {0}) FaultKind
@@ -45,14 +51,6 @@ string_from (other ∷ rest) = Err (misplaced other)
 abbrev pub ended_at : List Item → Result (Unit {0}) FaultKind
 ended_at [] = Ok tt
 ended_at (other ∷ rest) = Err (misplaced other)
-
--- the word by which a line begins; other is the fault where none does
-abbrev pub first_word : FaultKind → Item → Result (List ℕ × Bool) FaultKind
-first_word other (Word w) = Ok (w, false)
-first_word other (LongWord w) = Ok (w, true)
-first_word other BadWord = Err fault.BadByte
-first_word other (BadText fault.BadByte) = Err fault.BadByte
-first_word other _ = Err other
 
 -- the lower of two kinds
 abbrev pub lowest : FaultKind → FaultKind → FaultKind

@@ -25,7 +25,7 @@ fn place(labels: &Labels, label: &Text) -> Result<u16, LineError>
 }
 
 /// The places of labels.
-#[tactic(auto, unfolding(crate::specs::Bodies::placed_labels), using(crate::proofs::Gathered::gathering))]
+#[tactic(auto, unfolding(crate::specs::Bodies::each), using(crate::proofs::Gathered::gathering))]
 fn places(alloc: Global, labels: &Labels, names: &[Text]) -> Result<Sequence<u16>, LineError>
     ensures { Gives (λ x. x) result (placed_labels labels.now names.now) }
 {
@@ -39,7 +39,7 @@ fn places(alloc: Global, labels: &Labels, names: &[Text]) -> Result<Sequence<u16
 }
 
 /// Keys with the places of their labels.
-#[tactic(auto, unfolding(crate::specs::Bodies::placed_cases), using(crate::proofs::Gathered::gathering))]
+#[tactic(auto, unfolding(crate::specs::Bodies::each), using(crate::proofs::Gathered::gathering))]
 fn cases(
     alloc: Global,
     labels: &Labels,
@@ -124,7 +124,7 @@ fn with_places(
 }
 
 /// All instructions with places for their labels.
-#[tactic(auto, unfolding(crate::specs::Bodies::all_placed), using(crate::proofs::Gathered::gathering))]
+#[tactic(auto, unfolding(crate::specs::Bodies::each), using(crate::proofs::Gathered::gathering))]
 fn all_with_places(
     alloc: Global,
     labels: &Labels,
@@ -164,7 +164,7 @@ fn handler(labels: &Labels, row: Catch) -> Result<Handler, LineError>
 }
 
 /// The handler table with places for its labels.
-#[tactic(auto, unfolding(crate::specs::Bodies::placed_catches), using(crate::proofs::Gathered::gathering))]
+#[tactic(auto, unfolding(crate::specs::Bodies::each), using(crate::proofs::Gathered::gathering))]
 fn handlers(
     alloc: Global,
     labels: &Labels,

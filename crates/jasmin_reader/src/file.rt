@@ -1,14 +1,14 @@
 //! A class file, from its first line to its last.
 
-ghost use Rattle.std.specs.Prelude.{◌≡◌, ◌<◌, ◌∷◌, ◌≤◌, length, IfOk, OnOk, Ok, unwrap_or};
+ghost use Rattle.std.specs.Prelude.{◌≡◌, ◌<◌, ◌∷◌, ◌≤◌, length, IfOk, Ok, unwrap_or};
 ghost use Rattle.jasmin_text.specs.Grammar.{Spells};
+ghost use Rattle.jasmin_text.specs.Spellable.{IsSpellable};
 ghost use Rattle.jasmin_text.specs.declared.class_text.ClassParts.{ClassParts};
 ghost use Rattle.jasmin_words.specs.Gives.{Gives};
 ghost use Rattle.jasmin_words.specs.Lexing.{words_of};
 ghost use Rattle.jasmin_reader.specs.Reading.{line_at};
 ghost use Rattle.jasmin_text.specs.Lines.{line_len, lines_of};
 ghost use Rattle.jasmin_reader.specs.File.{Reads, class_at, empty_reader, parts_with, finished, fault_at, fault_of, object_name};
-ghost use Rattle.jasmin_reader.specs.Good.{IsGood};
 ghost use Rattle.jasmin_words.specs.declared.fault.FaultKind.TheVariants as faults;
 
 use crate::fault::ReadFault;
@@ -64,8 +64,7 @@ fn fault_on(error: LineError, line: usize) -> ReadFault
 }
 
 fn add_line(reader: &mut Reader, alloc: Global, line: &[u8]) -> Result<(), LineError>
-    ensures gives { Gives (λ _. reader.new) result (line_at reader.old (words_of line.now)) }
-    ensures good { OnOk result (IsGood reader.old → IsGood reader.new) }
+    ensures { Gives (λ _. reader.new) result (line_at reader.old (words_of line.now)) }
 {
     let tokens = words(alloc, line)?;
     reader.line(alloc, tokens.as_slice())
@@ -131,7 +130,7 @@ fn parts(alloc: Global, reader: &mut Reader, last: usize) -> Result<ClassParts, 
 
 /// The class text of a class that is read whole.
 fn finish(alloc: Global, reader: &mut Reader, last: usize) -> Result<ClassText, ReadFault>
-    requires { IsGood reader.old }
+    requires { (c : ClassParts) → finished reader.old last ≡ Ok c → IsSpellable c }
     ensures { Reads result (finished reader.old last) }
 {
     let parts = parts(alloc, reader, last)?;

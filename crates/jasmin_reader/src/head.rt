@@ -3,7 +3,7 @@
 ghost use Rattle.std.specs.Prelude.{◌≡◌};
 ghost use Rattle.jasmin_words.specs.Gives.{Gives};
 ghost use Rattle.jasmin_words.specs.Lexing.{view, views};
-ghost use Rattle.jasmin_reader.specs.Heads.{start, with_access, fits_place, head_word_at, with_class_word, with_word, is_word, has_word, begins_with_word, is_signature, begins_with_part, behind, is_before_name, named_from, no_access_in, taken_for_access, class_from};
+ghost use Rattle.jasmin_reader.specs.Heads.{start, with_access, fits_place, head_word_at, with_class_word, with_word, is_word, has_word, begins_with_word, is_signature, begins_with_part, behind, is_before_name, named_from, no_access_by, no_access_in, class_from};
 
 use crate::place::{FromWord, LineError, PlacedWord, bad_operand, ended, placed_word, within};
 use crate::table::{ClassWord, class_word_of};

@@ -77,10 +77,10 @@ fn colon<'a, 't>(tokens: &'t [Token<'a>]) -> Result<&'t [Token<'a>], LineError>
     }
 }
 
-fn is_default_word(word: &[u8]) -> bool
-    ensures { result ≡ is_default word.now }
+fn is_default_word(word: &[u8], is_long: bool) -> bool
+    ensures { result ≡ is_default (word.now, is_long) }
 {
-    same(word, b"default")
+    same(word, b"default") && !is_long
 }
 
 /// How many labels a `tableswitch` may have after one more.
@@ -298,7 +298,7 @@ impl Listing {
         ensures { Gives (λ _. self.new) result (table_by self.old table (word.now, is_long) (views rest.now) (behind_colon_of (views rest.now))) }
     {
         match behind_colon(rest) {
-            Some(after) if is_default_word(word) => self.end_table(alloc, table, after),
+            Some(after) if is_default_word(word, is_long) => self.end_table(alloc, table, after),
             _ => self.target(alloc, table, word, is_long, rest),
         }
     }
@@ -381,7 +381,7 @@ impl Listing {
         match switch {
             Switch::Table(table) => self.table_line(alloc, table, word, is_long, rest),
             Switch::Lookup(cases) => {
-                if is_default_word(word) {
+                if is_default_word(word, is_long) {
                     self.end_lookup(alloc, cases, rest)
                 } else {
                     self.case(alloc, cases, word, is_long, rest)

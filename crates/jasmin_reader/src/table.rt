@@ -1,7 +1,8 @@
 //! The words that may stand before a class's name, and those of base types.
 
 ghost use Rattle.std.specs.Prelude.{◌≡◌};
-ghost use Rattle.jasmin_reader.specs.Table.{class_word_at, base_at};
+ghost use Rattle.jasmin_reader.specs.Heads.{class_word_at};
+ghost use Rattle.jasmin_reader.specs.Table.{base_at};
 ghost use Rattle.jasmin_text.specs.Tables.{find_row, rows};
 
 use descriptors::BaseType;
@@ -32,7 +33,7 @@ pub(crate) enum ClassWord {
 }
 
 /// What the word says behind `.class`, if it is an access word there.
-#[tactic(auto, unfolding(crate::specs::Table::class_word_at))]
+#[tactic(auto, unfolding(crate::specs::Heads::class_word_at))]
 pub(crate) fn class_word_of(word: &[u8]) -> Option<ClassWord>
     ensures { result ≡ class_word_at word.now }
 {

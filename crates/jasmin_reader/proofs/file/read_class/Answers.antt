@@ -2,8 +2,7 @@ use Rattle.std.proofs.Common.{subst, Result}
 use Rattle.jasmin_text.specs.declared.class_text.ClassParts.{ClassParts}
 use Rattle.jasmin_reader.specs.declared.fault.ReadFault.{ReadFault}
 use Rattle.jasmin_reader.specs.File.{Reads}
-use Rattle.jasmin_reader.proofs.ClassRead.{spelled_is_read}
-use Rattle.jasmin_reader.proofs.ClassTaken.{found_is_spelled}
+use Rattle.jasmin_reader.proofs.ClassRows.{spelled_is_read, found_is_spelled}
 use Rattle.jasmin_reader.proofs.file.read_class.Goals as goal
 
 pub returns-clause-found : goal.returns-clause-found

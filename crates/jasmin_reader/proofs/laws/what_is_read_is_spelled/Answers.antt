@@ -1,4 +1,4 @@
-use Rattle.jasmin_reader.proofs.ClassTaken.{read_is_spelled}
+use Rattle.jasmin_reader.proofs.ClassRows.{read_is_spelled}
 use Rattle.jasmin_reader.proofs.laws.what_is_read_is_spelled.Goals as goal
 
 pub returns : goal.returns
