@@ -1,4 +1,4 @@
-"""What the scripts of bench/ that start the built program share: commands with their least times, and a loop in Jasmin."""
+"""What the scripts of bench/ share: commands with their least times, the program of crates/bench, and a loop in Jasmin."""
 import os
 import shutil
 import subprocess

@@ -82,7 +82,7 @@ impl Watch {
 pub(crate) struct Row {
     pub what: &'static str,
     pub sample: Sample,
-    /// Its sizes: so many times the number that is asked for, which is 1 where none is.
+    /// Its sizes: so many times the number that is asked for, or the benchmark's own where none is.
     pub sizes: &'static [usize],
     /// The most that the number counts for.
     pub most: usize,
