@@ -73,7 +73,7 @@ ancestry-self classes above u a c = rw (ancestry-law classes above u a c) first
 pub ancestry-above : (classes : List Class) (above : ClassId → List ClassId) → IsUpward classes above → IsAcyclic classes → (c x y : ClassId) → Among x (above c) → Among y (ancestry classes above x) → Among y (ancestry classes above c)
 ancestry-above classes above u a c x y m h = rw (ancestry-law classes above u a c) (later (flat_map-has (ancestry classes above) m h))
 
-ancestry_cases : (classes : List Class) (above : ClassId → List ClassId) → IsUpward classes above → IsAcyclic classes → (c y : ClassId) → Among y (ancestry classes above c) → (y ≡ c) ⊎ ((x : ClassId) × Among x (above c) × Among y (ancestry classes above x))
+pub ancestry_cases : (classes : List Class) (above : ClassId → List ClassId) → IsUpward classes above → IsAcyclic classes → (c y : ClassId) → Among y (ancestry classes above c) → (y ≡ c) ⊎ ((x : ClassId) × Among x (above c) × Among y (ancestry classes above x))
 ancestry_cases classes above u a c y h =
     elim (cons_cases (rw (ancestry-law classes above u a c) at h)) [ inl e ↦ inl e | inr k ↦ inr (flat_map-from (ancestry classes above) (above c) k) ]
 

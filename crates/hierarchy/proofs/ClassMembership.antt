@@ -1,9 +1,9 @@
 -- Members of lists of classes, and lists without repeats.
 use Rattle.std.proofs.Common.{◌≡◌, Bool, true, false, cond, ◌⊎◌, inl, inr, List, [], ◌∷◌, ◌++◌, refl, sym, ap, subst, ◌∙◌}
-use Rattle.std.proofs.lemmas.Bool.{eqb-true, eq-eqb, cases_Bool, or_cases}
-use Rattle.std.specs.List.{list_any, filter}
+use Rattle.std.proofs.lemmas.Bool.{eqb-true, eq-eqb, cases_Bool, or_cases, and_parts}
+use Rattle.std.specs.List.{list_any, list_all, filter}
 use Rattle.hierarchy.specs.declared.class.ClassId.{ClassId}
-use Rattle.hierarchy.specs.ClassLists.{Every, Among, first, later, add_new, add_all, distinct, same_class}
+use Rattle.hierarchy.specs.ClassLists.{Every, Among, first, later, is_among, add_new, add_all, distinct, same_class}
 
 pub same_class-true : (c d : ClassId) → same_class c d ≡ true → c ≡ d
 same_class-true c d e = let n : c.number ≡ d.number = eqb-true c.number d.number e in λ i. record { number = n i }
@@ -19,6 +19,11 @@ among_from_true x (y ∷ ys) e =
 pub true_from_among : {x : ClassId} {xs : List ClassId} → Among x xs → list_any (same_class x) xs ≡ true
 true_from_among {x = x} first = rw (same_class-refl x) refl
 true_from_among (later {c = x} {d = y} h) = elim (cases_Bool (same_class x y)) [ inl e ↦ rw e refl | inr e ↦ rw e (true_from_among h) ]
+
+-- where all are there, each is
+pub among_all : {x : ClassId} (xs : List ClassId) {ys : List ClassId} → list_all (λ c. is_among c xs) ys ≡ true → Among x ys → Among x xs
+among_all {x = x} xs h first = among_from_true x xs (and_parts _ _ h).0
+among_all xs h (later k) = among_all xs (and_parts _ _ h).1 k
 
 pub among_left : {x : ClassId} {xs : List ClassId} (ys : List ClassId) → Among x xs → Among x (xs ++ ys)
 among_left ys first = first

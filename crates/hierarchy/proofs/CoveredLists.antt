@@ -1,19 +1,20 @@
 -- What is left out was found: the list of the nearest superinterface is shorter by one.
-use Rattle.std.proofs.Common.{◌≡◌, ℕ, zero, suc, ◌+◌, ◌<◌, ◌≤◌, false, inl, inr, Option, Some, List, [], ◌∷◌, length, refl, sym, ap, subst, ◌∙◌}
+use Rattle.std.proofs.Common.{◌≡◌, ℕ, zero, suc, ◌+◌, ◌<◌, ◌≤◌, true, false, inl, inr, Option, Some, List, [], ◌∷◌, length, refl, sym, ap, subst, ◌∙◌}
 use Rattle.std.proofs.lemmas.Bool.{cases_Bool}
 use Rattle.std.specs.Prelude.{IfSome}
-use Rattle.std.specs.List.{flat_map}
+use Rattle.std.specs.List.{list_all, flat_map}
+use Rattle.std.specs.Option.{option_to_list}
 use Rattle.hierarchy.specs.declared.class.Class.{Class}
 use Rattle.hierarchy.specs.declared.class.ClassId.{ClassId}
-use Rattle.hierarchy.specs.Ancestry.{ancestry_within, ancestry, superclass_alone, IsWholeAbove}
+use Rattle.hierarchy.specs.Ancestry.{ancestry_within, ancestry, superclass_alone, superclass_of, IsWholeAbove}
 use Rattle.hierarchy.specs.ClassLists.{Among, first, later, add_new, add_all, distinct, is_among}
 use Rattle.hierarchy.specs.Fields.{field_order, interfaces_first}
-use Rattle.hierarchy.specs.FinishedLists.{AreFinished, listed, CoversAll}
+use Rattle.hierarchy.specs.FinishedLists.{AreFinished, listed, IsCovered}
 use Rattle.hierarchy.specs.Hierarchy.{interfaces_of, supers, Reaches, direct, further, IsSubtype, height, IsAcyclic}
 use Rattle.hierarchy.specs.Superinterfaces.{enumeration_within, enumeration, superinterfaces, IsClosed, IsTable}
 use Rattle.hierarchy.proofs.Acyclic.{not_cyclic}
-use Rattle.hierarchy.proofs.Ancestries.{interfaces_first_upward, ancestry-law, ancestry-self, ancestry-reaches, ancestry-whole}
-use Rattle.hierarchy.proofs.ClassMembership.{among_from_true, among_left, among_cases, add_new-there, add_new-has, add_new-keeps, add_new-cases, add_all-has, add_all-added, distinct-from}
+use Rattle.hierarchy.proofs.Ancestries.{interfaces_first_upward, ancestry-law, ancestry-self, ancestry-above, ancestry_cases, ancestry-reaches, ancestry-whole}
+use Rattle.hierarchy.proofs.ClassMembership.{among_from_true, among_all, among_left, among_cases, add_new-there, add_new-has, add_new-keeps, add_all-has, add_all-added, distinct-from}
 use Rattle.hierarchy.proofs.ClassSets.{distinct-once}
 use Rattle.hierarchy.proofs.Counts.{all_counted}
 use Rattle.hierarchy.proofs.Enumerations.{flat_map-has, flat_map-from, among_supers, enumeration-law, enumeration_within-whole}
@@ -70,7 +71,7 @@ not_among i xs h = elim (cases_Bool (is_among i xs)) [ inl e ↦ absurd (h (amon
 
 -- of superinterfaces the last is the nearest
 pub superinterfaces_covered : (classes : List Class) → IsAcyclic classes → (all : List (List ClassId)) (i : ClassId) (nearest : Option ClassId) (found : List ClassId) → AreFinished (superinterfaces classes) classes (IsSubtype classes i) all → IsClosed classes found →
-    IfSome nearest (λ c. Among c (listed all i.number)) → CoversAll all (listed all i.number) nearest found
+    IfSome nearest (λ c. Among c (listed all i.number)) → IsCovered all (listed all i.number) nearest found → (y : ClassId) → Among y (listed all i.number) → Among y found
 superinterfaces_covered classes a all i nearest found s closed n k y m =
     let list_is : listed all i.number ≡ superinterfaces classes i = listed_superinterfaces classes (IsSubtype classes i) all i (inl refl) s in
     let there : Among k.class (superinterfaces classes i) = nearest_in n k.is_nearest list_is in
@@ -89,11 +90,17 @@ pub enumerated : (classes : List Class) → IsAcyclic classes → (start now nex
 enumerated classes a start now next list i l n e =
     walked_all classes start now next i a (n ∙ ap (add_all start) l ∙ add_all-added start [] (flat_map (enumeration classes) (interfaces_of classes i))) e
 
+-- of superinterfaces the direct ones bring all
+pub superinterfaces_brought : (classes : List Class) (i : ClassId) (found : List ClassId) → IsClosed classes found → list_all (λ c. is_among c found) (interfaces_of classes i) ≡ true → (y : ClassId) → Among y (superinterfaces classes i) → Among y found
+superinterfaces_brought classes i found closed h y m =
+    let r = flat_map-from (enumeration classes) (interfaces_of classes i) (distinct-from (flat_map (enumeration classes) (interfaces_of classes i)) m) in
+    closed r.0 (among_all found h r.1) y r.2
+
 -- where fields are looked up the last superinterface is the nearest
-pub order_covered : (classes : List Class) → IsAcyclic classes → (tables all : List (List ClassId)) (i : ClassId) (nearest : Option ClassId) (start found : List ClassId) → IsTable (superinterfaces classes) (length classes) tables →
-    AreFinished (λ c. distinct (field_order classes c)) classes (IsSubtype classes i) all → i.number < length classes → IsWholeAbove classes (interfaces_first classes) i start → found ≡ add_new start i →
-    IfSome nearest (λ c. Among c (listed tables i.number)) → CoversAll all (listed all i.number) nearest found
-order_covered classes a tables all i nearest start found t s w whole f n k y m =
+pub order_covered : (classes : List Class) → IsAcyclic classes → (tables all : List (List ClassId)) (i : ClassId) (nearest : Option ClassId) (found : List ClassId) → IsTable (superinterfaces classes) (length classes) tables →
+    AreFinished (λ c. distinct (field_order classes c)) classes (IsSubtype classes i) all → i.number < length classes → IsWholeAbove classes (interfaces_first classes) i found →
+    IfSome nearest (λ c. Among c (listed tables i.number)) → IsCovered all (listed all i.number) nearest found → (y : ClassId) → Among y (listed all i.number) → Among y (add_new found i)
+order_covered classes a tables all i nearest found t s w whole n k y m =
     let up = interfaces_first_upward classes in
     let list_is : listed all i.number ≡ distinct (field_order classes i) = listed_within s i (inl refl) w in
     let superinterface : Among k.class (superinterfaces classes i) =
@@ -101,22 +108,34 @@ order_covered classes a tables all i nearest start found t s w whole f n k y m =
     let above : Reaches classes i k.class = superinterface_above classes a i k.class superinterface in
     let ordered : Among k.class (field_order classes i) = enumeration-ordered classes i (superinterface_enumerated classes a i k.class superinterface) in
     let above_is : k.above ≡ distinct (field_order classes k.class) = s.are k.class (inr above) k.above k.there in
-    let known : Among k.class start = elim (add_new-cases start i (subst (λ z. Among k.class z) f (among_from_true k.class found k.was_found))) [
-      | inl h ↦ h
-      | inr same ↦ absurd (not_cyclic classes a i (subst (λ z. Reaches classes i z) same above))
-    ] in
     let lacks : Among i (distinct (field_order classes k.class)) → ⊥ = λ h. elim (ancestry-reaches classes (interfaces_first classes) up a k.class i (distinct-from (field_order classes k.class) h)) [
       | inl same ↦ not_cyclic classes a i (subst (λ z. Reaches classes i z) (sym same) above)
       | inr r ↦ not_cyclic classes a i (reaches_on above r)
     ] in
-    subst (λ z. Among y z) (sym f)
-    (elim (all_counted i (distinct (field_order classes k.class)) (distinct (field_order classes i)) (not_among i (distinct (field_order classes k.class)) lacks)
+    elim (all_counted i (distinct (field_order classes k.class)) (distinct (field_order classes i)) (not_among i (distinct (field_order classes k.class)) lacks)
     (distinct-once (field_order classes k.class)) (add_all-has [] (ancestry-self classes (interfaces_first classes) up a i))
     (λ q h. add_all-has [] (ancestry-whole classes (interfaces_first classes) up a i k.class q ordered (distinct-from (field_order classes k.class) h)))
     (ap (λ z. length z + 1) (sym above_is) ∙ k.shorter ∙ ap length list_is) y (subst (λ z. Among y z) list_is m)) [
-      | inl same ↦ subst (λ z. Among z (add_new start i)) (sym same) (add_new-has start i)
-      | inr q ↦ add_new-keeps start i (whole k.class ordered known y (distinct-from (field_order classes k.class) q))
-    ])
+      | inl same ↦ subst (λ z. Among z (add_new found i)) (sym same) (add_new-has found i)
+      | inr q ↦ add_new-keeps found i (whole k.class ordered (among_from_true k.class found k.was_found) y (distinct-from (field_order classes k.class) q))
+    ]
+
+-- where fields are looked up the direct supertypes bring all but the class itself
+pub order_brought : (classes : List Class) → IsAcyclic classes → (i s : ClassId) (found : List ClassId) → IsWholeAbove classes (interfaces_first classes) i found → superclass_of classes i ≡ Some s → Among s found → list_all (λ c. is_among c found) (interfaces_of classes i) ≡ true →
+    (y : ClassId) → Among y (distinct (field_order classes i)) → Among y (add_new found i)
+order_brought classes a i s found whole e k h y m =
+    let up = interfaces_first_upward classes in
+    elim (ancestry_cases classes (interfaces_first classes) up a i y (distinct-from (field_order classes i) m)) [
+      | inl same ↦ subst (λ z. Among z (add_new found i)) (sym same) (add_new-has found i)
+      | inr r ↦ add_new-keeps found i (whole r.0 (ancestry-above classes (interfaces_first classes) up a i r.0 r.0 r.1 (ancestry-self classes (interfaces_first classes) up a r.0)) (brought r.1) y r.2)
+    ]
+  where
+    brought : {d : ClassId} → Among d (interfaces_first classes i) → Among d found
+    brought {d} q =
+        elim (among_cases (interfaces_of classes i) q) [
+          | inl l ↦ among_all found h l
+          | inr l ↦ subst (λ z. Among z found) (sym (among_one (subst (λ o. Among d (option_to_list o)) e l))) k
+        ]
 
 -- the class itself, then its order, in which it stands first
 pub ordered_again : (classes : List Class) → IsAcyclic classes → (start now next list : List ClassId) (i : ClassId) → list ≡ distinct (field_order classes i) → now ≡ add_new start i → next ≡ add_all now list → next ≡ add_all start (field_order classes i)

@@ -2,7 +2,7 @@
 use Rattle.std.specs.Prelude.{◌≡◌, ℕ, ◌+◌, true, List, [], Option, Some, None, length, slice_get}
 use Rattle.hierarchy.specs.declared.class.Class.{Class}
 use Rattle.hierarchy.specs.declared.class.ClassId.{ClassId}
-use Rattle.hierarchy.specs.ClassLists.{Among, is_among}
+use Rattle.hierarchy.specs.ClassLists.{is_among}
 
 -- there is a list for each class of the files, and it is finished for those of which P holds: f of the class
 pub record AreFinished (f : ClassId → List ClassId) (classes : List Class) (P : ClassId → Type 0) (all : List (List ClassId)) : Type 0 where
@@ -25,7 +25,3 @@ pub record IsCovered (all : List (List ClassId)) (list : List ClassId) (nearest 
   pub above : List ClassId
   pub there : slice_get all class.number ≡ Some above
   pub shorter : length above + 1 ≡ length list
-
--- where it is so, the whole list was found
-abbrev pub CoversAll : List (List ClassId) → List ClassId → Option ClassId → List ClassId → Type 0
-CoversAll all list nearest found = IsCovered all list nearest found → (c : ClassId) → Among c list → Among c found

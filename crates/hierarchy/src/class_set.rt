@@ -1,7 +1,7 @@
 //! Sets of classes in the order in which they were found.
 
 ghost use Rattle.std.specs.Prelude.{◌≡◌, ◌<◌, ◌≤◌, ℕ, [], ◌++◌, true, false, IfOk, OnOk, OnErr, length, slice_get, slice_index_or, option_copied};
-ghost use Rattle.std.specs.List.{IsDistinct};
+ghost use Rattle.std.specs.List.{list_all, IsDistinct};
 ghost use Rattle.hierarchy.specs.ClassLists.{is_among, add_new, add_all, same_class};
 
 use crate::class::ClassId;
@@ -66,6 +66,20 @@ impl ClassSet {
             Some(mark) => *mark,
             None => false,
         }
+    }
+
+    /// Whether each of these classes is there.
+    pub(crate) fn contains_all(&self, ids: &[ClassId]) -> bool
+        ensures { result ≡ list_all (λ c. is_among c self.now) ids.now }
+    {
+        let mut rest = ids;
+        while let [id, after @ ..] = rest {
+            if !self.contains(*id) {
+                return false;
+            }
+            rest = after;
+        }
+        true
     }
 
     /// The class at that place.

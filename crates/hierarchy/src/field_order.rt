@@ -1,8 +1,8 @@
 //! The classes in which a field is looked up, for each class.
 
-ghost use Rattle.std.specs.Prelude.{◌≡◌, ◌≤◌, IfOk, OnOk, length};
-ghost use Rattle.hierarchy.specs.ClassLists.{add_all, distinct};
-ghost use Rattle.hierarchy.specs.FinishedLists.{AreFinished};
+ghost use Rattle.std.specs.Prelude.{◌≡◌, ◌<◌, ◌≤◌, true, IfOk, OnOk, length};
+ghost use Rattle.hierarchy.specs.ClassLists.{Among, add_all, add_new, distinct};
+ghost use Rattle.hierarchy.specs.FinishedLists.{AreFinished, listed};
 ghost use Rattle.hierarchy.specs.Hierarchy.{IsAcyclic, IsSubtype, Reaches};
 ghost use Rattle.hierarchy.specs.Ancestry.{superclass_of, superclasses, IsWholeAbove};
 ghost use Rattle.hierarchy.specs.Fields.{field_order, interfaces_first};
@@ -12,7 +12,7 @@ ghost use Rattle.hierarchy.specs.UpwardOrder.{IsUpwardOrder};
 use crate::built_in::BuiltIn;
 use crate::class::{Class, ClassId};
 use crate::class_set::ClassSet;
-use crate::finished_lists::{add_list, add_list_unless_covered, empty_sets, last_listed};
+use crate::finished_lists::{add_list, add_list_unless, empty_sets, is_covered, last_listed};
 use crate::order::interfaces;
 use std::alloc::{AllocError, Global};
 
@@ -51,6 +51,33 @@ fn add_superclasses(classes: &[Class], id: ClassId, found: &mut ClassSet) -> Res
     }
 }
 
+/// Whether all classes in which a field of a class of the files is looked up, but itself, are seen to have been found: by the
+/// nearest superinterface, in a time that doesn't grow with their number, or by the direct supertypes.
+fn is_order_found(
+    classes: &[Class],
+    superinterfaces: &[ClassSet],
+    finished: &[ClassSet],
+    id: ClassId,
+    found: &ClassSet,
+) -> bool
+    requires few { length classes.now ≤ 1024 }
+    requires acyclic { IsAcyclic classes.now }
+    requires of_files { id.number < length classes.now }
+    requires superinterfaces { IsTable (superinterfaces_of classes.now) (length classes.now) superinterfaces.now }
+    requires finished { AreFinished (λ c. distinct (field_order classes.now c)) classes.now (IsSubtype classes.now id) finished.now }
+    requires whole { IsWholeAbove classes.now (interfaces_first classes.now) id found.now }
+    ensures { result ≡ true → (c : ClassId) → Among c (listed finished.now id.number) → Among c (add_new found.now id) }
+{
+    let nearest = last_listed(superinterfaces, id.number);
+    if is_covered(finished, id.number, nearest, found) {
+        return true;
+    }
+    let Some(superclass) = superclass(classes, id) else {
+        return false;
+    };
+    found.contains(superclass) && found.contains_all(interfaces(classes, id))
+}
+
 /// Adds the classes in which a field of a direct supertype is looked up, each once: what was found before is left
 /// out.
 fn add_order(
@@ -76,9 +103,9 @@ fn add_order(
             add_list(finished, id.number, found)?;
             return Ok(());
         }
+        let is_there = is_order_found(classes, superinterfaces, finished, id, found);
         found.add(id)?;
-        let nearest = last_listed(superinterfaces, id.number);
-        add_list_unless_covered(finished, id.number, nearest, found)?;
+        add_list_unless(is_there, finished, id.number, found)?;
         Ok(())
     } else {
         // A built-in class has no superinterfaces.

@@ -2,7 +2,7 @@
 
 ghost use Rattle.std.specs.Prelude.{◌≡◌, [], true, IfOk, IfSome, OnOk};
 ghost use Rattle.hierarchy.specs.ClassLists.{Among, add_all};
-ghost use Rattle.hierarchy.specs.FinishedLists.{listed, IsCovered, CoversAll};
+ghost use Rattle.hierarchy.specs.FinishedLists.{listed, IsCovered};
 ghost use Rattle.hierarchy.specs.Superinterfaces.{IsTable};
 
 use crate::class::ClassId;
@@ -49,7 +49,12 @@ pub(crate) fn add_list(
 }
 
 /// Whether the nearest class was found and its list is shorter by one than the list at that number.
-fn is_covered(all: &[ClassSet], number: usize, nearest: Option<ClassId>, found: &ClassSet) -> bool
+pub(crate) fn is_covered(
+    all: &[ClassSet],
+    number: usize,
+    nearest: Option<ClassId>,
+    found: &ClassSet,
+) -> bool
     ensures { result ≡ true → IsCovered all.now (listed all.now number) nearest found.now }
 {
     let Some(class) = nearest else {
@@ -64,18 +69,17 @@ fn is_covered(all: &[ClassSet], number: usize, nearest: Option<ClassId>, found: 
     found.contains(class) && above.as_slice().len() + 1 == list.as_slice().len()
 }
 
-/// Adds the list at that number, each class once. It takes no time where the list is known to have been found
-/// by the nearest class: so a long chain of interfaces, each listed, is not gone through again for each.
-pub(crate) fn add_list_unless_covered(
+/// Adds the list at that number, each class once; where all of it is there, nothing is to be done.
+pub(crate) fn add_list_unless(
+    is_there: bool,
     all: &[ClassSet],
     number: usize,
-    nearest: Option<ClassId>,
     found: &mut ClassSet,
 ) -> Result<(), AllocError>
-    requires covers { CoversAll all.now (listed all.now number) nearest found.old }
+    requires there { is_there ≡ true → (c : ClassId) → Among c (listed all.now number) → Among c found.old }
     ensures { OnOk result (found.new ≡ add_all found.old (listed all.now number)) }
 {
-    if is_covered(all, number, nearest, found) {
+    if is_there {
         return Ok(());
     }
     add_list(all, number, found)?;

@@ -1,8 +1,8 @@
 //! The superinterfaces of each class, in the order of their enumeration.
 
-ghost use Rattle.std.specs.Prelude.{◌≡◌, ◌≤◌, IfOk, OnOk, length};
-ghost use Rattle.hierarchy.specs.ClassLists.{add_all};
-ghost use Rattle.hierarchy.specs.FinishedLists.{AreFinished};
+ghost use Rattle.std.specs.Prelude.{◌≡◌, ◌≤◌, true, IfOk, OnOk, length};
+ghost use Rattle.hierarchy.specs.ClassLists.{Among, add_all};
+ghost use Rattle.hierarchy.specs.FinishedLists.{AreFinished, listed};
 ghost use Rattle.hierarchy.specs.Hierarchy.{IsAcyclic, IsSubtype, Reaches, interfaces_of};
 ghost use Rattle.hierarchy.specs.Superinterfaces.{enumeration, superinterfaces as superinterfaces_of, IsClosed, IsTable};
 ghost use Rattle.hierarchy.specs.Methods.{all_superinterfaces as inherited_by};
@@ -11,7 +11,7 @@ ghost use Rattle.hierarchy.specs.UpwardOrder.{IsUpwardOrder};
 use crate::class::{Class, ClassId};
 use crate::class_set::ClassSet;
 use crate::field_order::superclass;
-use crate::finished_lists::{add_list, add_list_unless_covered, empty_sets, last_listed};
+use crate::finished_lists::{add_list, add_list_unless, empty_sets, is_covered, last_listed};
 use std::alloc::{AllocError, Global};
 
 /// The direct superinterfaces, in order.
@@ -22,6 +22,21 @@ pub(crate) fn interfaces(classes: &[Class], id: ClassId) -> &[ClassId]
         Some(class) => class.interfaces.as_slice(),
         None => &[],
     }
+}
+
+/// Whether the superinterfaces of an interface are seen to have been found: by the nearest, in a time that doesn't grow with
+/// their number, as long chains of interfaces want it, each listed; or by the direct ones.
+fn are_found(classes: &[Class], finished: &[ClassSet], id: ClassId, found: &ClassSet) -> bool
+    requires acyclic { IsAcyclic classes.now }
+    requires finished { AreFinished (superinterfaces_of classes.now) classes.now (IsSubtype classes.now id) finished.now }
+    requires closed { IsClosed classes.now found.now }
+    ensures { result ≡ true → (c : ClassId) → Among c (listed finished.now id.number) → Among c found.now }
+{
+    let nearest = last_listed(finished, id.number);
+    if is_covered(finished, id.number, nearest, found) {
+        return true;
+    }
+    found.contains_all(interfaces(classes, id))
 }
 
 /// Adds the enumeration of a direct superinterface, each once: what was found before is left out.
@@ -40,8 +55,8 @@ fn add_enumeration(
     if found.contains(id) {
         return Ok(());
     }
-    let last = last_listed(finished, id.number);
-    add_list_unless_covered(finished, id.number, last, found)?;
+    let is_there = are_found(classes, finished, id, found);
+    add_list_unless(is_there, finished, id.number, found)?;
     found.add(id)?;
     Ok(())
 }

@@ -3,7 +3,7 @@ use Rattle.hierarchy.specs.ClassLists.{add_all}
 use Rattle.hierarchy.specs.Fields.{field_order, interfaces_first}
 use Rattle.hierarchy.proofs.Ancestries.{interfaces_first_upward, skipped_order}
 use Rattle.hierarchy.proofs.ClassMembership.{add_all-added}
-use Rattle.hierarchy.proofs.CoveredLists.{order_covered, ordered_again}
+use Rattle.hierarchy.proofs.CoveredLists.{ordered_again}
 use Rattle.hierarchy.proofs.FinishedLists.{listed_within}
 use Rattle.hierarchy.proofs.Superclasses.{order_past}
 use Rattle.hierarchy.proofs.field_order.add_order.Goals as goal
@@ -17,14 +17,9 @@ pub returns-then-as_slice-lt2 : goal.returns-then-as_slice-lt2
 returns-then-as_slice-lt2 c =
     c.in_ok-add_list.ensures ∙ ap (add_all c.args.found.now) (listed_within c.requires.finished c.args.id (inl refl) c.if-id-classes.true) ∙ add_all-added c.args.found.now [] (field_order c.args.classes.now c.args.id)
 
-pub add_list_unless_covered-requires : goal.add_list_unless_covered-requires
-add_list_unless_covered-requires c = record {
-  covers = order_covered c.args.classes.now c.requires.acyclic c.args.superinterfaces.now c.args.finished.now c.args.id _ c.args.found.now _ c.requires.superinterfaces c.requires.finished c.if-id-classes.true c.requires.whole c.in_ok-add.ensures.added c.last_listed-nearest.ensures;
-}
-
-pub returns-in_ok-add_list_unless_covered : goal.returns-in_ok-add_list_unless_covered
-returns-in_ok-add_list_unless_covered c =
-    ordered_again c.args.classes.now c.requires.acyclic c.args.found.now _ _ _ c.args.id (listed_within c.requires.finished c.args.id (inl refl) c.if-id-classes.true) c.in_ok-add.ensures.added c.in_ok-add_list_unless_covered.ensures
+pub returns-in_ok-add_list_unless : goal.returns-in_ok-add_list_unless
+returns-in_ok-add_list_unless c =
+    ordered_again c.args.classes.now c.requires.acyclic c.args.found.now _ _ _ c.args.id (listed_within c.requires.finished c.args.id (inl refl) c.if-id-classes.true) c.in_ok-add.ensures.added c.in_ok-add_list_unless.ensures
 
 pub returns-in_ok-add_superclasses : goal.returns-in_ok-add_superclasses
 returns-in_ok-add_superclasses c = c.in_ok-add_superclasses.ensures ∙ ap (add_all c.args.found.now) (order_past c.args.classes.now c.args.id c.if-id-classes.false)
