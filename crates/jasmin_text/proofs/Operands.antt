@@ -1,12 +1,12 @@
 -- Canonical lines of instructions with operands say their rows.
-use Rattle.std.proofs.Common.{◌≡◌, ℕ, zero, suc, ◌<◌, ◌≤◌, ◌^◌, Bool, true, false, ◌&&◌, eqb, List, [], ◌∷◌, ◌++◌, length, replicate, Option, Some, None, refl, subst, arith}
+use Rattle.std.proofs.Common.{◌≡◌, ℕ, zero, suc, ◌≤◌, Bool, true, false, ◌&&◌, eqb, List, [], ◌∷◌, ◌++◌, length, replicate, Option, Some, None, refl, subst, arith}
 use Rattle.std.specs.Prelude.{ℤ, pos, negsuc, nat_le, FitsSigned, IfSome, codes}
 use Rattle.std.specs.List.{list_all, AllByRecursion}
 use Rattle.std.specs.Int.{w32}
 use Rattle.std.specs.Fmt.{decimal, signed_decimal}
 use Rattle.std.specs.Str.{is_utf8}
-use Rattle.std.proofs.lemmas.Bool.{le-leb, leb-true}
-use Rattle.std.proofs.lemmas.Fmt.{decimal_is_IsNumeral, length-decimal-le}
+use Rattle.std.proofs.lemmas.Bool.{and_parts, le-leb, leb-true}
+use Rattle.std.proofs.lemmas.Fmt.{length-decimal-le}
 use Rattle.descriptors.specs.ClassName.{is_class_name}
 use Rattle.descriptors.specs.Signature.{Signature}
 use Rattle.descriptors.specs.Spelling.{element_spelling, field_spelling, method_spelling, IsElementType, IsFieldType, IsMethodType}
@@ -43,16 +43,13 @@ use Rattle.jasmin_text.proofs.FormWords.{field_again, call_again, types_again}
 use Rattle.jasmin_text.proofs.WordBytes as bytes
 use Rattle.jasmin_text.proofs.WordBytes.{IsWordText, joined_words}
 use Rattle.jasmin_text.proofs.Written.{IsLine, said, last_word, last_text, blank, word as a_word}
-use Rattle.jasmin_text.proofs.Rows.{IsFixed, class_is_word, digits_are_word}
+use Rattle.jasmin_text.proofs.Rows.{IsFixed, class_is_word, number_is_word}
 
 -- ---- ints and strings
 
-decimal_is_word : (fresh : Bool) (n : ℕ) → n < 2 ^ 64 → IsWord fresh (decimal n)
-decimal_is_word fresh n h = digits_are_word fresh (decimal n) (decimal_is_IsNumeral n h).0 (bytes.decimal_word n h)
-
 pub int_is_word : (fresh : Bool) (z : ℤ) → FitsSigned w32 z → IsWord fresh (signed_decimal z)
-int_is_word fresh (pos n) h = decimal_is_word fresh n (omega (arith, h.sfits))
-int_is_word fresh (negsuc n) h = (refl, bytes.minus_word (decimal (suc n)) (bytes.decimal_word (suc n) (omega (arith, h.sfits))))
+int_is_word fresh (pos n) h = number_is_word fresh n (omega (arith, h.sfits))
+int_is_word fresh (negsuc n) h = (refl, bytes.decimal_word (suc n) (omega (arith, h.sfits)))
 
 pub int_fits : (z : ℤ) → FitsSigned w32 z → fits (signed_decimal z) ≡ true
 int_fits (pos n) h = let short = length-decimal-le 10 n (omega arith) (omega (arith, h.sfits)) (omega (arith, h.sfits)) in le-leb (length (decimal n)) 65535 (omega arith)
@@ -83,10 +80,7 @@ new_row name h f =
 
 base_fixed : (b : BaseType) → IsFixed (base_word b)
 base_fixed base.Boolean = ((refl, refl), refl)
-base_fixed base.Byte = ((refl, refl), refl)
-base_fixed base.Char = ((refl, refl), refl)
-base_fixed base.Short = ((refl, refl), refl)
-base_fixed base.Int = ((refl, refl), refl)
+base_fixed b = ((refl, refl), refl)
 
 pub new_array_row : (b : BaseType) → IsLine (spelled keyword.NewArray ++ base_word b) (InstructionRow (instruction.NewArray b) ∷ [])
 unfolding spelled form_at forms
@@ -97,8 +91,7 @@ new_array_row b =
 
 types_fixed : (t : TypeUse) → IsFixed (type_word t)
 types_fixed type_use.ANewArray = ((refl, refl), refl)
-types_fixed type_use.CheckCast = ((refl, refl), refl)
-types_fixed type_use.InstanceOf = ((refl, refl), refl)
+types_fixed t = ((refl, refl), refl)
 
 pub class_use_row : (t : TypeUse) (name : List ℕ) → is_class_name name ≡ true → fits name ≡ true → IsLine (type_word t ++ 32 ∷ name) (InstructionRow (instruction.TypeUse t (reference.Class name)) ∷ [])
 class_use_row t name h f =
@@ -109,16 +102,9 @@ class_use_row t name h f =
 
 -- ---- descriptors and members
 
-first_word : (fresh : Bool) (b : ℕ) (w : List ℕ) → eqb b 59 ≡ false → IsWordText (b ∷ w) → IsWord fresh (b ∷ w)
-first_word fresh b w e h = (rw e refl, h)
-
 element_start : (fresh : Bool) (t : ElementType) → IsWordText (element_spelling t) → IsWord fresh (element_spelling t)
 element_start fresh (element.Base base.Boolean) h = (refl, h)
-element_start fresh (element.Base base.Byte) h = (refl, h)
-element_start fresh (element.Base base.Char) h = (refl, h)
-element_start fresh (element.Base base.Short) h = (refl, h)
-element_start fresh (element.Base base.Int) h = (refl, h)
-element_start fresh (element.Class name) h = (refl, h)
+element_start fresh other h = (refl, h)
 
 brackets_start : (fresh : Bool) (n : ℕ) (t : ElementType) → IsWordText (replicate n 91 ++ element_spelling t) → IsWord fresh (replicate n 91 ++ element_spelling t)
 brackets_start fresh zero t h = element_start fresh t h
@@ -146,13 +132,11 @@ class_first fresh [] rest w h = absurd w
 class_first fresh (b ∷ name) rest w h = (w.0, h)
 
 member_is_word : (fresh : Bool) (class name : List ℕ) → is_class_name class ≡ true → is_member_name name ≡ true → IsWord fresh (class ++ 47 ∷ name)
-member_is_word fresh class name h k = class_first fresh class (47 ∷ name) (class_is_word fresh class h) (joined_words class (47 ∷ name) (bytes.class_name_word class h) (bytes.slash_word name (bytes.member_name_word name k)))
+member_is_word fresh class name h k = class_first fresh class (47 ∷ name) (class_is_word fresh class h) (joined_words class (47 ∷ name) (bytes.class_name_word class h) (bytes.member_name_word name k))
 
 fields_fixed : (f : FieldAccess) → IsFixed (field_word f)
 fields_fixed access.GetStatic = ((refl, refl), refl)
-fields_fixed access.PutStatic = ((refl, refl), refl)
-fields_fixed access.GetField = ((refl, refl), refl)
-fields_fixed access.PutField = ((refl, refl), refl)
+fields_fixed f = ((refl, refl), refl)
 
 pub field_row : (a : FieldAccess) (r : FieldReference) → is_class_name r.class ≡ true → is_member_name r.name ≡ true → fits (r.class ++ 47 ∷ r.name) ≡ true → r.field_type.dimensions ≤ 255 → is_element_type r.field_type.element ≡ true → fits (field_spelling r.field_type) ≡ true
     → IsLine (field_word a ++ 32 ∷ field_text r) (InstructionRow (instruction.Field a r) ∷ [])
@@ -170,10 +154,10 @@ field_row a r c m f d e g =
 
 and_all : {A : Type 0} (f : A → Bool) (P : A → Type 0) (xs : List A) → ((x : A) → f x ≡ true → P x) → list_all f xs ≡ true → AllByRecursion P xs
 and_all f P [] g h = tt
-and_all f P (x ∷ xs) g h = let p = bytes.both (f x) (list_all f xs) h in (g x p.0, and_all f P xs g p.1)
+and_all f P (x ∷ xs) g h = let p = and_parts (f x) (list_all f xs) h in (g x p.0, and_all f P xs g p.1)
 
 is_known : (t : FieldType) → is_type t ≡ true → IsFieldType t
-is_known t h = let p = bytes.both (nat_le t.dimensions 255) (is_element_type t.element) h in is_type_of t (leb-true t.dimensions 255 p.0) p.1
+is_known t h = let p = and_parts (nat_le t.dimensions 255) (is_element_type t.element) h in is_type_of t (leb-true t.dimensions 255 p.0) p.1
 
 is_result : (r : Option FieldType) → is_result_type r ≡ true → IfSome r IsFieldType
 is_result None h = tt
@@ -182,20 +166,19 @@ is_result (Some t) h = is_known t h
 pub is_signature : (m : Signature) → is_method_type m ≡ true → IsMethodType m
 unfolding is_method_type
 is_signature m h =
-    let p = bytes.both (nat_le (length m.parameters) 255 && list_all is_type m.parameters) (is_result_type m.result) h in
-    let q = bytes.both (nat_le (length m.parameters) 255) (list_all is_type m.parameters) p.0 in
+    let p = and_parts (nat_le (length m.parameters) 255 && list_all is_type m.parameters) (is_result_type m.result) h in
+    let q = and_parts (nat_le (length m.parameters) 255) (list_all is_type m.parameters) p.0 in
     record { limit = leb-true (length m.parameters) 255 q.0; parameters = and_all is_type IsFieldType m.parameters is_known q.1; result = is_result m.result p.1 }
 
 calls_fixed : (c : Call) → IsFixed (call_word c)
 calls_fixed a_call.InvokeStatic = ((refl, refl), refl)
-calls_fixed a_call.InvokeVirtual = ((refl, refl), refl)
-calls_fixed a_call.InvokeSpecial = ((refl, refl), refl)
+calls_fixed c = ((refl, refl), refl)
 
 pub method_is_word : (fresh : Bool) (class name : List ℕ) (m : Signature) → is_class_name class ≡ true → is_member_name name ≡ true → is_method_type m ≡ true → IsWord fresh (class ++ 47 ∷ name ++ method_spelling m)
 method_is_word fresh class name m h k t =
     let front = member_is_word fresh class name h k in
     class_first fresh (class ++ 47 ∷ name) (method_spelling m) front
-    (joined_words (class ++ 47 ∷ name) (method_spelling m) (joined_words class (47 ∷ name) (bytes.class_name_word class h) (bytes.slash_word name (bytes.member_name_word name k))) (bytes.method_word m t))
+    (joined_words (class ++ 47 ∷ name) (method_spelling m) (joined_words class (47 ∷ name) (bytes.class_name_word class h) (bytes.member_name_word name k)) (bytes.method_word m t))
 
 pub call_row : (c : Call) (r : MethodReference) → is_class_name r.class ≡ true → is_member_name r.name ≡ true → is_method_type r.method_type ≡ true → fits (r.class ++ 47 ∷ r.name ++ method_spelling r.method_type) ≡ true
     → IsLine (call_word c ++ 32 ∷ method_text r) (InstructionRow (instruction.Call c r) ∷ [])

@@ -1,8 +1,9 @@
 -- The places that a body names are places of the body.
-use Rattle.std.proofs.Common.{◌≡◌, ℕ, ◌-◌, ◌≤◌, Bool, true, not, ◌&&◌, eqb, List, [], ◌∷◌, ◌++◌, map, length, inl, inr, refl, arith}
+use Rattle.std.proofs.Common.{◌≡◌, ℕ, ◌-◌, ◌≤◌, Bool, true, not, ◌&&◌, eqb, List, [], ◌∷◌, ◌++◌, map, length, inl, inr, refl, arith, ◌∙◌}
 use Rattle.std.specs.Prelude.{ℤ, nat_le}
 use Rattle.std.specs.List.{list_all, flat_map}
 use Rattle.std.proofs.lemmas.Bool.{and_parts, and_from, or_cases, leb-true, eqb-true}
+use Rattle.std.proofs.lemmas.List.Folds.{list_all-append}
 use Rattle.jasmin_text.specs.Canonical.{handler_places, instruction_places, code_places, is_named}
 use Rattle.jasmin_text.specs.Spellable.{is_int, is_caught, is_handler, is_instruction, rises, instruction_size, have_room, is_code}
 use Rattle.jasmin_text.specs.declared.class_text.Code.{Code}
@@ -24,10 +25,7 @@ within n (q ∷ qs) p h e =
     ]
 
 joined_within : (n : ℕ) (ps qs : List ℕ) → AllWithin n ps → AllWithin n qs → AllWithin n (ps ++ qs)
-joined_within n [] qs h k = k
-joined_within n (p ∷ ps) qs h k =
-    let both = and_parts (nat_le p n) (list_all (λ p. nat_le p n) ps) h in
-    and_from (nat_le p n) (list_all (λ p. nat_le p n) (ps ++ qs)) both.0 (joined_within n ps qs both.1 k)
+joined_within n ps qs h k = list_all-append (λ p. nat_le p n) ps qs ∙ and_from (list_all (λ p. nat_le p n) ps) (list_all (λ p. nat_le p n) qs) h k
 
 all_within : {A : Type 0} (n : ℕ) (places : A → List ℕ) (test : A → Bool) (xs : List A) → ((x : A) → test x ≡ true → AllWithin n (places x)) → list_all test xs ≡ true → AllWithin n (flat_map places xs)
 all_within n places test [] f h = refl
@@ -62,7 +60,6 @@ handler_within n h e =
 
 size_one : (i : Instruction ℕ) → 1 ≤ instruction_size i
 size_one (instruction.TableSwitch low places default) = omega arith
-size_one (instruction.LookupSwitch cases default) = omega arith
 size_one other = omega arith
 
 room : (n : ℕ) (is : List (Instruction ℕ)) → have_room n is ≡ true → length is ≤ n

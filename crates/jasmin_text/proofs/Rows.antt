@@ -1,13 +1,12 @@
 -- Canonical lines say their rows.
-use Rattle.std.proofs.Common.{◌≡◌, ℕ, ◌<◌, ◌≤◌, ◌^◌, Bool, true, false, cond, eqb, List, [], ◌∷◌, ◌++◌, length, refl, sym, subst, arith}
+use Rattle.std.proofs.Common.{◌≡◌, ℕ, ◌<◌, ◌≤◌, ◌^◌, Bool, true, false, eqb, List, [], ◌∷◌, ◌++◌, length, refl, subst, arith}
 use Rattle.std.specs.Prelude.{pos, codes}
-use Rattle.std.specs.List.{list_all}
 use Rattle.std.specs.Fmt.{decimal}
 use Rattle.std.specs.Char.{digit_value}
 use Rattle.std.specs.Str.Parse.{IsNumeral}
-use Rattle.std.proofs.lemmas.Bool.{eqb-true, le-leb}
+use Rattle.std.proofs.lemmas.Bool.{eqb-true, le-leb, false_from_ne_true}
 use Rattle.std.proofs.lemmas.Fmt.{decimal_is_IsNumeral, length-decimal-le}
-use Rattle.descriptors.specs.ClassName.{is_name_byte, segments, is_class_name, with_byte}
+use Rattle.descriptors.specs.ClassName.{segments, is_class_name}
 use Rattle.jasmin_words.specs.Lexing.{Word, Colon, fits}
 use Rattle.jasmin_words.specs.Names.{is_label}
 use Rattle.jasmin_words.specs.Spelling.{IsWord}
@@ -31,27 +30,16 @@ use Rattle.jasmin_text.proofs.WordBytes.{IsWordText, in_segments, split_byte, cl
 
 -- ---- words
 
-name_start : (b : ℕ) → is_name_byte b ≡ true → eqb b 59 ≡ false
-name_start b h = grind arith
-
 class_start : (b : ℕ) (bs : List ℕ) → is_class_name (b ∷ bs) ≡ true → eqb b 59 ≡ false
 unfolding is_class_name
-class_start b bs h =
-    let go : (t : Bool) → eqb b 47 ≡ t → list_all (list_all is_name_byte) (cond t ([] ∷ segments bs) (with_byte b (segments bs))) ≡ true → eqb b 59 ≡ false = λ t. elim t as (λ t. eqb b 47 ≡ t → list_all (list_all is_name_byte) (cond t ([] ∷ segments bs) (with_byte b (segments bs))) ≡ true → eqb b 59 ≡ false) [
-      | true ↦ λ e k. subst (λ (z : ℕ). eqb z 59 ≡ false) (sym (eqb-true b 47 e)) refl
-      | false ↦ λ e k. name_start b (split_byte b (segments bs) k).0
-    ] in
-    go (eqb b 47) refl (in_segments (segments (b ∷ bs)) h)
-
-no_empty_class : is_class_name [] ≡ true → ⊥
-unfolding is_class_name
-no_empty_class h = absurd (untrue h)
-  where
-    untrue : false ≡ true → ⊥
-    untrue e = subst (λ (b : Bool). elim b as (λ _. Type 0) [ true ↦ ⊥ | false ↦ Unit {0} ]) e tt
+class_start b bs h = false_from_ne_true (eqb b 59) (λ e.
+    let k : is_class_name (59 ∷ bs) ≡ true = subst (λ (z : ℕ). is_class_name (z ∷ bs) ≡ true) (eqb-true b 59 e) h in
+    let no : false ≡ true = (split_byte 59 (segments bs) (in_segments (segments (59 ∷ bs)) k)).0 in
+    cc)
 
 pub class_is_word : (fresh : Bool) (name : List ℕ) → is_class_name name ≡ true → IsWord fresh name
-class_is_word fresh [] h = absurd (no_empty_class h)
+unfolding is_class_name
+class_is_word fresh [] h = let no : false ≡ true = h in absurd cc
 class_is_word fresh (b ∷ bs) h = (rw (class_start b bs h) refl, class_name_word (b ∷ bs) h)
 
 pub label_is_word : (fresh : Bool) (n : ℕ) → n < 2 ^ 64 → IsWord fresh (label_text n)
@@ -92,12 +80,12 @@ target_row n h = said (label_text n) (Word (label_text n) ∷ []) (TargetRow (la
 digit_start : (d : ℕ) → digit_value d < 10 → eqb d 59 ≡ false
 digit_start d h = grind arith
 
-pub digits_are_word : (fresh : Bool) (ds : List ℕ) → IsNumeral 10 ds → IsWordText ds → IsWord fresh ds
+digits_are_word : (fresh : Bool) (ds : List ℕ) → IsNumeral 10 ds → IsWordText ds → IsWord fresh ds
 digits_are_word fresh [] h w = absurd (omega (arith, h.0))
 digits_are_word fresh (d ∷ ds) h w = (rw (digit_start d h.1.0) refl, w)
 
-pub number_is_word : (fresh : Bool) (n : ℕ) → n < 65536 → IsWord fresh (decimal n)
-number_is_word fresh n h = digits_are_word fresh (decimal n) (decimal_is_IsNumeral n (omega arith)).0 (decimal_word n (omega arith))
+pub number_is_word : (fresh : Bool) (n : ℕ) → n < 2 ^ 64 → IsWord fresh (decimal n)
+number_is_word fresh n h = digits_are_word fresh (decimal n) (decimal_is_IsNumeral n h).0 (decimal_word n h)
 
 pub number_fits : (n : ℕ) → n < 65536 → fits (decimal n) ≡ true
 number_fits n h = let short = length-decimal-le 5 n (omega arith) (omega arith) (omega arith) in le-leb (length (decimal n)) 65535 (omega arith)
@@ -136,73 +124,15 @@ IsFixed w = IsWord true w × (fits w ≡ true)
 
 plain_fixed : (p : Plain) → IsFixed (plain_word p)
 plain_fixed plain.Nop = ((refl, refl), refl)
-plain_fixed plain.AConstNull = ((refl, refl), refl)
-plain_fixed plain.Pop = ((refl, refl), refl)
-plain_fixed plain.Pop2 = ((refl, refl), refl)
-plain_fixed plain.Dup = ((refl, refl), refl)
-plain_fixed plain.DupX1 = ((refl, refl), refl)
-plain_fixed plain.DupX2 = ((refl, refl), refl)
-plain_fixed plain.Dup2 = ((refl, refl), refl)
-plain_fixed plain.Dup2X1 = ((refl, refl), refl)
-plain_fixed plain.Dup2X2 = ((refl, refl), refl)
-plain_fixed plain.Swap = ((refl, refl), refl)
-plain_fixed plain.IAdd = ((refl, refl), refl)
-plain_fixed plain.ISub = ((refl, refl), refl)
-plain_fixed plain.IMul = ((refl, refl), refl)
-plain_fixed plain.INeg = ((refl, refl), refl)
-plain_fixed plain.IAnd = ((refl, refl), refl)
-plain_fixed plain.IOr = ((refl, refl), refl)
-plain_fixed plain.IXor = ((refl, refl), refl)
-plain_fixed plain.IDiv = ((refl, refl), refl)
-plain_fixed plain.IRem = ((refl, refl), refl)
-plain_fixed plain.IShl = ((refl, refl), refl)
-plain_fixed plain.IShr = ((refl, refl), refl)
-plain_fixed plain.IUshr = ((refl, refl), refl)
-plain_fixed plain.I2B = ((refl, refl), refl)
-plain_fixed plain.I2C = ((refl, refl), refl)
-plain_fixed plain.I2S = ((refl, refl), refl)
-plain_fixed plain.IReturn = ((refl, refl), refl)
-plain_fixed plain.AReturn = ((refl, refl), refl)
-plain_fixed plain.Return = ((refl, refl), refl)
-plain_fixed plain.ArrayLength = ((refl, refl), refl)
-plain_fixed plain.IALoad = ((refl, refl), refl)
-plain_fixed plain.BALoad = ((refl, refl), refl)
-plain_fixed plain.CALoad = ((refl, refl), refl)
-plain_fixed plain.SALoad = ((refl, refl), refl)
-plain_fixed plain.AALoad = ((refl, refl), refl)
-plain_fixed plain.IAStore = ((refl, refl), refl)
-plain_fixed plain.BAStore = ((refl, refl), refl)
-plain_fixed plain.CAStore = ((refl, refl), refl)
-plain_fixed plain.SAStore = ((refl, refl), refl)
-plain_fixed plain.AAStore = ((refl, refl), refl)
-plain_fixed plain.AThrow = ((refl, refl), refl)
-plain_fixed plain.MonitorEnter = ((refl, refl), refl)
-plain_fixed plain.MonitorExit = ((refl, refl), refl)
+plain_fixed p = ((refl, refl), refl)
 
 local_fixed : (w : Local) → IsFixed (local_word w)
 local_fixed local.ILoad = ((refl, refl), refl)
-local_fixed local.ALoad = ((refl, refl), refl)
-local_fixed local.IStore = ((refl, refl), refl)
-local_fixed local.AStore = ((refl, refl), refl)
+local_fixed w = ((refl, refl), refl)
 
 jump_fixed : (w : Jump) → IsFixed (jump_word w)
 jump_fixed jump.IfEq = ((refl, refl), refl)
-jump_fixed jump.IfNe = ((refl, refl), refl)
-jump_fixed jump.IfLt = ((refl, refl), refl)
-jump_fixed jump.IfGe = ((refl, refl), refl)
-jump_fixed jump.IfGt = ((refl, refl), refl)
-jump_fixed jump.IfLe = ((refl, refl), refl)
-jump_fixed jump.IfICmpEq = ((refl, refl), refl)
-jump_fixed jump.IfICmpNe = ((refl, refl), refl)
-jump_fixed jump.IfICmpLt = ((refl, refl), refl)
-jump_fixed jump.IfICmpGe = ((refl, refl), refl)
-jump_fixed jump.IfICmpGt = ((refl, refl), refl)
-jump_fixed jump.IfICmpLe = ((refl, refl), refl)
-jump_fixed jump.IfACmpEq = ((refl, refl), refl)
-jump_fixed jump.IfACmpNe = ((refl, refl), refl)
-jump_fixed jump.IfNull = ((refl, refl), refl)
-jump_fixed jump.IfNonNull = ((refl, refl), refl)
-jump_fixed jump.Goto = ((refl, refl), refl)
+jump_fixed w = ((refl, refl), refl)
 
 pub plain_row : (p : Plain) → IsLine (plain_word p) (InstructionRow (instruction.Plain p) ∷ [])
 plain_row p = let w = plain_fixed p in said (plain_word p) (Word (plain_word p) ∷ []) (InstructionRow (instruction.Plain p) ∷ []) (last_word true (plain_word p) w.0 w.1) (operation (simple (plain_again p) op_plain))

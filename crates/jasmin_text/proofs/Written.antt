@@ -1,11 +1,12 @@
 -- A line as the canonical spelling writes it: what its words are, and that no byte of it ends a line.
-use Rattle.std.proofs.Common.{◌≡◌, ℕ, ◌/◌, ◌%◌, Bool, true, false, not, ◌||◌, eqb, List, [], ◌∷◌, ◌++◌, refl, sym, subst, append_assoc, arith}
+use Rattle.std.proofs.Common.{◌≡◌, ℕ, ◌/◌, ◌%◌, Bool, true, false, not, ◌||◌, eqb, List, [], ◌∷◌, ◌++◌, refl, sym, subst, append_assoc, arith, ◌∙◌}
 use Rattle.std.specs.Prelude.{nat_lt}
 use Rattle.std.specs.Char.{digit_char}
 use Rattle.std.specs.List.{list_all}
 use Rattle.std.specs.Str.{is_utf8}
 use Rattle.std.proofs.lemmas.Bool.{and_from, and_parts, cond_both}
 use Rattle.std.proofs.lemmas.List.{append-nil}
+use Rattle.std.proofs.lemmas.List.Folds.{list_all-append}
 use Rattle.jasmin_words.specs.Lexing.{Item, Word, Equals, Colon, Text, is_blank, fits, words_of}
 use Rattle.jasmin_words.specs.Quoting.{quoted_byte, quoted_bytes, quoted}
 use Rattle.jasmin_words.specs.Spelling.{Ends, is_word_byte, IsWord, IsSpelled}
@@ -26,8 +27,7 @@ inner_byte : (b : ℕ) (bytes : List ℕ) → is_inner b ≡ true → IsInner by
 inner_byte b bytes h k = and_from (is_inner b) (list_all is_inner bytes) h k
 
 inner_joined : (xs ys : List ℕ) → IsInner xs → IsInner ys → IsInner (xs ++ ys)
-inner_joined [] ys h k = k
-inner_joined (x ∷ xs) ys h k = let p = and_parts (is_inner x) (list_all is_inner xs) h in inner_byte x (xs ++ ys) p.0 (inner_joined xs ys p.1 k)
+inner_joined xs ys h k = list_all-append is_inner xs ys ∙ and_from (list_all is_inner xs) (list_all is_inner ys) h k
 
 word_byte_inner : (b : ℕ) → is_word_byte b ≡ true → is_inner b ≡ true
 word_byte_inner b h = grind arith
