@@ -33,7 +33,7 @@ use Rattle.jasmin_text.proofs.Conditions.{five, nine}
 use Rattle.jasmin_text.proofs.Written.{IsWritten, IsLine, said, last_word, last_text, ends, blank, equals, word as a_word}
 use Rattle.jasmin_text.proofs.WordBytes.{IsWordText, joined_words, member_name_word, method_word, one_of, same_is}
 use Rattle.jasmin_text.proofs.Rows.{IsFixed, class_is_word}
-use Rattle.jasmin_text.proofs.Operands.{int_is_word, int_fits, descriptor_is_word, is_type_of, class_first, is_signature}
+use Rattle.jasmin_text.proofs.Operands.{int_fixed, descriptor_is_word, is_type_of, class_first, is_signature}
 
 -- ---- access words
 
@@ -185,7 +185,7 @@ unfolding spelled constant_text
 value_tail t None h = record { parts = tt; written = ends }
 value_tail t (Some (constant.Int n)) h =
     let i = int_of n (and_parts (is_int_type t) (is_int n) h).1 in
-    record { parts = refl; written = blank refl (equals (blank refl (last_word true (signed_decimal n) (int_is_word true n i) (int_fits n i)))) }
+    record { parts = refl; written = blank refl (equals (blank refl (last_word true (signed_decimal n) (int_fixed n i).0 (int_fixed n i).1))) }
 value_tail t (Some (constant.Text s)) h =
     let p = and_parts (is_utf8 s) (fits s) (and_parts (is_string_type t) (is_string s) h).1 in
     record { parts = refl; written = blank refl (equals (blank refl (last_text true s p.0 p.1))) }

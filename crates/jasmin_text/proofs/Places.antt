@@ -3,14 +3,14 @@ use Rattle.std.proofs.Common.{◌≡◌, ℕ, ◌-◌, ◌≤◌, Bool, true, no
 use Rattle.std.specs.Prelude.{ℤ, nat_le}
 use Rattle.std.specs.List.{list_all, flat_map}
 use Rattle.std.proofs.lemmas.Bool.{and_parts, and_from, or_cases, leb-true, eqb-true}
-use Rattle.std.proofs.lemmas.List.Folds.{list_all-append}
+use Rattle.std.proofs.lemmas.List.Folds.{list_all-append, list_all-map}
 use Rattle.jasmin_text.specs.Canonical.{handler_places, instruction_places, code_places, is_named}
 use Rattle.jasmin_text.specs.Spellable.{is_int, is_caught, is_handler, is_instruction, rises, instruction_size, have_room, is_code}
 use Rattle.jasmin_text.specs.declared.class_text.Code.{Code}
 use Rattle.jasmin_text.specs.declared.class_text.Handler.{Handler}
 use Rattle.jasmin_text.specs.declared.instruction.Instruction.{Instruction}
 use Rattle.jasmin_text.specs.declared.instruction.Instruction.TheVariants as instruction
-use Rattle.jasmin_text.proofs.Conditions.{three, four, six}
+use Rattle.jasmin_text.proofs.Conditions.{three, four, six, all_weaker}
 
 abbrev AllWithin : ℕ → List ℕ → Type 0
 AllWithin n ps = list_all (λ p. nat_le p n) ps ≡ true
@@ -34,10 +34,9 @@ all_within n places test (x ∷ xs) f h =
     joined_within n (places x) (flat_map places xs) (f x both.0) (all_within n places test xs f both.1)
 
 cases_within : (n : ℕ) (cs : List (ℤ × ℕ)) → list_all (λ c. is_int c.0 && nat_le c.1 n) cs ≡ true → AllWithin n (map (λ c. c.1) cs)
-cases_within n [] h = refl
-cases_within n (c ∷ cs) h =
-    let both = and_parts (is_int c.0 && nat_le c.1 n) (list_all (λ c. is_int c.0 && nat_le c.1 n) cs) h in
-    and_from (nat_le c.1 n) (list_all (λ p. nat_le p n) (map (λ c. c.1) cs)) (and_parts (is_int c.0) (nat_le c.1 n) both.0).1 (cases_within n cs both.1)
+cases_within n cs h =
+    list_all-map (λ p. nat_le p n) (λ c. c.1) cs
+    ∙ all_weaker (λ c. is_int c.0 && nat_le c.1 n) (λ c. nat_le c.1 n) cs (λ c e. (and_parts (is_int c.0) (nat_le c.1 n) e).1) h
 
 instruction_within : (n : ℕ) (i : Instruction ℕ) → is_instruction n i ≡ true → AllWithin n (instruction_places i)
 unfolding is_instruction

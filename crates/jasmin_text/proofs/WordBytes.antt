@@ -21,7 +21,7 @@ use Rattle.jasmin_words.specs.Spelling.{is_word_byte}
 use Rattle.jasmin_words.specs.Names.{same_bytes, is_name_byte as is_member_byte, is_some_byte as is_some_name, is_member_name}
 use Rattle.jasmin_text.specs.Canonical.{label_text}
 use Rattle.jasmin_text.specs.Spellable.{is_element_type, is_type, is_result_type, is_method_type}
-use Rattle.jasmin_text.proofs.Conditions.{nine}
+use Rattle.jasmin_text.proofs.Conditions.{nine, all_weaker}
 
 abbrev pub IsWordText : List ℕ → Type 0
 IsWordText w = list_all is_word_byte w ≡ true
@@ -38,11 +38,7 @@ name_byte : (b : ℕ) → is_name_byte b ≡ true → is_word_byte b ≡ true
 name_byte b h = grind arith
 
 pub in_segments : (ss : List (List ℕ)) → list_all is_segment ss ≡ true → list_all (list_all is_name_byte) ss ≡ true
-in_segments [] h = refl
-in_segments (s ∷ ss) h =
-    let p = and_parts (is_segment s) (list_all is_segment ss) h in
-    let q = and_parts (is_some_byte s) (list_all is_name_byte s) p.0 in
-    and_from (list_all is_name_byte s) (list_all (list_all is_name_byte) ss) q.1 (in_segments ss p.1)
+in_segments ss h = all_weaker is_segment (list_all is_name_byte) ss (λ s e. (and_parts (is_some_byte s) (list_all is_name_byte s) e).1) h
 
 pub split_byte : (b : ℕ) (ss : List (List ℕ)) → list_all (list_all is_name_byte) (with_byte b ss) ≡ true → (is_name_byte b ≡ true) × (list_all (list_all is_name_byte) ss ≡ true)
 split_byte b [] h = ((and_parts (is_name_byte b) true (and_parts (is_name_byte b && true) true h).0).0, refl)
@@ -75,10 +71,6 @@ same_is (x ∷ xs) (y ∷ ys) h = let p = and_parts (eqb x y) (same_bytes xs ys)
 member_byte : (b : ℕ) → is_member_byte b ≡ true → is_word_byte b ≡ true
 member_byte b h = (nine (is_word_byte b) (not (eqb b 46)) (not (eqb b 59)) (not (eqb b 91)) (not (eqb b 47)) (not (eqb b 40)) (not (eqb b 41)) (not (eqb b 60)) (not (eqb b 62)) h).0
 
-member_bytes : (w : List ℕ) → list_all is_member_byte w ≡ true → IsWordText w
-member_bytes [] h = refl
-member_bytes (b ∷ w) h = let p = and_parts (is_member_byte b) (list_all is_member_byte w) h in byte_word b w (member_byte b p.0) (member_bytes w p.1)
-
 pub one_of : (a b c : Bool) (P : Type 0) → (a || b || c) ≡ true → (a ≡ true → P) → (b ≡ true → P) → (c ≡ true → P) → P
 one_of true b c P h x y z = x refl
 one_of false true c P h x y z = y refl
@@ -91,7 +83,7 @@ member_name_word name h =
     one_of (same_bytes name (codes "<init>")) (same_bytes name (codes "<clinit>")) (is_some_name name && list_all is_member_byte name) (IsWordText name) h
     (λ e. subst IsWordText (sym (same_is name (codes "<init>") e)) refl)
     (λ e. subst IsWordText (sym (same_is name (codes "<clinit>") e)) refl)
-    (λ e. member_bytes name (and_parts (is_some_name name) (list_all is_member_byte name) e).1)
+    (λ e. all_weaker is_member_byte is_word_byte name member_byte (and_parts (is_some_name name) (list_all is_member_byte name) e).1)
 
 -- ---- descriptors
 
