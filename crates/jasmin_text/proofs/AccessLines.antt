@@ -1,11 +1,11 @@
 -- Canonical lines with access words say their rows.
-use Rattle.std.proofs.Common.{◌≡◌, ℕ, Bool, true, false, not, ◌&&◌, eqb, List, [], ◌∷◌, ◌++◌, Option, Some, None, refl, sym, ap, subst, append_assoc, arith, cond}
+use Rattle.std.proofs.Common.{◌≡◌, ℕ, Bool, true, false, not, ◌&&◌, eqb, List, [], ◌∷◌, ◌++◌, Option, Some, None, refl, sym, ap, subst, append_assoc, arith}
 use Rattle.std.specs.Prelude.{pos, negsuc, ℤ, codes, nat_le, FitsSigned}
 use Rattle.std.specs.Int.{w32}
 use Rattle.std.specs.List.{list_all}
 use Rattle.std.specs.Fmt.{signed_decimal}
 use Rattle.std.specs.Str.{is_utf8}
-use Rattle.std.proofs.lemmas.Bool.{and_parts, leb-true, ltb-true, not-true}
+use Rattle.std.proofs.lemmas.Bool.{and_parts, leb-true, ltb-true, not-true, false_from_ne_true}
 use Rattle.descriptors.specs.ClassName.{is_class_name}
 use Rattle.descriptors.specs.Spelling.{field_spelling, method_spelling}
 use Rattle.descriptors.specs.declared.field.FieldType.{FieldType}
@@ -14,7 +14,7 @@ use Rattle.jasmin_words.specs.Names.{same_bytes, is_name_byte, is_some_byte, is_
 use Rattle.jasmin_words.specs.Spelling.{Ends, is_word_byte, IsWord}
 use Rattle.jasmin_words.proofs.Numbers.{written_again}
 use Rattle.jasmin_text.specs.Keywords.{spelled}
-use Rattle.jasmin_text.specs.Tables.{access_of, access_words, is_access_word, member_access_of, is_member_word}
+use Rattle.jasmin_text.specs.Tables.{access_of, access_words, member_access_of, is_member_word}
 use Rattle.jasmin_text.specs.Canonical.{word_if, visibility_text, binding_text, storage_text, access_text, class_line, constant_text, value_text, field_end, field_line, method_line}
 use Rattle.jasmin_text.specs.Spellable.{is_taken, is_int, is_string, is_element_type, is_type, is_field_type, is_method_type, is_int_type, is_string_type, is_value_of, is_field}
 use Rattle.jasmin_text.specs.Grammar.{no_access, with_word, is_taken_in, IsAccessBy, IsAccess, IsClassAccess, IsValue, ClassRow, FieldRow, MethodRow, none, more, int, text, class, interface, field, method}
@@ -33,7 +33,7 @@ use Rattle.jasmin_text.proofs.Conditions.{five, nine}
 use Rattle.jasmin_text.proofs.Written.{IsWritten, IsLine, said, last_word, last_text, ends, blank, equals, word as a_word}
 use Rattle.jasmin_text.proofs.WordBytes.{IsWordText, joined_words, member_name_word, method_word, one_of, same_is}
 use Rattle.jasmin_text.proofs.Rows.{IsFixed, class_is_word}
-use Rattle.jasmin_text.proofs.Operands.{int_is_word, int_fits, descriptor_is_word, is_type_of, class_first, is_signature}
+use Rattle.jasmin_text.proofs.Operands.{int_fixed, descriptor_is_word, is_type_of, class_first, is_signature}
 
 -- ---- access words
 
@@ -81,11 +81,10 @@ class_access a b items (more {k} {rest} e t h) = more e t (class_access (with_wo
 
 pub access_not_interface : (w : List ℕ) (a : AccessWord) → access_of w ≡ Some a → same_bytes w (codes "interface") ≡ false
 unfolding access_of access_words
-access_not_interface w a e = by (same_bytes w (codes "interface")) refl
-  where
-    by : (t : Bool) → same_bytes w (codes "interface") ≡ t → t ≡ false
-    by true h = let is : access_of w ≡ access_of (codes "interface") = ap access_of (same_is w (codes "interface") h) in let none : access_of (codes "interface") ≡ None = refl in absurd cc
-    by false h = refl
+access_not_interface w a e = false_from_ne_true (same_bytes w (codes "interface")) (λ h.
+    let is : access_of w ≡ access_of (codes "interface") = ap access_of (same_is w (codes "interface") h) in
+    let none : access_of (codes "interface") ≡ None = refl in
+    cc)
 
 member_word : (w : List ℕ) (a : AccessWord) → access_of w ≡ Some a → member_access_of w ≡ Some a
 unfolding member_access_of
@@ -140,11 +139,7 @@ class_tail : (a : Access) (name : List ℕ) → is_class_name name ≡ true → 
 class_tail a name h f = access_tail a (32 ∷ name) (Word name ∷ []) (record { parts = refl; written = blank refl (last_word true name (class_is_word true name h) f) })
 
 not_interface : (name : List ℕ) → is_taken kind.Class name ≡ false → same_bytes name (codes "interface") ≡ false
-not_interface name h = by (same_bytes name (codes "interface")) (is_access_word name) h
-  where
-    by : (s t : Bool) → cond s true t ≡ false → s ≡ false
-    by true t e = absurd cc
-    by false t e = refl
+not_interface name h = false_from_ne_true (same_bytes name (codes "interface")) (λ e. let taken : is_taken kind.Class name ≡ true = rw e refl in cc)
 
 pub class_row : (k : ClassKind) (a : Access) (name : List ℕ) → is_class_name name ≡ true → fits name ≡ true → is_taken k name ≡ false → IsLine (class_line k a name) (ClassRow k a name ∷ [])
 unfolding class_line spelled
@@ -190,7 +185,7 @@ unfolding spelled constant_text
 value_tail t None h = record { parts = tt; written = ends }
 value_tail t (Some (constant.Int n)) h =
     let i = int_of n (and_parts (is_int_type t) (is_int n) h).1 in
-    record { parts = refl; written = blank refl (equals (blank refl (last_word true (signed_decimal n) (int_is_word true n i) (int_fits n i)))) }
+    record { parts = refl; written = blank refl (equals (blank refl (last_word true (signed_decimal n) (int_fixed n i).0 (int_fixed n i).1))) }
 value_tail t (Some (constant.Text s)) h =
     let p = and_parts (is_utf8 s) (fits s) (and_parts (is_string_type t) (is_string s) h).1 in
     record { parts = refl; written = blank refl (equals (blank refl (last_text true s p.0 p.1))) }

@@ -1,13 +1,10 @@
 -- A body, instruction by instruction.
-use Rattle.std.proofs.Common.{◌≡◌, ℕ, ◌+◌, Bool, List, [], ◌∷◌, ◌++◌, ◌<◌, ◌≤◌, suc, length, get_or, drop, Result, Ok, Err, refl, sym, ap, subst, ◌∙◌, append_assoc, add-one, drop-cons}
+use Rattle.std.proofs.Common.{◌≡◌, ℕ, ◌+◌, Bool, List, [], ◌∷◌, ◌++◌, ◌<◌, ◌≤◌, suc, length, get_or, drop, Result, Ok, Err, sym, ap, subst, ◌∙◌, append_assoc, add-one, drop-cons}
 use Rattle.std.specs.Prelude.{OnOk}
 use Rattle.std.proofs.Math.ListN.{drop_of_length-le}
+use Rattle.std.proofs.lemmas.Grind.{flat_map-append}
 use Rattle.jasmin_text.specs.declared.instruction.Instruction.{Instruction}
 use Rattle.jasmin_text.specs.Canonical.{ended, ended_all, lines_if, is_named, label_line, instruction_lines, place_lines, body_lines}
-
-pub ended_all-append : (xs ys : List (List ℕ)) → ended_all (xs ++ ys) ≡ ended_all xs ++ ended_all ys
-ended_all-append [] ys = refl
-ended_all-append (x ∷ xs) ys = ap (λ (z : List ℕ). ended x ++ z) (ended_all-append xs ys) ∙ sym (append_assoc (ended x) (ended_all xs) (ended_all ys))
 
 pub goes_on : (ps : List ℕ) (place : ℕ) (i : Instruction ℕ) (rest : List (Instruction ℕ)) (before labelled after total : List ℕ) (b : Bool) → b ≡ is_named ps place
     → labelled ≡ before ++ ended_all (lines_if b (label_line place)) → after ≡ labelled ++ ended_all (instruction_lines i)
@@ -16,7 +13,7 @@ unfolding body_lines
 goes_on ps place i rest before labelled after total b named e f so_far =
     let same : labelled ≡ before ++ ended_all (place_lines ps place) = e ∙ ap (λ (t : Bool). before ++ ended_all (lines_if t (label_line place))) named in
     let split : ended_all (body_lines ps place (i ∷ rest)) ≡ (ended_all (place_lines ps place) ++ ended_all (instruction_lines i)) ++ ended_all (body_lines ps (place + 1) rest) =
-    ended_all-append (place_lines ps place ++ instruction_lines i) (body_lines ps (place + 1) rest) ∙ ap (λ (z : List ℕ). z ++ ended_all (body_lines ps (place + 1) rest)) (ended_all-append (place_lines ps place) (instruction_lines i)) in
+    flat_map-append ended (place_lines ps place ++ instruction_lines i) (body_lines ps (place + 1) rest) ∙ ap (λ (z : List ℕ). z ++ ended_all (body_lines ps (place + 1) rest)) (flat_map-append ended (place_lines ps place) (instruction_lines i)) in
     let whole : after ≡ before ++ (ended_all (place_lines ps place) ++ ended_all (instruction_lines i)) = f ∙ ap (λ (z : List ℕ). z ++ ended_all (instruction_lines i)) same ∙ append_assoc before (ended_all (place_lines ps place)) (ended_all (instruction_lines i)) in
     ap (λ (z : List ℕ). z ++ ended_all (body_lines ps (place + 1) rest)) whole ∙ append_assoc before (ended_all (place_lines ps place) ++ ended_all (instruction_lines i)) (ended_all (body_lines ps (place + 1) rest)) ∙ ap (λ (z : List ℕ). before ++ z) (sym split) ∙ so_far
 

@@ -2,7 +2,7 @@
 use Rattle.std.proofs.Common.{◌≡◌, ℕ, ◌-◌, Bool, true, not, ◌&&◌, List, [], ◌∷◌, ◌++◌, map, length, Option, Some, None, cond, refl, sym, subst, append_assoc, append-nil, false}
 use Rattle.std.specs.Prelude.{nat_le, codes}
 use Rattle.std.specs.List.{list_all, flat_map}
-use Rattle.std.proofs.lemmas.Bool.{and_parts}
+use Rattle.std.proofs.lemmas.Bool.{and_parts, not-true}
 use Rattle.descriptors.specs.ClassName.{is_class_name}
 use Rattle.descriptors.specs.Spelling.{method_spelling}
 use Rattle.jasmin_words.specs.Lexing.{fits}
@@ -20,7 +20,7 @@ use Rattle.jasmin_text.specs.declared.class_text.ClassParts.{ClassParts}
 use Rattle.jasmin_text.proofs.Conditions.{six, nine}
 use Rattle.jasmin_text.proofs.Rows.{super_row, implements_row, end_row}
 use Rattle.jasmin_text.proofs.AccessLines.{class_row, field_row, method_row}
-use Rattle.jasmin_text.proofs.Lines.{AreLines, no_lines, one_line, line_before, lines_joined, all_lines, cut_lines}
+use Rattle.jasmin_text.proofs.Lines.{AreLines, no_lines, one_line, line_before, lines_joined, each_row, all_lines, cut_lines}
 use Rattle.jasmin_text.proofs.Places.{good_code}
 use Rattle.jasmin_text.proofs.Bodies.{code_rows, code_body, code_are, code_is_body, code_is_code}
 
@@ -113,16 +113,12 @@ record IsGoodClass (c : ClassParts) : Type 0 where
   fields : list_all is_field c.fields ≡ true
   methods : list_all is_method c.methods ≡ true
 
-not_taken : (b : Bool) → not b ≡ true → b ≡ false
-not_taken true e = absurd cc
-not_taken false e = refl
-
 good_class : (c : ClassParts) → IsSpellable c → IsGoodClass c
 unfolding is_spellable
 good_class c h =
     let p = nine (is_class_word c.name) (not (is_taken c.kind c.name)) (is_class_word c.superclass) (nat_le (length c.interfaces) 255) (list_all is_class_word c.interfaces)
     (nat_le (length c.fields) 1024) (nat_le (length c.methods) (1024 - length c.fields)) (list_all is_field c.fields) (list_all is_method c.methods) h in
-    record { name = p.0; free = not_taken (is_taken c.kind c.name) p.1; superclass = p.2; interfaces = p.4; fields = p.7; methods = p.8 }
+    record { name = p.0; free = not-true (is_taken c.kind c.name) p.1; superclass = p.2; interfaces = p.4; fields = p.7; methods = p.8 }
 
 class_are : (c : ClassParts) → IsSpellable c → AreLines (class_lines c) (class_rows c)
 unfolding class_lines
@@ -134,23 +130,10 @@ class_are c h =
     line_before (super_line c.superclass) _ (SuperRow c.superclass ∷ []) _ (super_row c.superclass superclass.0 superclass.1) (
     subst (λ (ls : List (List ℕ)). AreLines ls (map ImplementsRow c.interfaces ++ member_rows c)) (sym (append_assoc (map implements_line c.interfaces) (map field_line c.fields) (flat_map method_lines c.methods)))
     (lines_joined (map implements_line c.interfaces) (map field_line c.fields ++ flat_map method_lines c.methods) (map ImplementsRow c.interfaces) (member_rows c)
-    (interface_lines c.interfaces good.interfaces)
+    (each_row implements_line ImplementsRow is_class_word c.interfaces (λ n e. let p = and_parts (is_class_name n) (fits n) e in implements_row n p.0 p.1) good.interfaces)
     (lines_joined (map field_line c.fields) (flat_map method_lines c.methods) (map FieldRow c.fields) (flat_map method_rows c.methods)
-    (field_lines c.fields good.fields)
+    (each_row field_line FieldRow is_field c.fields field_row good.fields)
     (all_lines method_lines method_rows is_method c.methods method_are good.methods)))))
-  where
-    interface_lines : (names : List (List ℕ)) → list_all is_class_word names ≡ true → AreLines (map implements_line names) (map ImplementsRow names)
-    interface_lines [] h = no_lines
-    interface_lines (n ∷ ns) h =
-        let p = and_parts (is_class_word n) (list_all is_class_word ns) h in
-        let q = and_parts (is_class_name n) (fits n) p.0 in
-        line_before (implements_line n) (map implements_line ns) (ImplementsRow n ∷ []) (map ImplementsRow ns) (implements_row n q.0 q.1) (interface_lines ns p.1)
-
-    field_lines : (fs : List Field) → list_all is_field fs ≡ true → AreLines (map field_line fs) (map FieldRow fs)
-    field_lines [] h = no_lines
-    field_lines (f ∷ fs) h =
-        let p = and_parts (is_field f) (list_all is_field fs) h in
-        line_before (field_line f) (map field_line fs) (FieldRow f ∷ []) (map FieldRow fs) (field_row f p.0) (field_lines fs p.1)
 
 is_class : (c : ClassParts) → IsSpellable c → IsClass (class_rows c) c
 is_class c h =

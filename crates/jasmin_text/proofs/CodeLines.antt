@@ -20,8 +20,8 @@ use Rattle.jasmin_text.specs.declared.class_text.Handler.{Handler}
 use Rattle.jasmin_text.specs.declared.instruction.Instruction.TheVariants as instruction
 use Rattle.jasmin_text.specs.declared.instruction.MethodReference.{MethodReference}
 use Rattle.jasmin_text.proofs.Written.{IsLine, said, last_word, blank, colon, word as a_word}
-use Rattle.jasmin_text.proofs.Rows.{IsFixed, class_is_word, label_is_word, label_fits, label_is, number_is_word, number_fits, number_in}
-use Rattle.jasmin_text.proofs.Operands.{int_is_word, int_fits, method_is_word, is_signature}
+use Rattle.jasmin_text.proofs.Rows.{IsFixed, two_words, three_words, class_is_word, label_fixed, label_is, number_fixed, number_in}
+use Rattle.jasmin_text.proofs.Operands.{int_fixed, method_is_word, is_signature}
 use Rattle.jasmin_text.proofs.AccessLines.{int_of}
 
 -- ---- handlers
@@ -54,9 +54,9 @@ handler_row h c f t u =
     let to : List ℕ = label_text h.to in
     let using : List ℕ = label_text h.handler in
     let fixed = caught_fixed h.class c in
-    let at_using = blank refl (a_word (codes "using") (32 ∷ using) refl (refl, refl) refl refl (blank refl (last_word true using (label_is_word true h.handler (omega arith)) (label_fits h.handler u)))) in
-    let at_to = blank refl (a_word (codes "to") (32 ∷ (to ++ (codes " using " ++ using))) refl (refl, refl) refl refl (blank refl (a_word to (codes " using " ++ using) refl (label_is_word true h.to (omega arith)) (label_fits h.to t) refl at_using))) in
-    let at_from = blank refl (a_word (codes "from") (32 ∷ (from ++ (codes " to " ++ (to ++ (codes " using " ++ using))))) refl (refl, refl) refl refl (blank refl (a_word from (codes " to " ++ (to ++ (codes " using " ++ using))) refl (label_is_word true h.from (omega arith)) (label_fits h.from f) refl at_to))) in
+    let at_using = blank refl (a_word (codes "using") (32 ∷ using) refl (refl, refl) refl refl (blank refl (last_word true using (label_fixed h.handler u).0 (label_fixed h.handler u).1))) in
+    let at_to = blank refl (a_word (codes "to") (32 ∷ (to ++ (codes " using " ++ using))) refl (refl, refl) refl refl (blank refl (a_word to (codes " using " ++ using) refl (label_fixed h.to t).0 (label_fixed h.to t).1 refl at_using))) in
+    let at_from = blank refl (a_word (codes "from") (32 ∷ (from ++ (codes " to " ++ (to ++ (codes " using " ++ using))))) refl (refl, refl) refl refl (blank refl (a_word from (codes " to " ++ (to ++ (codes " using " ++ using))) refl (label_fixed h.from f).0 (label_fixed h.from f).1 refl at_to))) in
     subst (λ (line : List ℕ). IsLine line (CatchRow h.class from to using ∷ [])) (sym (handler_spaced h))
     (said (codes ".catch " ++ (w ++ (codes " from " ++ (from ++ (codes " to " ++ (to ++ (codes " using " ++ using)))))))
     (Word (codes ".catch") ∷ Word w ∷ Word (codes "from") ∷ Word from ∷ Word (codes "to") ∷ Word to ∷ Word (codes "using") ∷ Word using ∷ []) (CatchRow h.class from to using ∷ [])
@@ -77,11 +77,7 @@ short_in (negsuc n) h = let less = ltb-true n 32768 h in record { value = writte
 pub increment_row : (n : ℕ) (by : ℤ) → n ≤ 65535 → is_short by ≡ true → IsLine (increment_line n by) (InstructionRow (instruction.Increment n by) ∷ [])
 unfolding increment_line spelled form_at forms
 increment_row n by h s =
-    let i = short_is_int by s in
-    said (codes "iinc " ++ (decimal n ++ 32 ∷ signed_decimal by)) (Word (codes "iinc") ∷ Word (decimal n) ∷ Word (signed_decimal by) ∷ []) (InstructionRow (instruction.Increment n by) ∷ [])
-    (a_word (codes "iinc") (32 ∷ (decimal n ++ 32 ∷ signed_decimal by)) refl (refl, refl) refl refl (blank refl (
-    a_word (decimal n) (32 ∷ signed_decimal by) refl (number_is_word true n (omega arith)) (number_fits n (omega arith)) refl (blank refl (
-    last_word true (signed_decimal by) (int_is_word true by i) (int_fits by i))))))
+    three_words (codes "iinc") (decimal n) (signed_decimal by) _ ((refl, refl), refl) (number_fixed n (omega arith)) (int_fixed by (short_is_int by s))
     (operation (simple {f = form.Increment} refl (increment (number_in 0 65535 n (omega arith) h (omega arith)) (short_in by s))))
 
 -- ---- invokeinterface
@@ -90,14 +86,10 @@ pub interface_row : (r : MethodReference) → is_class_name r.class ≡ true →
     → IsLine (interface_line r) (InstructionRow (instruction.CallInterface r) ∷ [])
 unfolding interface_line method_text spelled form_at forms
 interface_row r h k t f =
-    let w : List ℕ = r.class ++ 47 ∷ r.name ++ method_spelling r.method_type in
     let n : ℕ = interface_count r in
     let low : 1 ≤ n = omega arith in
     let high : n ≤ 255 = omega arith in
-    said (codes "invokeinterface " ++ (w ++ 32 ∷ decimal n)) (Word (codes "invokeinterface") ∷ Word w ∷ Word (decimal n) ∷ []) (InstructionRow (instruction.CallInterface r) ∷ [])
-    (a_word (codes "invokeinterface") (32 ∷ (w ++ 32 ∷ decimal n)) refl (refl, refl) refl refl (blank refl (
-    a_word w (32 ∷ decimal n) refl (method_is_word true r.class r.name r.method_type h k t) f refl (blank refl (
-    last_word true (decimal n) (number_is_word true n (omega arith)) (number_fits n (omega arith)))))))
+    three_words (codes "invokeinterface") (r.class ++ 47 ∷ r.name ++ method_spelling r.method_type) (decimal n) _ ((refl, refl), refl) (method_is_word true r.class r.name r.method_type h k t, f) (number_fixed n (omega arith))
     (operation (simple {f = form.CallInterface} refl (counted (record { parts = refl; class_name = h; member_name = k; method_type = is_signature r.method_type t }) (number_in 1 255 n low high (omega arith)))))
 
 -- ---- switches
@@ -106,9 +98,7 @@ pub table_row : (low : ℤ) → is_int low ≡ true → IsLine (spelled keyword.
 unfolding spelled form_at forms
 table_row low h =
     let i = int_of low h in
-    said (codes "tableswitch " ++ signed_decimal low) (Word (codes "tableswitch") ∷ Word (signed_decimal low) ∷ []) (TableRow low None ∷ [])
-    (a_word (codes "tableswitch") (32 ∷ signed_decimal low) refl (refl, refl) refl refl (blank refl (last_word true (signed_decimal low) (int_is_word true low i) (int_fits low i))))
-    (operation (table refl (written_again low i)))
+    two_words (codes "tableswitch") (signed_decimal low) _ ((refl, refl), refl) (int_fixed low i) (operation (table refl (written_again low i)))
 
 pub lookup_row : IsLine (spelled keyword.LookupSwitch) (LookupRow ∷ [])
 unfolding spelled form_at forms
@@ -123,5 +113,5 @@ case_row c h less =
     let i = int_of c.0 h in
     subst (λ (line : List ℕ). IsLine line (CaseRow c.0 (label_text c.1) ∷ [])) (sym (case_spaced c))
     (said (signed_decimal c.0 ++ (codes " : " ++ label_text c.1)) (Word (signed_decimal c.0) ∷ Colon ∷ Word (label_text c.1) ∷ []) (CaseRow c.0 (label_text c.1) ∷ [])
-    (a_word (signed_decimal c.0) (codes " : " ++ label_text c.1) refl (int_is_word true c.0 i) (int_fits c.0 i) refl (blank refl (colon (blank refl (last_word true (label_text c.1) (label_is_word true c.1 (omega arith)) (label_fits c.1 less))))))
+    (a_word (signed_decimal c.0) (codes " : " ++ label_text c.1) refl (int_fixed c.0 i).0 (int_fixed c.0 i).1 refl (blank refl (colon (blank refl (last_word true (label_text c.1) (label_fixed c.1 less).0 (label_fixed c.1 less).1)))))
     (case (written_again c.0 i) (label_is c.1)))

@@ -1,6 +1,7 @@
 -- The parts of a test of several conditions.
-use Rattle.std.proofs.Common.{◌≡◌, Bool, true, ◌&&◌}
-use Rattle.std.proofs.lemmas.Bool.{and_parts}
+use Rattle.std.proofs.Common.{◌≡◌, Bool, true, ◌&&◌, List, [], ◌∷◌, refl}
+use Rattle.std.specs.List.{list_all}
+use Rattle.std.proofs.lemmas.Bool.{and_from, and_parts}
 
 pub three : (a b c : Bool) → (a && b && c) ≡ true → (a ≡ true) × (b ≡ true) × (c ≡ true)
 three a b c h = let p = and_parts (a && b) c h in let q = and_parts a b p.0 in (q.0, q.1, p.1)
@@ -20,3 +21,8 @@ nine a b c d e f g i j h =
     let p = four (a && b && c && d && e && f) g i j h in
     let q = six a b c d e f p.0 in
     (q.0, q.1, q.2, q.3, q.4, q.5, p.1, p.2, p.3)
+
+-- what each element passes implies a weaker test of each
+pub all_weaker : {A : Type 0} (f g : A → Bool) (xs : List A) → ((x : A) → f x ≡ true → g x ≡ true) → list_all f xs ≡ true → list_all g xs ≡ true
+all_weaker f g [] weaker h = refl
+all_weaker f g (x ∷ xs) weaker h = let p = and_parts (f x) (list_all f xs) h in and_from (g x) (list_all g xs) (weaker x p.0) (all_weaker f g xs weaker p.1)

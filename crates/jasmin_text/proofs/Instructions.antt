@@ -3,7 +3,7 @@ use Rattle.std.proofs.Common.{◌≡◌, ℕ, ◌<◌, Bool, true, false, not, �
 use Rattle.std.specs.Prelude.{ℤ, nat_le, int_lt}
 use Rattle.std.specs.List.{list_all}
 use Rattle.std.specs.Str.{is_utf8}
-use Rattle.std.proofs.lemmas.Bool.{and_from, and_parts, leb-true, not-true}
+use Rattle.std.proofs.lemmas.Bool.{and_from, and_parts, leb-true, not-true, false_from_ne_true, true_from_ne_false}
 use Rattle.std.proofs.lemmas.Int.{ints}
 use Rattle.descriptors.specs.ClassName.{is_class_name}
 use Rattle.descriptors.specs.Spelling.{field_spelling, method_spelling}
@@ -11,7 +11,7 @@ use Rattle.jasmin_words.specs.Lexing.{fits}
 use Rattle.jasmin_words.specs.Names.{is_member_name}
 use Rattle.jasmin_text.specs.Canonical.{label_text, default_line, case_line, instruction_lines}
 use Rattle.jasmin_text.specs.Spellable.{is_int, is_short, is_local, is_element_type, is_type, is_field_type, is_method_type, is_field_reference, is_method_reference, is_instruction, rises_from, rises}
-use Rattle.jasmin_text.specs.Grammar.{Row, InstructionRow, TableRow, LookupRow, TargetRow, CaseRow, DefaultRow, Body, with_instruction, Cases, with_case, lacks_key, AreSorted, none, more, IsBody, operation, table, lookup}
+use Rattle.jasmin_text.specs.Grammar.{Row, InstructionRow, TableRow, LookupRow, TargetRow, DefaultRow, Body, with_instruction, Cases, with_case, lacks_key, AreSorted, none, more, IsBody, operation, table, lookup}
 use Rattle.jasmin_text.specs.Grammar as grammar
 use Rattle.jasmin_text.specs.declared.class_text.Constant.TheVariants as constant
 use Rattle.jasmin_text.specs.declared.instruction.Instruction.{Instruction}
@@ -105,18 +105,10 @@ instruction_are count (instruction.TypeUse t (reference.Array a)) less h =
 -- ---- in a body
 
 lt_asym : (x y : ℤ) → int_lt x y ≡ true → int_lt y x ≡ false
-lt_asym x y h = by (int_lt y x) refl
-  where
-    by : (t : Bool) → int_lt y x ≡ t → t ≡ false
-    by true e = absurd (omega (arith, ints))
-    by false e = refl
+lt_asym x y h = false_from_ne_true (int_lt y x) (λ e. omega (arith, ints))
 
 lt_trans : (x y z : ℤ) → int_lt x y ≡ true → int_lt y z ≡ true → int_lt x z ≡ true
-lt_trans x y z h k = by (int_lt x z) refl
-  where
-    by : (t : Bool) → int_lt x z ≡ t → t ≡ true
-    by true e = refl
-    by false e = absurd (omega (arith, ints))
+lt_trans x y z h k = true_from_ne_false (int_lt x z) (λ e. omega (arith, ints))
 
 -- all keys are below this one
 abbrev are_below : ℤ → Cases → Bool

@@ -1,7 +1,8 @@
 -- Canonical lines, one after the other.
-use Rattle.std.proofs.Common.{◌≡◌, ℕ, Bool, true, eqb, List, [], ◌∷◌, ◌++◌, map, refl, ap, ◌∙◌, append_assoc}
+use Rattle.std.proofs.Common.{◌≡◌, ℕ, Bool, true, eqb, List, [], ◌∷◌, ◌++◌, map, refl, sym, ap, subst, ◌∙◌, append_assoc}
 use Rattle.std.specs.List.{list_all, flat_map}
 use Rattle.std.proofs.lemmas.Bool.{and_parts, not-true}
+use Rattle.std.proofs.lemmas.Simd.{map-map}
 use Rattle.jasmin_text.specs.Canonical.{ended_all}
 use Rattle.jasmin_text.specs.Lines.{with_byte, lines_of}
 use Rattle.jasmin_text.specs.Grammar.{Row, AreRows, none, more}
@@ -37,12 +38,16 @@ pub lines_joined : (ls ms : List (List ℕ)) (rs ss : List Row) → AreLines ls 
 lines_joined ls ms rs ss h k = record { are_rows = rows_joined ls ms rs ss h.are_rows k.are_rows; inner = inner_joined ls ms h.inner k.inner }
 
 -- a line for each element
+pub each_row : {A : Type 0} (line : A → List ℕ) (row : A → Row) (test : A → Bool) (xs : List A) → ((x : A) → test x ≡ true → IsLine (line x) (row x ∷ [])) → list_all test xs ≡ true → AreLines (map line xs) (map row xs)
+each_row line row test [] f h = no_lines
+each_row line row test (x ∷ xs) f h =
+    let p = and_parts (test x) (list_all test xs) h in
+    line_before (line x) (map line xs) (row x ∷ []) (map row xs) (f x p.0) (each_row line row test xs f p.1)
+
+-- the same, where a row is of a part of its element
 pub each_line : {A B : Type 0} (line : A → List ℕ) (part : A → B) (row : B → Row) (test : A → Bool) (xs : List A) → ((x : A) → test x ≡ true → IsLine (line x) (row (part x) ∷ [])) → list_all test xs ≡ true
     → AreLines (map line xs) (map row (map part xs))
-each_line line part row test [] f h = no_lines
-each_line line part row test (x ∷ xs) f h =
-    let p = and_parts (test x) (list_all test xs) h in
-    line_before (line x) (map line xs) (row (part x) ∷ []) (map row (map part xs)) (f x p.0) (each_line line part row test xs f p.1)
+each_line line part row test xs f h = subst (AreLines (map line xs)) (sym (map-map row part xs)) (each_row line (λ x. row (part x)) test xs f h)
 
 -- lines for each element
 pub all_lines : {A : Type 0} (lines : A → List (List ℕ)) (rows : A → List Row) (test : A → Bool) (xs : List A) → ((x : A) → test x ≡ true → AreLines (lines x) (rows x)) → list_all test xs ≡ true

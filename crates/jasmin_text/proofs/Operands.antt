@@ -1,12 +1,12 @@
 -- Canonical lines of instructions with operands say their rows.
-use Rattle.std.proofs.Common.{◌≡◌, ℕ, zero, suc, ◌<◌, ◌≤◌, ◌^◌, Bool, true, false, ◌&&◌, eqb, List, [], ◌∷◌, ◌++◌, length, replicate, Option, Some, None, refl, subst, arith}
+use Rattle.std.proofs.Common.{◌≡◌, ℕ, zero, suc, ◌≤◌, Bool, true, false, ◌&&◌, eqb, List, [], ◌∷◌, ◌++◌, length, replicate, Option, Some, None, refl, arith}
 use Rattle.std.specs.Prelude.{ℤ, pos, negsuc, nat_le, FitsSigned, IfSome, codes}
 use Rattle.std.specs.List.{list_all, AllByRecursion}
 use Rattle.std.specs.Int.{w32}
 use Rattle.std.specs.Fmt.{decimal, signed_decimal}
 use Rattle.std.specs.Str.{is_utf8}
-use Rattle.std.proofs.lemmas.Bool.{le-leb, leb-true}
-use Rattle.std.proofs.lemmas.Fmt.{decimal_is_IsNumeral, length-decimal-le}
+use Rattle.std.proofs.lemmas.Bool.{and_parts, le-leb, leb-true}
+use Rattle.std.proofs.lemmas.Fmt.{length-decimal-le}
 use Rattle.descriptors.specs.ClassName.{is_class_name}
 use Rattle.descriptors.specs.Signature.{Signature}
 use Rattle.descriptors.specs.Spelling.{element_spelling, field_spelling, method_spelling, IsElementType, IsFieldType, IsMethodType}
@@ -42,83 +42,56 @@ use Rattle.jasmin_text.specs.declared.instruction.ReferenceType.TheVariants as r
 use Rattle.jasmin_text.proofs.FormWords.{field_again, call_again, types_again}
 use Rattle.jasmin_text.proofs.WordBytes as bytes
 use Rattle.jasmin_text.proofs.WordBytes.{IsWordText, joined_words}
-use Rattle.jasmin_text.proofs.Written.{IsLine, said, last_word, last_text, blank, word as a_word}
-use Rattle.jasmin_text.proofs.Rows.{IsFixed, class_is_word, digits_are_word}
+use Rattle.jasmin_text.proofs.Written.{IsLine, said, last_text}
+use Rattle.jasmin_text.proofs.Rows.{IsFixed, word_before, two_words, three_words, class_is_word, number_is_word}
 
 -- ---- ints and strings
 
-decimal_is_word : (fresh : Bool) (n : ℕ) → n < 2 ^ 64 → IsWord fresh (decimal n)
-decimal_is_word fresh n h = digits_are_word fresh (decimal n) (decimal_is_IsNumeral n h).0 (bytes.decimal_word n h)
-
-pub int_is_word : (fresh : Bool) (z : ℤ) → FitsSigned w32 z → IsWord fresh (signed_decimal z)
-int_is_word fresh (pos n) h = decimal_is_word fresh n (omega (arith, h.sfits))
-int_is_word fresh (negsuc n) h = (refl, bytes.minus_word (decimal (suc n)) (bytes.decimal_word (suc n) (omega (arith, h.sfits))))
-
-pub int_fits : (z : ℤ) → FitsSigned w32 z → fits (signed_decimal z) ≡ true
-int_fits (pos n) h = let short = length-decimal-le 10 n (omega arith) (omega (arith, h.sfits)) (omega (arith, h.sfits)) in le-leb (length (decimal n)) 65535 (omega arith)
-int_fits (negsuc n) h = let short = length-decimal-le 10 (suc n) (omega arith) (omega (arith, h.sfits)) (omega (arith, h.sfits)) in le-leb (length (45 ∷ decimal (suc n))) 65535 (omega arith)
+pub int_fixed : (z : ℤ) → FitsSigned w32 z → IsFixed (signed_decimal z)
+int_fixed (pos n) h =
+    let short = length-decimal-le 10 n (omega arith) (omega (arith, h.sfits)) (omega (arith, h.sfits)) in
+    (number_is_word true n (omega (arith, h.sfits)), le-leb (length (decimal n)) 65535 (omega arith))
+int_fixed (negsuc n) h =
+    let short = length-decimal-le 10 (suc n) (omega arith) (omega (arith, h.sfits)) (omega (arith, h.sfits)) in
+    ((refl, bytes.decimal_word (suc n) (omega (arith, h.sfits))), le-leb (length (45 ∷ decimal (suc n))) 65535 (omega arith))
 
 pub int_row : (z : ℤ) → FitsSigned w32 z → IsLine (spelled keyword.Ldc ++ constant_text (constant.Int z)) (InstructionRow (instruction.Constant (constant.Int z)) ∷ [])
 unfolding spelled constant_text form_at forms
-int_row z h =
-    said (codes "ldc " ++ signed_decimal z) (Word (codes "ldc") ∷ Word (signed_decimal z) ∷ []) (InstructionRow (instruction.Constant (constant.Int z)) ∷ [])
-    (a_word (codes "ldc") (32 ∷ signed_decimal z) refl (refl, refl) refl refl (blank refl (last_word true (signed_decimal z) (int_is_word true z h) (int_fits z h))))
-    (operation (simple {f = form.Constant} refl (int (written_again z h))))
+int_row z h = two_words (codes "ldc") (signed_decimal z) _ ((refl, refl), refl) (int_fixed z h) (operation (simple {f = form.Constant} refl (int (written_again z h))))
 
 pub text_row : (t : List ℕ) → is_utf8 t ≡ true → fits t ≡ true → IsLine (spelled keyword.Ldc ++ constant_text (constant.Text t)) (InstructionRow (instruction.Constant (constant.Text t)) ∷ [])
 unfolding spelled constant_text form_at forms
 text_row t u f =
     said (codes "ldc " ++ quoted t) (Word (codes "ldc") ∷ Text t ∷ []) (InstructionRow (instruction.Constant (constant.Text t)) ∷ [])
-    (a_word (codes "ldc") (32 ∷ quoted t) refl (refl, refl) refl refl (blank refl (last_text true t u f)))
+    (word_before (codes "ldc") (quoted t) _ ((refl, refl), refl) (last_text true t u f))
     (operation (simple {f = form.Constant} refl text))
 
 -- ---- classes and arrays
 
 pub new_row : (name : List ℕ) → is_class_name name ≡ true → fits name ≡ true → IsLine (spelled keyword.New ++ name) (InstructionRow (instruction.New name) ∷ [])
 unfolding spelled form_at forms
-new_row name h f =
-    said (codes "new " ++ name) (Word (codes "new") ∷ Word name ∷ []) (InstructionRow (instruction.New name) ∷ [])
-    (a_word (codes "new") (32 ∷ name) refl (refl, refl) refl refl (blank refl (last_word true name (class_is_word true name h) f)))
-    (operation (simple {f = form.New} refl (new h)))
+new_row name h f = two_words (codes "new") name _ ((refl, refl), refl) (class_is_word true name h, f) (operation (simple {f = form.New} refl (new h)))
 
 base_fixed : (b : BaseType) → IsFixed (base_word b)
 base_fixed base.Boolean = ((refl, refl), refl)
-base_fixed base.Byte = ((refl, refl), refl)
-base_fixed base.Char = ((refl, refl), refl)
-base_fixed base.Short = ((refl, refl), refl)
-base_fixed base.Int = ((refl, refl), refl)
+base_fixed b = ((refl, refl), refl)
 
 pub new_array_row : (b : BaseType) → IsLine (spelled keyword.NewArray ++ base_word b) (InstructionRow (instruction.NewArray b) ∷ [])
 unfolding spelled form_at forms
-new_array_row b =
-    said (codes "newarray " ++ base_word b) (Word (codes "newarray") ∷ Word (base_word b) ∷ []) (InstructionRow (instruction.NewArray b) ∷ [])
-    (a_word (codes "newarray") (32 ∷ base_word b) refl (refl, refl) refl refl (blank refl (last_word true (base_word b) (base_fixed b).0 (base_fixed b).1)))
-    (operation (simple {f = form.NewArray} refl new_array))
+new_array_row b = two_words (codes "newarray") (base_word b) _ ((refl, refl), refl) (base_fixed b) (operation (simple {f = form.NewArray} refl new_array))
 
 types_fixed : (t : TypeUse) → IsFixed (type_word t)
 types_fixed type_use.ANewArray = ((refl, refl), refl)
-types_fixed type_use.CheckCast = ((refl, refl), refl)
-types_fixed type_use.InstanceOf = ((refl, refl), refl)
+types_fixed t = ((refl, refl), refl)
 
 pub class_use_row : (t : TypeUse) (name : List ℕ) → is_class_name name ≡ true → fits name ≡ true → IsLine (type_word t ++ 32 ∷ name) (InstructionRow (instruction.TypeUse t (reference.Class name)) ∷ [])
-class_use_row t name h f =
-    let w = types_fixed t in
-    said (type_word t ++ 32 ∷ name) (Word (type_word t) ∷ Word name ∷ []) (InstructionRow (instruction.TypeUse t (reference.Class name)) ∷ [])
-    (a_word (type_word t) (32 ∷ name) refl w.0 w.1 refl (blank refl (last_word true name (class_is_word true name h) f)))
-    (operation (simple (types_again t) (op_class h)))
+class_use_row t name h f = two_words (type_word t) name _ (types_fixed t) (class_is_word true name h, f) (operation (simple (types_again t) (op_class h)))
 
 -- ---- descriptors and members
 
-first_word : (fresh : Bool) (b : ℕ) (w : List ℕ) → eqb b 59 ≡ false → IsWordText (b ∷ w) → IsWord fresh (b ∷ w)
-first_word fresh b w e h = (rw e refl, h)
-
 element_start : (fresh : Bool) (t : ElementType) → IsWordText (element_spelling t) → IsWord fresh (element_spelling t)
 element_start fresh (element.Base base.Boolean) h = (refl, h)
-element_start fresh (element.Base base.Byte) h = (refl, h)
-element_start fresh (element.Base base.Char) h = (refl, h)
-element_start fresh (element.Base base.Short) h = (refl, h)
-element_start fresh (element.Base base.Int) h = (refl, h)
-element_start fresh (element.Class name) h = (refl, h)
+element_start fresh other h = (refl, h)
 
 brackets_start : (fresh : Bool) (n : ℕ) (t : ElementType) → IsWordText (replicate n 91 ++ element_spelling t) → IsWord fresh (replicate n 91 ++ element_spelling t)
 brackets_start fresh zero t h = element_start fresh t h
@@ -136,9 +109,7 @@ is_type_of t d h = record { dimensions = d; element = is_element t.element h }
 
 pub array_use_row : (t : TypeUse) (a : FieldType) → a.dimensions ≤ 255 → (eqb a.dimensions 0) ≡ false → is_element_type a.element ≡ true → fits (field_spelling a) ≡ true → IsLine (type_word t ++ 32 ∷ field_spelling a) (InstructionRow (instruction.TypeUse t (reference.Array a)) ∷ [])
 array_use_row t a d n h f =
-    let w = types_fixed t in
-    said (type_word t ++ 32 ∷ field_spelling a) (Word (type_word t) ∷ Word (field_spelling a) ∷ []) (InstructionRow (instruction.TypeUse t (reference.Array a)) ∷ [])
-    (a_word (type_word t) (32 ∷ field_spelling a) refl w.0 w.1 refl (blank refl (last_word true (field_spelling a) (descriptor_is_word true a h) f)))
+    two_words (type_word t) (field_spelling a) _ (types_fixed t) (descriptor_is_word true a h, f)
     (operation (simple (types_again t) (array (record { spelling = refl; field_type = is_type_of a d h }) n)))
 
 pub class_first : (fresh : Bool) (name rest : List ℕ) → IsWord fresh name → IsWordText (name ++ rest) → IsWord fresh (name ++ rest)
@@ -146,34 +117,27 @@ class_first fresh [] rest w h = absurd w
 class_first fresh (b ∷ name) rest w h = (w.0, h)
 
 member_is_word : (fresh : Bool) (class name : List ℕ) → is_class_name class ≡ true → is_member_name name ≡ true → IsWord fresh (class ++ 47 ∷ name)
-member_is_word fresh class name h k = class_first fresh class (47 ∷ name) (class_is_word fresh class h) (joined_words class (47 ∷ name) (bytes.class_name_word class h) (bytes.slash_word name (bytes.member_name_word name k)))
+member_is_word fresh class name h k = class_first fresh class (47 ∷ name) (class_is_word fresh class h) (joined_words class (47 ∷ name) (bytes.class_name_word class h) (bytes.member_name_word name k))
 
 fields_fixed : (f : FieldAccess) → IsFixed (field_word f)
 fields_fixed access.GetStatic = ((refl, refl), refl)
-fields_fixed access.PutStatic = ((refl, refl), refl)
-fields_fixed access.GetField = ((refl, refl), refl)
-fields_fixed access.PutField = ((refl, refl), refl)
+fields_fixed f = ((refl, refl), refl)
 
 pub field_row : (a : FieldAccess) (r : FieldReference) → is_class_name r.class ≡ true → is_member_name r.name ≡ true → fits (r.class ++ 47 ∷ r.name) ≡ true → r.field_type.dimensions ≤ 255 → is_element_type r.field_type.element ≡ true → fits (field_spelling r.field_type) ≡ true
     → IsLine (field_word a ++ 32 ∷ field_text r) (InstructionRow (instruction.Field a r) ∷ [])
 unfolding field_text
 field_row a r c m f d e g =
-    let w = fields_fixed a in
-    let v : List ℕ = r.class ++ 47 ∷ r.name in
-    let t : List ℕ = field_spelling r.field_type in
-    subst (λ (line : List ℕ). IsLine line (InstructionRow (instruction.Field a r) ∷ [])) refl
-    (said (field_word a ++ 32 ∷ (v ++ 32 ∷ t)) (Word (field_word a) ∷ Word v ∷ Word t ∷ []) (InstructionRow (instruction.Field a r) ∷ [])
-    (a_word (field_word a) (32 ∷ (v ++ 32 ∷ t)) refl w.0 w.1 refl (blank refl (a_word v (32 ∷ t) refl (member_is_word true r.class r.name c m) f refl (blank refl (last_word true t (descriptor_is_word true r.field_type e) g)))))
-    (operation (simple (field_again a) (op_field (record { parts = refl; class_name = c; member_name = m }) (record { spelling = refl; field_type = is_type_of r.field_type d e })))))
+    three_words (field_word a) (r.class ++ 47 ∷ r.name) (field_spelling r.field_type) _ (fields_fixed a) (member_is_word true r.class r.name c m, f) (descriptor_is_word true r.field_type e, g)
+    (operation (simple (field_again a) (op_field (record { parts = refl; class_name = c; member_name = m }) (record { spelling = refl; field_type = is_type_of r.field_type d e }))))
 
 -- ---- calls
 
 and_all : {A : Type 0} (f : A → Bool) (P : A → Type 0) (xs : List A) → ((x : A) → f x ≡ true → P x) → list_all f xs ≡ true → AllByRecursion P xs
 and_all f P [] g h = tt
-and_all f P (x ∷ xs) g h = let p = bytes.both (f x) (list_all f xs) h in (g x p.0, and_all f P xs g p.1)
+and_all f P (x ∷ xs) g h = let p = and_parts (f x) (list_all f xs) h in (g x p.0, and_all f P xs g p.1)
 
 is_known : (t : FieldType) → is_type t ≡ true → IsFieldType t
-is_known t h = let p = bytes.both (nat_le t.dimensions 255) (is_element_type t.element) h in is_type_of t (leb-true t.dimensions 255 p.0) p.1
+is_known t h = let p = and_parts (nat_le t.dimensions 255) (is_element_type t.element) h in is_type_of t (leb-true t.dimensions 255 p.0) p.1
 
 is_result : (r : Option FieldType) → is_result_type r ≡ true → IfSome r IsFieldType
 is_result None h = tt
@@ -182,27 +146,23 @@ is_result (Some t) h = is_known t h
 pub is_signature : (m : Signature) → is_method_type m ≡ true → IsMethodType m
 unfolding is_method_type
 is_signature m h =
-    let p = bytes.both (nat_le (length m.parameters) 255 && list_all is_type m.parameters) (is_result_type m.result) h in
-    let q = bytes.both (nat_le (length m.parameters) 255) (list_all is_type m.parameters) p.0 in
+    let p = and_parts (nat_le (length m.parameters) 255 && list_all is_type m.parameters) (is_result_type m.result) h in
+    let q = and_parts (nat_le (length m.parameters) 255) (list_all is_type m.parameters) p.0 in
     record { limit = leb-true (length m.parameters) 255 q.0; parameters = and_all is_type IsFieldType m.parameters is_known q.1; result = is_result m.result p.1 }
 
 calls_fixed : (c : Call) → IsFixed (call_word c)
 calls_fixed a_call.InvokeStatic = ((refl, refl), refl)
-calls_fixed a_call.InvokeVirtual = ((refl, refl), refl)
-calls_fixed a_call.InvokeSpecial = ((refl, refl), refl)
+calls_fixed c = ((refl, refl), refl)
 
 pub method_is_word : (fresh : Bool) (class name : List ℕ) (m : Signature) → is_class_name class ≡ true → is_member_name name ≡ true → is_method_type m ≡ true → IsWord fresh (class ++ 47 ∷ name ++ method_spelling m)
 method_is_word fresh class name m h k t =
     let front = member_is_word fresh class name h k in
     class_first fresh (class ++ 47 ∷ name) (method_spelling m) front
-    (joined_words (class ++ 47 ∷ name) (method_spelling m) (joined_words class (47 ∷ name) (bytes.class_name_word class h) (bytes.slash_word name (bytes.member_name_word name k))) (bytes.method_word m t))
+    (joined_words (class ++ 47 ∷ name) (method_spelling m) (joined_words class (47 ∷ name) (bytes.class_name_word class h) (bytes.member_name_word name k)) (bytes.method_word m t))
 
 pub call_row : (c : Call) (r : MethodReference) → is_class_name r.class ≡ true → is_member_name r.name ≡ true → is_method_type r.method_type ≡ true → fits (r.class ++ 47 ∷ r.name ++ method_spelling r.method_type) ≡ true
     → IsLine (call_word c ++ 32 ∷ method_text r) (InstructionRow (instruction.Call c r) ∷ [])
 unfolding method_text
 call_row c r h k t f =
-    let w = calls_fixed c in
-    let v : List ℕ = r.class ++ 47 ∷ r.name ++ method_spelling r.method_type in
-    said (call_word c ++ 32 ∷ v) (Word (call_word c) ∷ Word v ∷ []) (InstructionRow (instruction.Call c r) ∷ [])
-    (a_word (call_word c) (32 ∷ v) refl w.0 w.1 refl (blank refl (last_word true v (method_is_word true r.class r.name r.method_type h k t) f)))
+    two_words (call_word c) (r.class ++ 47 ∷ r.name ++ method_spelling r.method_type) _ (calls_fixed c) (method_is_word true r.class r.name r.method_type h k t, f)
     (operation (simple (call_again c) (op_call (record { parts = refl; class_name = h; member_name = k; method_type = is_signature r.method_type t }))))

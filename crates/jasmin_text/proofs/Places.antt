@@ -1,15 +1,16 @@
 -- The places that a body names are places of the body.
-use Rattle.std.proofs.Common.{◌≡◌, ℕ, ◌-◌, ◌≤◌, Bool, true, not, ◌&&◌, eqb, List, [], ◌∷◌, ◌++◌, map, length, inl, inr, refl, arith}
+use Rattle.std.proofs.Common.{◌≡◌, ℕ, ◌-◌, ◌≤◌, Bool, true, not, ◌&&◌, eqb, List, [], ◌∷◌, ◌++◌, map, length, inl, inr, refl, arith, ◌∙◌}
 use Rattle.std.specs.Prelude.{ℤ, nat_le}
 use Rattle.std.specs.List.{list_all, flat_map}
 use Rattle.std.proofs.lemmas.Bool.{and_parts, and_from, or_cases, leb-true, eqb-true}
+use Rattle.std.proofs.lemmas.List.Folds.{list_all-append, list_all-map}
 use Rattle.jasmin_text.specs.Canonical.{handler_places, instruction_places, code_places, is_named}
 use Rattle.jasmin_text.specs.Spellable.{is_int, is_caught, is_handler, is_instruction, rises, instruction_size, have_room, is_code}
 use Rattle.jasmin_text.specs.declared.class_text.Code.{Code}
 use Rattle.jasmin_text.specs.declared.class_text.Handler.{Handler}
 use Rattle.jasmin_text.specs.declared.instruction.Instruction.{Instruction}
 use Rattle.jasmin_text.specs.declared.instruction.Instruction.TheVariants as instruction
-use Rattle.jasmin_text.proofs.Conditions.{three, four, six}
+use Rattle.jasmin_text.proofs.Conditions.{three, four, six, all_weaker}
 
 abbrev AllWithin : ℕ → List ℕ → Type 0
 AllWithin n ps = list_all (λ p. nat_le p n) ps ≡ true
@@ -24,10 +25,7 @@ within n (q ∷ qs) p h e =
     ]
 
 joined_within : (n : ℕ) (ps qs : List ℕ) → AllWithin n ps → AllWithin n qs → AllWithin n (ps ++ qs)
-joined_within n [] qs h k = k
-joined_within n (p ∷ ps) qs h k =
-    let both = and_parts (nat_le p n) (list_all (λ p. nat_le p n) ps) h in
-    and_from (nat_le p n) (list_all (λ p. nat_le p n) (ps ++ qs)) both.0 (joined_within n ps qs both.1 k)
+joined_within n ps qs h k = list_all-append (λ p. nat_le p n) ps qs ∙ and_from (list_all (λ p. nat_le p n) ps) (list_all (λ p. nat_le p n) qs) h k
 
 all_within : {A : Type 0} (n : ℕ) (places : A → List ℕ) (test : A → Bool) (xs : List A) → ((x : A) → test x ≡ true → AllWithin n (places x)) → list_all test xs ≡ true → AllWithin n (flat_map places xs)
 all_within n places test [] f h = refl
@@ -36,10 +34,9 @@ all_within n places test (x ∷ xs) f h =
     joined_within n (places x) (flat_map places xs) (f x both.0) (all_within n places test xs f both.1)
 
 cases_within : (n : ℕ) (cs : List (ℤ × ℕ)) → list_all (λ c. is_int c.0 && nat_le c.1 n) cs ≡ true → AllWithin n (map (λ c. c.1) cs)
-cases_within n [] h = refl
-cases_within n (c ∷ cs) h =
-    let both = and_parts (is_int c.0 && nat_le c.1 n) (list_all (λ c. is_int c.0 && nat_le c.1 n) cs) h in
-    and_from (nat_le c.1 n) (list_all (λ p. nat_le p n) (map (λ c. c.1) cs)) (and_parts (is_int c.0) (nat_le c.1 n) both.0).1 (cases_within n cs both.1)
+cases_within n cs h =
+    list_all-map (λ p. nat_le p n) (λ c. c.1) cs
+    ∙ all_weaker (λ c. is_int c.0 && nat_le c.1 n) (λ c. nat_le c.1 n) cs (λ c e. (and_parts (is_int c.0) (nat_le c.1 n) e).1) h
 
 instruction_within : (n : ℕ) (i : Instruction ℕ) → is_instruction n i ≡ true → AllWithin n (instruction_places i)
 unfolding is_instruction
@@ -62,7 +59,6 @@ handler_within n h e =
 
 size_one : (i : Instruction ℕ) → 1 ≤ instruction_size i
 size_one (instruction.TableSwitch low places default) = omega arith
-size_one (instruction.LookupSwitch cases default) = omega arith
 size_one other = omega arith
 
 room : (n : ℕ) (is : List (Instruction ℕ)) → have_room n is ≡ true → length is ≤ n

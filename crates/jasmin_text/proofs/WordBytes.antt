@@ -1,18 +1,19 @@
 -- What the canonical spelling writes for a name, a descriptor or a number is one word.
-use Rattle.std.proofs.Common.{◌≡◌, ℕ, zero, suc, ◌<◌, ◌^◌, Bool, true, false, not, ◌&&◌, ◌||◌, cond, eqb, List, [], ◌∷◌, ◌++◌, length, replicate, Option, Some, None, refl, sym, subst, arith}
+use Rattle.std.proofs.Common.{◌≡◌, ℕ, zero, suc, ◌<◌, ◌^◌, Bool, true, false, not, ◌&&◌, ◌||◌, cond, eqb, List, [], ◌∷◌, ◌++◌, length, replicate, Option, Some, None, refl, sym, subst, arith, ◌∙◌}
 use Rattle.std.specs.Prelude.{nat_le, codes}
 use Rattle.std.specs.List.{list_all, flat_map}
 use Rattle.std.specs.Char.{digit_value}
 use Rattle.std.specs.Fmt.{decimal}
 use Rattle.std.specs.Str.Parse.{AllDigits}
-use Rattle.std.proofs.lemmas.Bool.{eqb-true}
+use Rattle.std.proofs.lemmas.Bool.{and_from, and_parts, eqb-true}
 use Rattle.std.proofs.lemmas.Fmt.{decimal_is_IsNumeral}
+use Rattle.std.proofs.lemmas.List.Folds.{list_all-append}
 use Rattle.descriptors.specs.ClassName.{is_name_byte, with_byte, segments, is_some_byte, is_segment, is_class_name}
 use Rattle.descriptors.specs.Letters.{letter_of}
 use Rattle.descriptors.specs.Signature.{Signature}
 use Rattle.descriptors.specs.Spelling.{element_spelling, field_spelling, result_spelling, method_spelling}
 use Rattle.descriptors.specs.declared.base.BaseType.{BaseType}
-use Rattle.descriptors.specs.declared.base.BaseType.TheVariants.{Boolean, Byte, Char, Short, Int}
+use Rattle.descriptors.specs.declared.base.BaseType.TheVariants.{Boolean}
 use Rattle.descriptors.specs.declared.field.ElementType.{ElementType}
 use Rattle.descriptors.specs.declared.field.ElementType.TheVariants.{Base, Class}
 use Rattle.descriptors.specs.declared.field.FieldType.{FieldType}
@@ -20,23 +21,16 @@ use Rattle.jasmin_words.specs.Spelling.{is_word_byte}
 use Rattle.jasmin_words.specs.Names.{same_bytes, is_name_byte as is_member_byte, is_some_byte as is_some_name, is_member_name}
 use Rattle.jasmin_text.specs.Canonical.{label_text}
 use Rattle.jasmin_text.specs.Spellable.{is_element_type, is_type, is_result_type, is_method_type}
+use Rattle.jasmin_text.proofs.Conditions.{nine, all_weaker}
 
 abbrev pub IsWordText : List ℕ → Type 0
 IsWordText w = list_all is_word_byte w ≡ true
 
-pub both : (a b : Bool) → (a && b) ≡ true → (a ≡ true) × (b ≡ true)
-both true b e = (refl, e)
-both false b e = absurd cc
-
-and_true : (a b : Bool) → a ≡ true → b ≡ true → (a && b) ≡ true
-and_true a b e f = rw (e, f) refl
-
 pub joined_words : (xs ys : List ℕ) → IsWordText xs → IsWordText ys → IsWordText (xs ++ ys)
-joined_words [] ys h k = k
-joined_words (x ∷ xs) ys h k = let p = both (is_word_byte x) (list_all is_word_byte xs) h in and_true (is_word_byte x) (list_all is_word_byte (xs ++ ys)) p.0 (joined_words xs ys p.1 k)
+joined_words xs ys h k = list_all-append is_word_byte xs ys ∙ and_from (list_all is_word_byte xs) (list_all is_word_byte ys) h k
 
 byte_word : (b : ℕ) (w : List ℕ) → is_word_byte b ≡ true → IsWordText w → IsWordText (b ∷ w)
-byte_word b w h k = and_true (is_word_byte b) (list_all is_word_byte w) h k
+byte_word b w h k = and_from (is_word_byte b) (list_all is_word_byte w) h k
 
 -- ---- names of classes
 
@@ -44,18 +38,14 @@ name_byte : (b : ℕ) → is_name_byte b ≡ true → is_word_byte b ≡ true
 name_byte b h = grind arith
 
 pub in_segments : (ss : List (List ℕ)) → list_all is_segment ss ≡ true → list_all (list_all is_name_byte) ss ≡ true
-in_segments [] h = refl
-in_segments (s ∷ ss) h =
-    let p = both (is_segment s) (list_all is_segment ss) h in
-    let q = both (is_some_byte s) (list_all is_name_byte s) p.0 in
-    and_true (list_all is_name_byte s) (list_all (list_all is_name_byte) ss) q.1 (in_segments ss p.1)
+in_segments ss h = all_weaker is_segment (list_all is_name_byte) ss (λ s e. (and_parts (is_some_byte s) (list_all is_name_byte s) e).1) h
 
 pub split_byte : (b : ℕ) (ss : List (List ℕ)) → list_all (list_all is_name_byte) (with_byte b ss) ≡ true → (is_name_byte b ≡ true) × (list_all (list_all is_name_byte) ss ≡ true)
-split_byte b [] h = ((both (is_name_byte b) true (both (is_name_byte b && true) true h).0).0, refl)
+split_byte b [] h = ((and_parts (is_name_byte b) true (and_parts (is_name_byte b && true) true h).0).0, refl)
 split_byte b (s ∷ ss) h =
-    let p = both (list_all is_name_byte (b ∷ s)) (list_all (list_all is_name_byte) ss) h in
-    let q = both (is_name_byte b) (list_all is_name_byte s) p.0 in
-    (q.0, and_true (list_all is_name_byte s) (list_all (list_all is_name_byte) ss) q.1 p.1)
+    let p = and_parts (list_all is_name_byte (b ∷ s)) (list_all (list_all is_name_byte) ss) h in
+    let q = and_parts (is_name_byte b) (list_all is_name_byte s) p.0 in
+    (q.0, and_from (list_all is_name_byte s) (list_all (list_all is_name_byte) ss) q.1 p.1)
 
 segments_word : (name : List ℕ) → list_all (list_all is_name_byte) (segments name) ≡ true → IsWordText name
 segments_word [] h = refl
@@ -76,18 +66,10 @@ pub same_is : (xs ys : List ℕ) → same_bytes xs ys ≡ true → xs ≡ ys
 same_is [] [] h = refl
 same_is [] (y ∷ ys) h = absurd cc
 same_is (x ∷ xs) [] h = absurd cc
-same_is (x ∷ xs) (y ∷ ys) h = let p = both (eqb x y) (same_bytes xs ys) h in let e : x ≡ y = eqb-true x y p.0 in let f : xs ≡ ys = same_is xs ys p.1 in cc
+same_is (x ∷ xs) (y ∷ ys) h = let p = and_parts (eqb x y) (same_bytes xs ys) h in let e : x ≡ y = eqb-true x y p.0 in let f : xs ≡ ys = same_is xs ys p.1 in cc
 
 member_byte : (b : ℕ) → is_member_byte b ≡ true → is_word_byte b ≡ true
-member_byte b h = first_of_nine (is_word_byte b) (not (eqb b 46)) (not (eqb b 59)) (not (eqb b 91)) (not (eqb b 47)) (not (eqb b 40)) (not (eqb b 41)) (not (eqb b 60)) (not (eqb b 62)) h
-  where
-    first_of_nine : (p q r s t u v w x : Bool) → (p && q && r && s && t && u && v && w && x) ≡ true → p ≡ true
-    first_of_nine true q r s t u v w x h = refl
-    first_of_nine false q r s t u v w x h = absurd cc
-
-member_bytes : (w : List ℕ) → list_all is_member_byte w ≡ true → IsWordText w
-member_bytes [] h = refl
-member_bytes (b ∷ w) h = let p = both (is_member_byte b) (list_all is_member_byte w) h in byte_word b w (member_byte b p.0) (member_bytes w p.1)
+member_byte b h = (nine (is_word_byte b) (not (eqb b 46)) (not (eqb b 59)) (not (eqb b 91)) (not (eqb b 47)) (not (eqb b 40)) (not (eqb b 41)) (not (eqb b 60)) (not (eqb b 62)) h).0
 
 pub one_of : (a b c : Bool) (P : Type 0) → (a || b || c) ≡ true → (a ≡ true → P) → (b ≡ true → P) → (c ≡ true → P) → P
 one_of true b c P h x y z = x refl
@@ -101,16 +83,13 @@ member_name_word name h =
     one_of (same_bytes name (codes "<init>")) (same_bytes name (codes "<clinit>")) (is_some_name name && list_all is_member_byte name) (IsWordText name) h
     (λ e. subst IsWordText (sym (same_is name (codes "<init>") e)) refl)
     (λ e. subst IsWordText (sym (same_is name (codes "<clinit>") e)) refl)
-    (λ e. member_bytes name (both (is_some_name name) (list_all is_member_byte name) e).1)
+    (λ e. all_weaker is_member_byte is_word_byte name member_byte (and_parts (is_some_name name) (list_all is_member_byte name) e).1)
 
 -- ---- descriptors
 
 letter_word : (b : BaseType) → IsWordText (letter_of b ∷ [])
 letter_word Boolean = refl
-letter_word Byte = refl
-letter_word Char = refl
-letter_word Short = refl
-letter_word Int = refl
+letter_word b = refl
 
 element_word : (t : ElementType) → is_element_type t ≡ true → IsWordText (element_spelling t)
 element_word (Base b) h = letter_word b
@@ -126,18 +105,18 @@ field_word t h = joined_words (replicate t.dimensions 91) (element_spelling t.el
 parameters_word : (ts : List FieldType) → list_all is_type ts ≡ true → IsWordText (flat_map field_spelling ts)
 parameters_word [] h = refl
 parameters_word (t ∷ ts) h =
-    let p = both (is_type t) (list_all is_type ts) h in
-    joined_words (field_spelling t) (flat_map field_spelling ts) (field_word t (both (nat_le t.dimensions 255) (is_element_type t.element) p.0).1) (parameters_word ts p.1)
+    let p = and_parts (is_type t) (list_all is_type ts) h in
+    joined_words (field_spelling t) (flat_map field_spelling ts) (field_word t (and_parts (nat_le t.dimensions 255) (is_element_type t.element) p.0).1) (parameters_word ts p.1)
 
 result_word : (r : Option FieldType) → is_result_type r ≡ true → IsWordText (result_spelling r)
 result_word None h = refl
-result_word (Some t) h = field_word t (both (nat_le t.dimensions 255) (is_element_type t.element) h).1
+result_word (Some t) h = field_word t (and_parts (nat_le t.dimensions 255) (is_element_type t.element) h).1
 
 pub method_word : (m : Signature) → is_method_type m ≡ true → IsWordText (method_spelling m)
 unfolding is_method_type
 method_word m h =
-    let p = both (nat_le (length m.parameters) 255 && list_all is_type m.parameters) (is_result_type m.result) h in
-    let q = both (nat_le (length m.parameters) 255) (list_all is_type m.parameters) p.0 in
+    let p = and_parts (nat_le (length m.parameters) 255 && list_all is_type m.parameters) (is_result_type m.result) h in
+    let q = and_parts (nat_le (length m.parameters) 255) (list_all is_type m.parameters) p.0 in
     byte_word 40 (flat_map field_spelling m.parameters ++ 41 ∷ result_spelling m.result) refl
     (joined_words (flat_map field_spelling m.parameters) (41 ∷ result_spelling m.result) (parameters_word m.parameters q.1) (byte_word 41 (result_spelling m.result) refl (result_word m.result p.1)))
 
@@ -156,9 +135,3 @@ decimal_word n h = digits_word (decimal n) (decimal_is_IsNumeral n h).0.1
 pub label_word : (n : ℕ) → n < 2 ^ 64 → IsWordText (label_text n)
 unfolding label_text
 label_word n h = byte_word 76 (decimal n) refl (decimal_word n h)
-
-pub minus_word : (w : List ℕ) → IsWordText w → IsWordText (45 ∷ w)
-minus_word w h = byte_word 45 w refl h
-
-pub slash_word : (w : List ℕ) → IsWordText w → IsWordText (47 ∷ w)
-slash_word w h = byte_word 47 w refl h

@@ -1,11 +1,12 @@
 -- A line as the canonical spelling writes it: what its words are, and that no byte of it ends a line.
-use Rattle.std.proofs.Common.{◌≡◌, ℕ, ◌/◌, ◌%◌, Bool, true, false, not, ◌||◌, eqb, List, [], ◌∷◌, ◌++◌, refl, sym, subst, append_assoc, arith}
+use Rattle.std.proofs.Common.{◌≡◌, ℕ, ◌/◌, ◌%◌, Bool, true, false, not, ◌||◌, eqb, List, [], ◌∷◌, ◌++◌, refl, sym, subst, append_assoc, arith, ◌∙◌}
 use Rattle.std.specs.Prelude.{nat_lt}
 use Rattle.std.specs.Char.{digit_char}
 use Rattle.std.specs.List.{list_all}
 use Rattle.std.specs.Str.{is_utf8}
-use Rattle.std.proofs.lemmas.Bool.{and_from, and_parts, cond_both}
+use Rattle.std.proofs.lemmas.Bool.{and_from, cond_both}
 use Rattle.std.proofs.lemmas.List.{append-nil}
+use Rattle.std.proofs.lemmas.List.Folds.{list_all-append}
 use Rattle.jasmin_words.specs.Lexing.{Item, Word, Equals, Colon, Text, is_blank, fits, words_of}
 use Rattle.jasmin_words.specs.Quoting.{quoted_byte, quoted_bytes, quoted}
 use Rattle.jasmin_words.specs.Spelling.{Ends, is_word_byte, IsWord, IsSpelled}
@@ -13,6 +14,7 @@ use Rattle.jasmin_words.specs.Spelling as spelling
 use Rattle.jasmin_words.proofs.Quoting.{quoted_spelled}
 use Rattle.jasmin_words.proofs.Spelled.{spelled_again}
 use Rattle.jasmin_text.specs.Grammar.{Row, IsRow}
+use Rattle.jasmin_text.proofs.Conditions.{all_weaker}
 
 -- ---- bytes that end no line
 
@@ -26,15 +28,10 @@ inner_byte : (b : ℕ) (bytes : List ℕ) → is_inner b ≡ true → IsInner by
 inner_byte b bytes h k = and_from (is_inner b) (list_all is_inner bytes) h k
 
 inner_joined : (xs ys : List ℕ) → IsInner xs → IsInner ys → IsInner (xs ++ ys)
-inner_joined [] ys h k = k
-inner_joined (x ∷ xs) ys h k = let p = and_parts (is_inner x) (list_all is_inner xs) h in inner_byte x (xs ++ ys) p.0 (inner_joined xs ys p.1 k)
+inner_joined xs ys h k = list_all-append is_inner xs ys ∙ and_from (list_all is_inner xs) (list_all is_inner ys) h k
 
 word_byte_inner : (b : ℕ) → is_word_byte b ≡ true → is_inner b ≡ true
 word_byte_inner b h = grind arith
-
-word_inner : (w : List ℕ) → list_all is_word_byte w ≡ true → IsInner w
-word_inner [] h = refl
-word_inner (b ∷ w) h = let p = and_parts (is_word_byte b) (list_all is_word_byte w) h in inner_byte b w (word_byte_inner b p.0) (word_inner w p.1)
 
 blank_inner : (b : ℕ) → is_blank b ≡ true → is_inner b ≡ true
 blank_inner b h = grind arith
@@ -99,7 +96,7 @@ written_inner fresh line words (colon {rest = rest} {words = ws} h) = written_in
 written_inner fresh line words (text {words = ws} bytes rest e u f h) =
     subst IsInner (sym e) (inner_joined (quoted bytes) rest (quoted_inner bytes) (written_inner false rest ws h))
 written_inner fresh line words (word {words = ws} w rest e is f end h) =
-    subst IsInner (sym e) (inner_joined w rest (word_inner w (is_word_text fresh w is)) (written_inner false rest ws h))
+    subst IsInner (sym e) (inner_joined w rest (all_weaker is_word_byte is_inner w word_byte_inner (is_word_text fresh w is)) (written_inner false rest ws h))
 
 -- ---- lines
 
