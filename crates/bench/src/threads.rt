@@ -48,7 +48,7 @@ pub(crate) const ROWS: &[Row] = &[
         most: 1,
         unit: Sample::With(Scene::Run(Chains::Own)),
         unit_size: Some(1),
-        repeats: 60,
+        repeats: 200,
     },
     Row {
         what: "threads, the same interfaces, an event, beside 1",
@@ -57,7 +57,7 @@ pub(crate) const ROWS: &[Row] = &[
         most: 1,
         unit: Sample::With(Scene::Run(Chains::SameInterfaces)),
         unit_size: Some(1),
-        repeats: 60,
+        repeats: 200,
     },
     Row {
         what: "threads, the same main class, an event, beside 1",
@@ -66,7 +66,7 @@ pub(crate) const ROWS: &[Row] = &[
         most: 1,
         unit: Sample::With(Scene::Run(Chains::Same)),
         unit_size: Some(1),
-        repeats: 60,
+        repeats: 200,
     },
 ];
 
@@ -201,6 +201,8 @@ pub(crate) fn time<R: Clock + Threads + Wait + Sync>(
 ) -> Result<u128, Failure> {
     let mains = mains_of(chains);
     let mains = mains.get(..threads).unwrap_or_default();
+    // The first run wakes the processors for the second, which counts.
+    run_time(rt, alloc, program, mains, &NoGate)?;
     run_time(rt, alloc, program, mains, &NoGate)
 }
 
