@@ -1,7 +1,7 @@
 -- The test of a class name, byte after byte.
 use Rattle.std.proofs.Common.{◌≡◌, ℕ, suc, ◌+◌, Bool, true, false, ◌&&◌, ◌||◌, cond, eqb, inl, inr, List, [], ◌∷◌, ◌++◌, length, refl, sym, ap, ◌∙◌, arith}
 use Rattle.std.specs.List.{list_all}
-use Rattle.std.proofs.lemmas.Bool.{eqb-true}
+use Rattle.std.proofs.lemmas.Bool.{eqb-true, and_parts}
 use Rattle.descriptors.specs.ClassName.{is_name_byte, with_byte, segments, is_some_byte, is_segment, is_class_name, IsClassName}
 use Rattle.descriptors.specs.Reading.{name_len}
 use Rattle.descriptors.proofs.Steps.{chosen}
@@ -47,10 +47,6 @@ passes_is bs = passes_segments false bs ∙ are_segments-fresh (segments bs)
 
 -- ---- a name has no ;
 
-both : (a b : Bool) → (a && b) ≡ true → (a ≡ true) × (b ≡ true)
-both true b e = (refl, e)
-both false b e = absurd cc
-
 no_semicolon : (b : ℕ) → is_name_byte b ≡ true → eqb b 59 ≡ false
 no_semicolon b h = at (eqb b 59) (eqb-true b 59)
   where
@@ -68,8 +64,8 @@ name_len-passes : (started : Bool) (name rest : List ℕ) → passes started nam
 name_len-passes started [] rest h = refl
 name_len-passes started (b ∷ bs) rest h =
     elim (chosen (eqb b 47) (started && passes false bs) (is_name_byte b && passes true bs) true h) [
-      | inl (slash, ok) ↦ rw (slash_is_none b slash) (one_more (name_len (bs ++ 59 ∷ rest)) ∙ ap suc (name_len-passes false bs rest (both started (passes false bs) ok).1))
-      | inr (_, ok) ↦ rw (no_semicolon b (both (is_name_byte b) (passes true bs) ok).0) (one_more (name_len (bs ++ 59 ∷ rest)) ∙ ap suc (name_len-passes true bs rest (both (is_name_byte b) (passes true bs) ok).1))
+      | inl (slash, ok) ↦ rw (slash_is_none b slash) (one_more (name_len (bs ++ 59 ∷ rest)) ∙ ap suc (name_len-passes false bs rest (and_parts started (passes false bs) ok).1))
+      | inr (_, ok) ↦ rw (no_semicolon b (and_parts (is_name_byte b) (passes true bs) ok).0) (one_more (name_len (bs ++ 59 ∷ rest)) ∙ ap suc (name_len-passes true bs rest (and_parts (is_name_byte b) (passes true bs) ok).1))
     ]
 
 -- behind a name the first ; is the one that closes it

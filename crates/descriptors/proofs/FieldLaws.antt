@@ -3,6 +3,8 @@ use Rattle.std.proofs.Common.{◌≡◌, ℕ, zero, suc, ◌+◌, ◌≤◌, Boo
 use Rattle.std.specs.Prelude.{replicate, IfOk}
 use Rattle.std.proofs.lemmas.Bool.{eqb-true, eqb-false}
 use Rattle.std.proofs.lemmas.List.{append-nil, take-append-drop, take_at, drop_at}
+use Rattle.sequence.specs.Gives.{◌>>=◌}
+use Rattle.sequence.proofs.Results.{bind_ok}
 use Rattle.descriptors.specs.declared.base.BaseType.{BaseType}
 use Rattle.descriptors.specs.declared.base.BaseType.TheVariants.{Boolean, Byte, Char, Short, Int}
 use Rattle.descriptors.specs.declared.fault.DescriptorFault.{DescriptorFault}
@@ -13,9 +15,9 @@ use Rattle.descriptors.specs.declared.field.FieldType.{FieldType}
 use Rattle.descriptors.specs.ClassName.{is_class_name, IsClassName}
 use Rattle.descriptors.specs.Letters.{letter_of, base_of_letter, is_left_out}
 use Rattle.descriptors.specs.Spelling.{element_spelling, field_spelling, IsElementType, IsFieldType}
-use Rattle.descriptors.specs.Reading.{◌>>=◌, Answers, name_len, closed_name, class_at, base_at, element_at, with_dimensions, array_at, field_at, ended, field_of_text}
+use Rattle.descriptors.specs.Reading.{Answers, name_len, closed_name, class_at, base_at, element_at, with_dimensions, array_at, field_at, ended, field_of_text}
 use Rattle.descriptors.proofs.ClassNames.{name_len-closed}
-use Rattle.descriptors.proofs.Steps.{bind_ok, chosen, ok_is}
+use Rattle.descriptors.proofs.Steps.{chosen, ok_is}
 use Rattle.descriptors.proofs.Parameters.{ne-eqb}
 
 -- ---- class names

@@ -5,13 +5,15 @@ use Rattle.std.specs.List.{flat_map, AllByRecursion}
 use Rattle.std.proofs.lemmas.Bool.{eqb-true}
 use Rattle.std.proofs.lemmas.List.{append-nil}
 use Rattle.std.proofs.lemmas.List.Concat.{flat_map-cons}
+use Rattle.sequence.specs.Gives.{◌>>=◌}
+use Rattle.sequence.proofs.Results.{bind_ok}
 use Rattle.descriptors.specs.declared.fault.DescriptorFault.{DescriptorFault}
 use Rattle.descriptors.specs.declared.fault.DescriptorFault.TheVariants.{TooManyParameters}
 use Rattle.descriptors.specs.declared.field.FieldType.{FieldType}
 use Rattle.descriptors.specs.Signature.{Signature}
 use Rattle.descriptors.specs.Spelling.{field_spelling, result_spelling, method_spelling, IsFieldType, IsMethodType}
-use Rattle.descriptors.specs.Reading.{◌>>=◌, Answers, field_at, ended, with_front, parameters_at, result_at, signature_at, method_of_text}
-use Rattle.descriptors.proofs.Steps.{bind_ok, chosen, ok_is}
+use Rattle.descriptors.specs.Reading.{Answers, field_at, ended, with_front, parameters_at, result_at, signature_at, method_of_text}
+use Rattle.descriptors.proofs.Steps.{chosen, ok_is}
 use Rattle.descriptors.proofs.Parameters.{parameters_at-closed, parameters_at-more}
 use Rattle.descriptors.proofs.FieldLaws.{field_takes, field_again, field_first, ended_ok}
 

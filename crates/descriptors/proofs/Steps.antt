@@ -2,12 +2,7 @@
 use Rattle.std.proofs.Common.{◌≡◌, Bool, true, false, cond, ◌⊎◌, inl, inr, Result, Ok, Err, refl}
 use Rattle.descriptors.specs.declared.fault.DescriptorFault.{DescriptorFault}
 use Rattle.descriptors.specs.declared.fault.DescriptorFault.TheVariants.{Empty, UnknownLetter, Unfinished, TooManyDimensions, BytesLeftOver, LeftOut, TooManyParameters, NoMemory}
-use Rattle.descriptors.specs.Reading.{◌>>=◌, Fails}
-
--- the value of a step that did not fail
-pub bind_ok : {A B : Type 0} (r : Result A DescriptorFault) (f : A → Result B DescriptorFault) (y : B) → (r >>= f) ≡ Ok y → (x : A) × (r ≡ Ok x) × (f x ≡ Ok y)
-bind_ok (Ok x) f y e = (x, refl, e)
-bind_ok (Err d) f y e = absurd cc
+use Rattle.descriptors.specs.Reading.{Fails}
 
 -- which way a test went
 pub chosen : {A : Type 0} (b : Bool) (x y z : A) → cond b x y ≡ z → ((b ≡ true) × (x ≡ z)) ⊎ ((b ≡ false) × (y ≡ z))

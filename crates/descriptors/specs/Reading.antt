@@ -1,5 +1,6 @@
 -- Reading a descriptor from the left: the type that it spells, or the first fault.
 use Rattle.std.specs.Prelude.{◌≡◌, ℕ, zero, suc, ◌+◌, List, [], ◌∷◌, ◌++◌, take, drop, Option, Some, None, Result, Ok, Err, ◌==◌, if◌then◌else◌}
+use Rattle.sequence.specs.Gives.{◌>>=◌}
 use Rattle.descriptors.specs.declared.base.BaseType.{BaseType}
 use Rattle.descriptors.specs.declared.fault.DescriptorFault.{DescriptorFault}
 use Rattle.descriptors.specs.declared.fault.DescriptorFault.TheVariants.{Empty, UnknownLetter, Unfinished, TooManyDimensions, BytesLeftOver, LeftOut, TooManyParameters, NoMemory}
@@ -9,12 +10,6 @@ use Rattle.descriptors.specs.declared.field.FieldType.{FieldType}
 use Rattle.descriptors.specs.Signature.{Signature}
 use Rattle.descriptors.specs.Letters.{base_of_letter, is_left_out}
 use Rattle.descriptors.specs.ClassName.{is_class_name}
-
--- what a step gives is what the next begins with; the first fault ends the reading
-infixl 10 ◌>>=◌
-abbrev pub ◌>>=◌ : {A B : Type 0} → Result A DescriptorFault → (A → Result B DescriptorFault) → Result B DescriptorFault
-(Ok x) >>= f = f x
-(Err e) >>= f = Err e
 
 -- the fault is the reading's, or memory ran out
 abbrev pub Fails : {Y : Type 0} → DescriptorFault → Result Y DescriptorFault → Type 0

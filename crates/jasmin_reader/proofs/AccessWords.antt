@@ -3,7 +3,8 @@ use Rattle.std.proofs.Common.{◌≡◌, ℕ, Bool, true, false, not, ◌&&◌, 
 use Rattle.std.specs.Option.{option_map, ok_or}
 use Rattle.jasmin_words.specs.declared.fault.FaultKind.{FaultKind}
 use Rattle.jasmin_words.specs.declared.fault.FaultKind.TheVariants as fault
-use Rattle.jasmin_words.specs.Gives.{◌>>=◌}
+use Rattle.sequence.specs.Gives.{◌>>=◌}
+use Rattle.sequence.proofs.Results.{bind_ok, back, test_passed, some_ok}
 use Rattle.jasmin_words.specs.Lexing.{Item, Word, LongWord}
 use Rattle.jasmin_words.specs.Names.{same_bytes}
 use Rattle.jasmin_text.specs.Tables.{access_of, member_access_of, is_member_word}
@@ -22,7 +23,7 @@ use Rattle.jasmin_reader.specs.declared.table.ClassWord.{ClassWord}
 use Rattle.jasmin_reader.specs.declared.table.ClassWord.TheVariants as class_word
 use Rattle.jasmin_reader.specs.Places.{word_of, first_word, within_limit}
 use Rattle.jasmin_reader.specs.Heads.{with_access, stand_together, fits_place, class_word_at, head_word_at, with_class_word, with_word, is_before_name, named_from, has_word, no_access_by, no_access_in}
-use Rattle.jasmin_reader.proofs.Binds.{bind_ok, back, same_is, test_passed, some_ok}
+use Rattle.jasmin_text.proofs.WordBytes.{same_is}
 
 -- ---- words
 

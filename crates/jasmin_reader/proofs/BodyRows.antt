@@ -2,12 +2,13 @@
 use Rattle.std.proofs.Common.{◌≡◌, ℕ, zero, suc, ◌+◌, ◌-◌, ◌<◌, ◌≤◌, true, cond, eqb, List, [], ◌∷◌, ◌++◌, length, map, Option, Some, None, is_some, Result, Ok, Err, ℤ, refl, sym, ap, subst, ◌∙◌, arith, append_assoc, append-nil}
 use Rattle.std.proofs.Math.Dec.{eqb-suc-zero}
 use Rattle.std.specs.List.{list_all}
-use Rattle.std.proofs.lemmas.Bool.{eqb-true}
+use Rattle.std.proofs.lemmas.Bool.{eqb-true, and_parts}
 use Rattle.std.proofs.lemmas.List.{length_push, map_push}
 use Rattle.descriptors.specs.Signature.{Signature}
 use Rattle.jasmin_words.specs.declared.fault.FaultKind.{FaultKind}
 use Rattle.jasmin_words.specs.declared.fault.FaultKind.TheVariants as fault
-use Rattle.jasmin_words.specs.Gives.{◌>>=◌}
+use Rattle.sequence.specs.Gives.{◌>>=◌}
+use Rattle.sequence.proofs.Results.{bind_ok, done, back}
 use Rattle.jasmin_text.specs.Grammar.{Row, StackRow, LocalsRow, CatchRow, LabelRow, InstructionRow, TableRow, LookupRow, TargetRow, CaseRow, DefaultRow, Body as Added, Catch, with_instruction as and_instruction, Cases, case_row, with_case, AreSorted, FitsHigh, IsBody, none, more, stack, locals, catch, label, operation, table, lookup, place_of}
 use Rattle.jasmin_text.specs.declared.access.Access.{Access}
 use Rattle.jasmin_text.specs.declared.instruction.Instruction.{Instruction}
@@ -20,7 +21,6 @@ use Rattle.jasmin_reader.specs.declared.switch.Table.{Table}
 use Rattle.jasmin_reader.specs.Listing.{Listing, has_room, less_room, is_full, new_key, case_of, with_key}
 use Rattle.jasmin_reader.specs.Operands.{labels_between}
 use Rattle.jasmin_reader.specs.Bodies.{new_label, with_label, listed, outside_switch}
-use Rattle.jasmin_reader.proofs.Binds.{bind_ok, done, back, both_true}
 use Rattle.jasmin_reader.proofs.GoodRows.{is_listed, listed_size, sizes, sizes_push, is_good_row}
 use Rattle.jasmin_reader.proofs.OperandForms.{labels_counted, labels_ok}
 use Rattle.jasmin_reader.proofs.RowSteps.{room_of, listing_by, body_row, body_rows}
@@ -143,7 +143,7 @@ listing_step o row rows b c last good e follows = let l = bind_ok (listing_by b.
     by None (InstructionRow i) l good e f =
         let r = in_room b.listing.room _ l e in
         let k = back after r.1 f in
-        let size = eqb-true (listed_size i) 1 (both_true (is_listed i) (eqb (listed_size i) 1) good).1 in
+        let size = eqb-true (listed_size i) 1 (and_parts (is_listed i) (eqb (listed_size i) 1) good).1 in
         let n = sizes_push b.listing.instructions i in
         (operation k.0, omega (arith, n, size, r.0, k.1), k.2)
     by None (TableRow low high) l good e f =
@@ -207,7 +207,7 @@ row_step row rows b c last good e follows = listing_step b.listing.switch row ro
 rows_taken : (rows : List Row) (b last : Body) → last.listing.switch ≡ None → list_all is_good_row rows ≡ true → body_rows b rows ≡ Ok last → Follows rows last b
 rows_taken [] b last closes good e = back (Follows [] last) e (subst (λ (o : Option Switch). From o last [] last) (sym closes) (none, omega arith, refl))
 rows_taken (row ∷ rows) b last closes good e =
-    let q = both_true (is_good_row row) (list_all is_good_row rows) good in
+    let q = and_parts (is_good_row row) (list_all is_good_row rows) good in
     let one = bind_ok (body_row b row) (λ c. body_rows c rows) last e in
     row_step row rows b one.0 last q.0 one.1 (rows_taken rows one.0 last closes q.1 one.2)
 

@@ -1,14 +1,15 @@
 -- The rows of a class, and what they add to the class of the grammar; what is read is what the lines spell. Both ways.
 use Rattle.std.proofs.Common.{cond, ◌≡◌, ℕ, ◌+◌, ◌-◌, ◌≤◌, ◌<◌, Bool, true, not, ◌&&◌, ◌||◌, eqb, nat_le, nat_lt, List, [], ◌∷◌, ◌++◌, length, map, Option, Some, None, IfOk, IfSome, is_none, unwrap_or, Result, Ok, Err, refl, sym, ap, subst, ◌∙◌, arith}
 use Rattle.std.specs.List.{list_all}
-use Rattle.std.proofs.lemmas.Bool.{and_from, leb-true, le-leb, ltb-true, lt-ltb}
+use Rattle.std.proofs.lemmas.Bool.{and_from, leb-true, le-leb, ltb-true, lt-ltb, and_parts}
 use Rattle.std.proofs.lemmas.List.{length_push}
 use Rattle.std.proofs.lemmas.List.Folds.{list_all-append}
 use Rattle.descriptors.specs.ClassName.{is_class_name}
 use Rattle.descriptors.specs.Signature.{Signature}
 use Rattle.jasmin_words.specs.declared.fault.FaultKind.{FaultKind}
 use Rattle.jasmin_words.specs.declared.fault.FaultKind.TheVariants as fault
-use Rattle.jasmin_words.specs.Gives.{◌>>=◌}
+use Rattle.sequence.specs.Gives.{◌>>=◌}
+use Rattle.sequence.proofs.Results.{bind_ok, done, given, back}
 use Rattle.jasmin_words.specs.Lexing.{words_of}
 use Rattle.jasmin_text.specs.Grammar.{Row, ClassRow, SuperRow, ImplementsRow, FieldRow, MethodRow, EndRow, TargetRow, DefaultRow, case_row, Body as Added, empty_body as no_rows, IsBody, none, more, stack, locals, catch, label, operation, table, lookup, IsCodeOrNone, Members, no_members, IsHeader, AreMembers, super, implements, field, method, IsClass, AreRows, Spells}
 use Rattle.jasmin_text.specs.Lines.{lines_of}
@@ -25,7 +26,6 @@ use Rattle.jasmin_reader.specs.declared.reader.Reader.{Reader}
 use Rattle.jasmin_reader.specs.Bodies.{outside_switch, closed}
 use Rattle.jasmin_reader.specs.Reading.{allowed, is_in_header, member_room, empty_body, line_at}
 use Rattle.jasmin_reader.specs.File.{Reads, fault_at, object_name, parts_of, finished, rest_at, empty_reader, class_at}
-use Rattle.jasmin_reader.proofs.Binds.{bind_ok, done, given, back, both_true}
 use Rattle.jasmin_reader.proofs.BodyRows.{added, outside_ok, body_taken, holding, body_read}
 use Rattle.jasmin_reader.proofs.GoodRows.{is_head, is_good_row, is_headed, field_headed, rows_headed}
 use Rattle.jasmin_reader.proofs.MethodEnds.{IsGoodBody, all_push, body_good, closed_good, list_empty, closed_ok, body_fits, closed_read, method_facts}
@@ -71,7 +71,7 @@ record Fits (m : Members) : Type 0 where
   methods : list_all is_method m.methods ≡ true
 
 all_before : {A : Type 0} (p : A → Bool) (xs : List A) (x : A) → list_all p (xs ++ x ∷ []) ≡ true → (list_all p xs ≡ true) × (p x ≡ true)
-all_before p xs x h = let q = both_true (list_all p xs) (p x && true) (sym (list_all-append p xs (x ∷ [])) ∙ h) in (q.0, (both_true (p x) true q.1).0)
+all_before p xs x h = let q = and_parts (list_all p xs) (p x && true) (sym (list_all-append p xs (x ∷ [])) ∙ h) in (q.0, (and_parts (p x) true q.1).0)
 
 -- its names can be spelled
 abbrev Words : Members → Type 0
@@ -120,12 +120,12 @@ unfolding is_good_row
 members_taken [] None head m last closes good f w o e = given (λ (r : Reader). Adds head m [] r) e (none, refl, f, w)
 members_taken [] (Some b) head m last closes good f w o e = absurd (let k : Some b ≡ last.body = given (λ (r : Reader). Some b ≡ r.body) e refl in cc)
 members_taken (SuperRow name ∷ rows) None head m last closes good f w o e =
-    let q = both_true (is_class_word name) (list_all is_good_row rows) good in
+    let q = and_parts (is_class_word name) (list_all is_good_row rows) good in
     let p = passed fault.Misplaced (is_in_header (mid head m None)) (is_none m.superclass) (mid head (record m { superclass = Some name }) None) last rows e in
     let ih = members_taken rows None head (record m { superclass = Some name }) last closes q.1 (record { interfaces = f.interfaces; members = f.members; fields = f.fields; methods = f.methods }) (q.0, w.1) tt p.2 in
     (super (header_is m p.0) (is_none_of m.superclass p.1) ih.0, ih.1, ih.2, ih.3)
 members_taken (ImplementsRow name ∷ rows) None head m last closes good f w o e =
-    let q = both_true (is_class_word name) (list_all is_good_row rows) good in
+    let q = and_parts (is_class_word name) (list_all is_good_row rows) good in
     let p = passed fault.LimitExceeded (is_in_header (mid head m None)) (nat_lt (length m.interfaces) 255) (mid head (record m { interfaces = m.interfaces ++ name ∷ [] }) None) last rows e in
     let few = ltb-true (length m.interfaces) 255 p.1 in
     let n = length_push m.interfaces name in
@@ -133,7 +133,7 @@ members_taken (ImplementsRow name ∷ rows) None head m last closes good f w o e
     let ih = members_taken rows None head (record m { interfaces = m.interfaces ++ name ∷ [] }) last closes q.1 fits (w.0, all_push is_class_word m.interfaces name w.1 q.0) tt p.2 in
     (implements (header_is m p.0) ih.0, ih.1, ih.2, ih.3)
 members_taken (FieldRow x ∷ rows) None head m last closes good f w o e =
-    let q = both_true (is_field x) (list_all is_good_row rows) good in
+    let q = and_parts (is_field x) (list_all is_good_row rows) good in
     let p = passed fault.LimitExceeded true (member_room (mid head m None)) (mid head (record m { fields = m.fields ++ x ∷ [] }) None) last rows e in
     let few = ltb-true (length m.fields + length m.methods) 1024 p.1 in
     let n = length_push m.fields x in
@@ -141,7 +141,7 @@ members_taken (FieldRow x ∷ rows) None head m last closes good f w o e =
     let ih = members_taken rows None head (record m { fields = m.fields ++ x ∷ [] }) last closes q.1 fits w tt p.2 in
     (field ih.0, ih.1, ih.2, ih.3)
 members_taken (MethodRow a name type ∷ rows) None head m last closes good f w o e =
-    let q = both_true (is_head a name type) (list_all is_good_row rows) good in
+    let q = and_parts (is_head a name type) (list_all is_good_row rows) good in
     let p = passed fault.LimitExceeded true (member_room (mid head m None)) (mid head m (Some (empty_body a name type))) last rows e in
     let few = ltb-true (length m.fields + length m.methods) 1024 p.1 in
     method_taken head m a name type rows last q.0 (members_taken rows (Some (empty_body a name type)) head m last closes q.1 f w few p.2)
@@ -163,7 +163,7 @@ members_taken (EndRow ∷ rows) (Some b) head m last closes good f w o e =
     let outside = (outside_ok b b (done b) (ap (λ (x : Result (Unit {0}) FaultKind). x >>= λ _. done b) out.1)).0 in
     record { body = []; rest = rows; parts = refl; ended = b; good = refl; runs = refl; outside = outside; whole = whole.0; closes = whole.1; next = ih one.2 }
 members_taken (row ∷ rows) (Some b) head m last closes good f w o e =
-    let q = both_true (is_good_row row) (list_all is_good_row rows) good in
+    let q = and_parts (is_good_row row) (list_all is_good_row rows) good in
     let one = bind_ok (row_at (mid head m (Some b)) row) _ last e in
     let c = bind_ok (body_row b row) _ one.0 one.1 in
     let rest = members_taken rows (Some c.0) head m last closes q.1 f w o in
@@ -203,8 +203,8 @@ class_taken [] last n c good e ends = absurd (let x = ends_ok last n c ends in l
 class_taken (ClassRow k a name ∷ rows) last n c good e ends =
     let x = ends_ok last n c ends in
     let head : HeadWords × List ℕ = (record { kind = k; access = a }, name) in
-    let q = both_true (is_class_word name && not (is_taken k name)) (list_all is_good_row rows) good in
-    let p = both_true (is_class_word name) (not (is_taken k name)) q.0 in
+    let q = and_parts (is_class_word name && not (is_taken k name)) (list_all is_good_row rows) good in
+    let p = and_parts (is_class_word name) (not (is_taken k name)) q.0 in
     let m = members_taken rows None head no_members last x.2 q.1 (record { interfaces = omega arith; members = omega arith; fields = refl; methods = refl }) (tt, refl) tt e in
     let same : x.0 ≡ head = (let p = x.1 in let q = m.1 in cc) in
     let parts : parts_of last head ≡ c = ap (parts_of last) (sym same) ∙ x.3 in
@@ -322,7 +322,7 @@ lines_read : (n : ℕ) (r s : Reader) (c : ClassParts) (lines : List (List ℕ))
 unfolding rest_at
 lines_read n r s c lines rows none headed done ends = back (λ (x : Reader). finished x n ≡ Ok c) done (ends n)
 lines_read n r s c lines rows (more {line} {lines = others} first rest is are e) headed done ends =
-    let h = both_true (list_all is_headed first) (list_all is_headed rest) (sym (list_all-append is_headed first rest) ∙ ap (list_all is_headed) (sym e) ∙ headed) in
+    let h = and_parts (list_all is_headed first) (list_all is_headed rest) (sym (list_all-append is_headed first rest) ∙ ap (list_all is_headed) (sym e) ∙ headed) in
     let one = bind_ok (rows_at r first) (λ t. rows_at t rest) s (sym (rows_append r first rest) ∙ ap (rows_at r) (sym e) ∙ done) in
     let read : line_at r (words_of line) ≡ Ok one.0 = row_said r one.0 (words_of line) first is h.0 one.1 in
     rw read (lines_read (n + 1) one.0 s c others rest are h.1 one.2 ends)

@@ -2,11 +2,12 @@
 use Rattle.std.proofs.Common.{◌≡◌, ℕ, Bool, true, false, not, ◌&&◌, cond, List, [], ◌∷◌, ◌++◌, length, Option, Some, None, is_none, Result, Ok, Err, refl, sym, ap, subst, ◌∙◌, codes}
 use Rattle.std.specs.Prelude.{nat_lt}
 use Rattle.std.specs.List.{list_all}
-use Rattle.std.proofs.lemmas.Bool.{and_from}
+use Rattle.std.proofs.lemmas.Bool.{and_from, and_parts, not-true}
 use Rattle.descriptors.specs.ClassName.{is_class_name}
 use Rattle.jasmin_words.specs.declared.fault.FaultKind.{FaultKind}
 use Rattle.jasmin_words.specs.declared.fault.FaultKind.TheVariants as fault
-use Rattle.jasmin_words.specs.Gives.{◌>>=◌}
+use Rattle.sequence.specs.Gives.{◌>>=◌}
+use Rattle.sequence.proofs.Results.{bind_ok, carried, done, given, test_passed, then}
 use Rattle.jasmin_words.specs.Lexing.{Item, Word}
 use Rattle.jasmin_words.specs.Names.{same_bytes, is_label}
 use Rattle.jasmin_text.specs.Forms.{directive_at, directives}
@@ -28,7 +29,7 @@ use Rattle.jasmin_reader.specs.Heads.{class_from, field_from, method_from}
 use Rattle.jasmin_reader.specs.Bodies.{outside_switch, limit_by, limit_at, caught_in, keyword_in, label_behind, catch_from, catch_at, end_by, end_from, closed}
 use Rattle.jasmin_reader.specs.Reading.{allowed, has_room_for, is_in_class, is_in_header, member_room, class_line, super_line, implements_line, field_line, empty_body, method_line, in_body, ended_by, end_line, directive_line}
 use Rattle.jasmin_reader.proofs.AccessWords.{item_of, short_word, within_ok, first_is}
-use Rattle.jasmin_reader.proofs.Binds.{bind_ok, carried, done, given, both_true, not_true, same_is, test_passed, then}
+use Rattle.jasmin_text.proofs.WordBytes.{same_is}
 use Rattle.jasmin_reader.proofs.GoodRows.{is_headed, rows_headed}
 use Rattle.jasmin_reader.proofs.Heads.{IsHeadedRow, class_taken, interface_taken, field_taken, method_taken}
 use Rattle.jasmin_reader.proofs.OperandForms.{ended_ok, operand_ok, last_ok, checked_last}
@@ -113,12 +114,12 @@ method_ok r s items e =
 
 -- an access word stands before no name
 pub untaken : (k : ClassKind) (name : List ℕ) → not (is_taken k name) ≡ true → is_taken kind.Interface name ≡ false
-untaken kind.Interface name h = not_true (is_taken kind.Interface name) h
+untaken kind.Interface name h = not-true (is_taken kind.Interface name) h
 untaken kind.Class name h = by (same_bytes name (codes "interface")) (is_taken kind.Interface name) h
   where
     by : (s t : Bool) → not (cond s true t) ≡ true → t ≡ false
     by true t h = absurd cc
-    by false t h = not_true t h
+    by false t h = not-true t h
 
 -- ---- limits
 
@@ -127,7 +128,7 @@ next_ok [] w e = absurd cc
 next_ok (t ∷ rest) w e = let one = bind_ok (word_of t) _ w e in given (λ (w : (List ℕ × Bool) × List Item). t ∷ rest ≡ item_of w.0 ∷ w.1) one.2 (ap (λ (i : Item). i ∷ rest) (first_is fault.BadOperand t one.0 one.1))
 
 pub short_word_is : (w : List ℕ × Bool) (v : List ℕ) → (same_bytes w.0 v && not w.1) ≡ true → item_of w ≡ Word v
-short_word_is w v h = let p = both_true (same_bytes w.0 v) (not w.1) h in cc (short_word w (not_true w.1 p.1), same_is w.0 v p.0)
+short_word_is w v h = let p = and_parts (same_bytes w.0 v) (not w.1) h in cc (short_word w (not-true w.1 p.1), same_is w.0 v p.0)
 
 limit_by_ok : (b c : Body) (w : List ℕ × Bool) (rest : List Item) (s t : Bool) → outside_switch b ≡ Ok tt → (same_bytes w.0 (codes "stack") && not w.1) ≡ s → (same_bytes w.0 (codes "locals") && not w.1) ≡ t → limit_by b s t rest ≡ Ok c → BodySays b (Word (codes ".limit") ∷ item_of w ∷ rest) c
 limit_by_ok b c w rest true t out p q e =

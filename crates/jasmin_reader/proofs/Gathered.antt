@@ -1,7 +1,7 @@
 -- Loops that gather what each element gives, up to the first fault.
 use Rattle.std.proofs.Common.{◌≡◌, List, [], ◌∷◌, ◌++◌, Result, Ok, Err, refl, ap}
 use Rattle.std.proofs.lemmas.List.{append_assoc, append-nil}
-use Rattle.jasmin_words.specs.Gives.{◌>>=◌}
+use Rattle.sequence.specs.Gives.{◌>>=◌}
 use Rattle.jasmin_words.specs.declared.fault.FaultKind.{FaultKind}
 
 -- what is gathered, and then what the rest gives

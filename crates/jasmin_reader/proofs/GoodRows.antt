@@ -2,7 +2,7 @@
 use Rattle.std.proofs.Common.{◌≡◌, ℕ, ◌+◌, Bool, true, false, not, ◌&&◌, cond, eqb, nat_le, List, [], ◌∷◌, ◌++◌, length, Option, Some, None, ℤ, refl, ap, sym, subst, ◌∙◌, arith, codes}
 use Rattle.std.specs.Prelude.{int_lt}
 use Rattle.std.specs.List.{list_all}
-use Rattle.std.proofs.lemmas.Bool.{and_from}
+use Rattle.std.proofs.lemmas.Bool.{and_from, and_parts}
 use Rattle.descriptors.specs.Signature.{Signature}
 use Rattle.descriptors.specs.Spelling.{method_spelling}
 use Rattle.descriptors.specs.declared.field.FieldType.{FieldType}
@@ -23,7 +23,6 @@ use Rattle.jasmin_text.specs.declared.instruction.Instruction.{Instruction}
 use Rattle.jasmin_text.specs.declared.instruction.Instruction.TheVariants as instruction
 use Rattle.jasmin_text.proofs.Conditions.{five}
 use Rattle.jasmin_reader.specs.Heads.{may_initialize}
-use Rattle.jasmin_reader.proofs.Binds.{both_true}
 use Rattle.jasmin_reader.proofs.RowSteps.{is_body_row}
 use Rattle.jasmin_reader.proofs.Words.{integer_int, short_within, descriptor_good, signature_good}
 
@@ -112,7 +111,7 @@ is_form other = true
 
 pub find_good : {T : Type 0} (p : T → Bool) (w : List ℕ) (rows : List (List ℕ × T)) (x : T) → list_all (λ r. p r.1) rows ≡ true → find_row w rows ≡ Some x → p x ≡ true
 find_good p w [] x h e = absurd cc
-find_good {T} p w (r ∷ rs) x h e = let parts = both_true (p r.1) (list_all (λ r. p r.1) rs) h in by (same_bytes w r.0) (λ found. find_good p w rs x parts.1 found) parts.0 e
+find_good {T} p w (r ∷ rs) x h e = let parts = and_parts (p r.1) (list_all (λ r. p r.1) rs) h in by (same_bytes w r.0) (λ found. find_good p w rs x parts.1 found) parts.0 e
   where
     by : (t : Bool) → (find_row w rs ≡ Some x → p x ≡ true) → p r.1 ≡ true → cond t (Some r.1) (find_row w rs) ≡ Some x → p x ≡ true
     by true later first e = cc (e, first)
@@ -179,7 +178,7 @@ is_headed other = true
 -- a row of a method is no head
 pub rows_headed : (rows : List Row) → list_all is_body_row rows ≡ true → list_all is_headed rows ≡ true
 rows_headed [] h = refl
-rows_headed (row ∷ rows) h = let p = both_true (is_body_row row) (list_all is_body_row rows) h in and_from (is_headed row) (list_all is_headed rows) (one row p.0) (rows_headed rows p.1)
+rows_headed (row ∷ rows) h = let p = and_parts (is_body_row row) (list_all is_body_row rows) h in and_from (is_headed row) (list_all is_headed rows) (one row p.0) (rows_headed rows p.1)
   where
     one : (row : Row) → is_body_row row ≡ true → is_headed row ≡ true
     one (ClassRow k a name) h = absurd cc
@@ -197,7 +196,7 @@ field_good : (f : Field) (w : List ℕ) (rest : List Item) → is_member_name f.
     → is_headed (FieldRow f) ≡ true → is_field f ≡ true
 unfolding is_field
 field_good f w rest name d v p lexed h =
-    let tests = both_true (not (is_member_word f.name)) (is_typed f.field_type f.value) h in
+    let tests = and_parts (not (is_member_word f.name)) (is_typed f.field_type f.value) h in
     and_also (and_also (and_also (and_also name p) tests.0) (descriptor_good w f.field_type d lexed.0.1)) (value_good f.field_type rest f.value v lexed.1 tests.1)
 
 caught_good : (w : List ℕ) (o : Option (List ℕ)) → IsCaught w o → fits w ≡ true → is_caught o ≡ true
@@ -206,8 +205,8 @@ caught_good w o (class e h) p = and_also (and_also h p) (ap not e)
 
 typed_of : (t : FieldType) (v : Option Constant) → is_value_of t v ≡ true → is_typed t v ≡ true
 typed_of t None h = refl
-typed_of t (Some (constant.Int n)) h = (both_true (is_int_type t) (is_int n) h).0
-typed_of t (Some (constant.Text s)) h = (both_true (is_string_type t) (is_string s) h).0
+typed_of t (Some (constant.Int n)) h = (and_parts (is_int_type t) (is_int n) h).0
+typed_of t (Some (constant.Text s)) h = (and_parts (is_string_type t) (is_string s) h).0
 
 pub field_headed : (f : Field) → is_field f ≡ true → is_headed (FieldRow f) ≡ true
 unfolding is_field
@@ -220,18 +219,18 @@ pub rows_good : (items : List Item) (rows : List Row) → IsRow items rows → A
 unfolding is_good_row is_head
 rows_good items rows (class {items = words} {k} {name} access e is c other) lexed h =
     let word = (lexed_behind access (Word name ∷ []) (subst AreLexed e lexed.1)).0 in
-    and_also (and_also (and_also c word.1) (both_true (not (is_taken k name)) true h).0) refl
+    and_also (and_also (and_also c word.1) (and_parts (not (is_taken k name)) true h).0) refl
 rows_good items rows (interface {items = words} {name} access e is c) lexed h =
     let word = (lexed_behind access (Word name ∷ []) (subst AreLexed e lexed.1)).0 in
-    and_also (and_also (and_also c word.1) (both_true _ true h).0) refl
+    and_also (and_also (and_also c word.1) (and_parts _ true h).0) refl
 rows_good items rows (super c) lexed h = and_also (and_also c lexed.1.0.1) refl
 rows_good items rows (implements c) lexed h = and_also (and_also c lexed.1.0.1) refl
 rows_good items rows (field {items = words} {a} {name} {type} {value} access rest w e is c d v) lexed h =
     let behind = lexed_behind access (Word name ∷ Word w ∷ rest) (subst AreLexed e lexed.1) in
-    and_also (field_good (record { access = a; name = name; field_type = type; value = value }) w rest c d v behind.0.1 behind.1 (both_true _ true h).0) refl
+    and_also (field_good (record { access = a; name = name; field_type = type; value = value }) w rest c d v behind.0.1 behind.1 (and_parts _ true h).0) refl
 rows_good items rows (method {items = words} {a} {name} {type} access w e spelled is c m) lexed h =
     let word = (lexed_behind access (Word w ∷ []) (subst AreLexed e lexed.1)).0 in
-    and_also (and_also (and_also (and_also c (signature_good type m)) (ap fits (sym spelled) ∙ word.1)) (both_true (fits_head a name type) true h).0) refl
+    and_also (and_also (and_also (and_also c (signature_good type m)) (ap fits (sym spelled) ∙ word.1)) (and_parts (fits_head a name type) true h).0) refl
 rows_good items rows (stack n) lexed h = and_also n.to refl
 rows_good items rows (locals n) lexed h = and_also n.to refl
 rows_good items rows (catch {w} {class = caught} c i j k) lexed h = and_also (caught_good w caught c lexed.1.0.1) refl

@@ -1,6 +1,6 @@
 -- Lines that name a class, a field or a method, both ways: those that are read are lines of the grammar, and those are read.
 use Rattle.std.proofs.Common.{◌≡◌, ℕ, Bool, true, false, not, ◌&&◌, cond, eqb, List, [], ◌∷◌, ◌++◌, map, Option, Some, Result, Ok, Err, refl, sym, ap, ◌∙◌, codes}
-use Rattle.std.proofs.lemmas.Bool.{and_from, and_right, not_from_false, false_from_ne_true}
+use Rattle.std.proofs.lemmas.Bool.{and_from, and_right, not_from_false, false_from_ne_true, and_parts, not-true}
 use Rattle.descriptors.specs.ClassName.{is_class_name, IsClassName}
 use Rattle.descriptors.specs.Reading.{field_of_text, array_at, element_at}
 use Rattle.descriptors.specs.Signature.{Signature}
@@ -9,7 +9,8 @@ use Rattle.descriptors.specs.declared.field.ElementType.TheVariants as element
 use Rattle.descriptors.specs.declared.field.FieldType.{FieldType}
 use Rattle.jasmin_words.specs.declared.fault.FaultKind.{FaultKind}
 use Rattle.jasmin_words.specs.declared.fault.FaultKind.TheVariants as fault
-use Rattle.jasmin_words.specs.Gives.{◌>>=◌}
+use Rattle.sequence.specs.Gives.{◌>>=◌}
+use Rattle.sequence.proofs.Results.{not_refused, bind_ok, given}
 use Rattle.jasmin_words.specs.Lexing.{Item, Word, Equals, Text}
 use Rattle.jasmin_words.specs.Names.{same_bytes, is_member_name, IsMemberName}
 use Rattle.jasmin_text.specs.Tables.{access_of, member_access_of, is_member_word, is_access_word}
@@ -28,10 +29,10 @@ use Rattle.jasmin_reader.specs.Places.{within_limit, operand, string_from, ended
 use Rattle.jasmin_reader.specs.Operands.{class_name_in, member_name_in, integer_in, type_in, typed_in}
 use Rattle.jasmin_reader.specs.Heads.{start, no_access_in, named_from, begins_with_part, is_before_name, kind_at, class_from, constant_for, value_at, value_from, is_signature, described_from, field_from, may_initialize, fits_initializer, method_from}
 use Rattle.jasmin_reader.proofs.AccessWords.{short_word, within_ok, no_access_word, passed_over, knows, is_access_at, Words, class_access, class_words, simple_access, simple_words, Found, Named, named_ok, named_read, word_behind}
-use Rattle.jasmin_reader.proofs.Binds.{bind_ok, given, both_true, not_true, same_is}
+use Rattle.jasmin_text.proofs.WordBytes.{same_is}
 use Rattle.jasmin_reader.proofs.GoodRows.{fits_head, is_typed, is_headed}
 use Rattle.jasmin_reader.proofs.OperandForms.{ended_ok, operand_ok}
-use Rattle.jasmin_reader.proofs.Words.{access_lacks, lacks, type_read, typed_read, member_lacks, not_refused, checked_ok, integer_ok, type_ok, typed_ok}
+use Rattle.jasmin_reader.proofs.Words.{access_lacks, lacks, type_read, typed_read, member_lacks, checked_ok, integer_ok, type_ok, typed_ok}
 
 -- a row of the grammar, with what its words don't say by themselves
 abbrev pub IsHeadedRow : List Item → Row → Type 0
@@ -199,7 +200,7 @@ field_head items before rest a name w type value e is h d v free ok =
     let behind = value_read type rest value v ok in
     let at : is_before_name place.Field (Word w ∷ rest) ≡ false = rw (other, behind.0) refl in
     let (ws, parts, (words, fits)) = simple_words place.Field member_access_of knows.1 kind.Class is refl in
-    rw (e, parts, named_read place.Field name (Word w ∷ rest) at (field_before name w rest part) words, passed_over place.Field name (not_true _ free), h, other, type_read w type d, behind.1) refl
+    rw (e, parts, named_read place.Field name (Word w ∷ rest) at (field_before name w rest part) words, passed_over place.Field name (not-true _ free), h, other, type_read w type d, behind.1) refl
 
 -- ---- methods
 
@@ -223,16 +224,16 @@ method_taken items r e =
 
 has_parenthesis : (name : List ℕ) (m : Signature) → lacks 40 name ≡ true → lacks 40 (name ++ method_spelling m) ≡ false
 has_parenthesis [] m h = refl
-has_parenthesis (b ∷ bs) m h = let p = both_true (not (eqb b 40)) (lacks 40 bs) h in rw (p.0) (has_parenthesis bs m p.1)
+has_parenthesis (b ∷ bs) m h = let p = and_parts (not (eqb b 40)) (lacks 40 bs) h in rw (p.0) (has_parenthesis bs m p.1)
 
 pub method_head : (items before : List Item) (w : List ℕ) (a : Access) (name : List ℕ) (type : Signature) → items ≡ before ++ Word w ∷ [] → w ≡ name ++ method_spelling type
     → IsMemberAccess before a → IsMemberName name → IsMethodType type → fits_head a name type ≡ true → method_from items ≡ Ok (a, (name, type))
 unfolding method_from
 method_head items before w a name type e spelled is h m fits =
-    let p = both_true (not (a.is_abstract && a.is_static)) (not (same_bytes name (codes "<clinit>") && not (may_initialize a type))) fits in
+    let p = and_parts (not (a.is_abstract && a.is_static)) (not (same_bytes name (codes "<clinit>") && not (may_initialize a type))) fits in
     let bare = member_lacks 40 refl refl refl name h in
     let name_read : member_name_in name ≡ Ok name = rw h refl in
     let typed : typed_in member_name_in w ≡ Ok (name, type) = rw spelled (typed_read member_name_in name type name bare name_read m) in
     let no_word : is_member_word w ≡ false = rw (access_lacks w (ap (lacks 40) spelled ∙ has_parenthesis name type bare)) refl in
     let (ws, parts, (words, none_wrong)) = simple_words place.Method member_access_of knows.2 kind.Class is p.0 in
-    rw (e, parts, named_read place.Method w [] refl (word_behind w) words, passed_over place.Method w no_word, typed, not_true _ p.1) refl
+    rw (e, parts, named_read place.Method w [] refl (word_behind w) words, passed_over place.Method w no_word, typed, not-true _ p.1) refl

@@ -3,7 +3,6 @@ pub mod Lines
 pub mod LabelTables
 pub mod Gathered
 pub mod Keys
-pub mod Binds
 pub mod RowSteps
 pub mod Words
 pub mod OperandForms

@@ -5,10 +5,10 @@ use Rattle.jasmin_reader.specs.declared.reader.Reader.{Reader}
 use Rattle.jasmin_text.specs.declared.class_text.ClassParts.{ClassParts}
 use Rattle.jasmin_reader.specs.declared.fault.ReadFault.{ReadFault}
 use Rattle.jasmin_words.specs.declared.fault.FaultKind.{FaultKind}
-use Rattle.jasmin_words.specs.declared.refusal.Refusal.{Refusal}
-use Rattle.jasmin_words.specs.declared.refusal.Refusal.TheVariants as refusal
+use Rattle.sequence.specs.declared.refusal.Refusal.{Refusal}
+use Rattle.sequence.specs.declared.refusal.Refusal.TheVariants as refusal
 use Rattle.jasmin_words.specs.Lexing.{words_of}
-use Rattle.jasmin_words.specs.Gives.{Fails}
+use Rattle.sequence.specs.Gives.{Fails}
 use Rattle.jasmin_reader.specs.Reading.{line_at}
 use Rattle.jasmin_text.specs.Lines.{line_len, with_byte, lines_of}
 use Rattle.jasmin_reader.specs.File.{then_lines, rest_at, finished, Tells, fault_of}

@@ -1,9 +1,10 @@
 -- Where a method ends: labels get their places, and the method is that of the grammar, both ways; what good rows lead to can be spelled.
 use Rattle.std.proofs.Common.{◌≡◌, ℕ, suc, ◌+◌, ◌-◌, ◌≤◌, Bool, true, false, not, ◌&&◌, cond, eqb, nat_le, List, [], ◌∷◌, ◌++◌, length, map, Option, Some, None, ok_or, Result, Ok, Err, ℤ, refl, sym, ap, subst, ◌∙◌, arith, codes}
 use Rattle.std.specs.List.{list_all}
-use Rattle.std.proofs.lemmas.Bool.{eqb-true, leb-true, le-leb}
+use Rattle.std.proofs.lemmas.Bool.{eqb-true, leb-true, le-leb, and_parts, not-true}
 use Rattle.std.proofs.lemmas.List.{nil_from_length, length_push}
 use Rattle.std.proofs.lemmas.List.Folds.{list_all-append, list_all-map}
+use Rattle.sequence.proofs.Results.{bind_ok, done, given}
 use Rattle.jasmin_words.specs.declared.fault.FaultKind.{FaultKind}
 use Rattle.jasmin_words.specs.declared.fault.FaultKind.TheVariants as fault
 use Rattle.jasmin_words.specs.Names.{same_bytes}
@@ -19,7 +20,6 @@ use Rattle.jasmin_reader.specs.declared.body.Body.{Body}
 use Rattle.jasmin_reader.specs.declared.body.Catch.{Catch as ReadCatch}
 use Rattle.jasmin_reader.specs.Heads.{may_initialize}
 use Rattle.jasmin_reader.specs.Bodies.{each, placed_label, placed_labels, placed_case, placed_cases, placed, all_placed, placed_catch, placed_catches, has_nothing, body_of, method_with, closed}
-use Rattle.jasmin_reader.proofs.Binds.{bind_ok, done, given, both_true, not_true}
 use Rattle.jasmin_reader.proofs.BodyRows.{added, caught, read_catch, holding}
 use Rattle.jasmin_reader.proofs.GoodRows.{keys_rise, are_keys, is_listed, listed_size, sizes, fits_head, is_head, is_good_row, find_good}
 use Rattle.jasmin_reader.proofs.SortedCases.{with_case_all, with_case_rises, same_rise}
@@ -167,7 +167,7 @@ placed_size labels i j other = refl
 sizes_fit : (labels : List (List ℕ × ℕ)) (is : List (Instruction (List ℕ))) (js : List (Instruction ℕ)) (room : ℕ) → Each (IsPlaced labels) is js → have_room room js ≡ true → sizes is ≤ room
 sizes_fit labels is js room none h = omega arith
 sizes_fit labels is js room (more {x = i} {y = j} {xs = others} {ys = rest} p ps) h =
-    let q = both_true (nat_le (instruction_size j) room) (have_room (room - instruction_size j) rest) h in
+    let q = and_parts (nat_le (instruction_size j) room) (have_room (room - instruction_size j) rest) h in
     let first = leb-true (instruction_size j) room q.0 in
     let size = placed_size labels i j p in
     let ih = sizes_fit labels others rest (room - instruction_size j) ps q.1 in
@@ -179,23 +179,23 @@ unfolding is_code
 code_facts g c is h =
     let n = length c.instructions in
     let p = six (nat_le c.stack 1024) (nat_le c.locals 1024) (not (eqb n 0)) (have_room 16384 c.instructions) (list_all (is_handler n) c.handlers) (list_all (is_instruction n) c.instructions) h in
-    (not_true (eqb n 0) p.2, sizes_fit g.labels g.instructions c.instructions 16384 is.instructions p.3)
+    (not-true (eqb n 0) p.2, sizes_fit g.labels g.instructions c.instructions 16384 is.instructions p.3)
 
 pub body_fits : (is_abstract : Bool) (g : Added) (o : Option Code) → IsCodeOrNone g o → is_optional_code is_abstract o ≡ true → sizes g.instructions ≤ 16384
 body_fits is_abstract g None is h = let e = ap sizes is.instructions in omega (arith, e)
-body_fits is_abstract g (Some c) is h = (code_facts g c is (both_true (not is_abstract) (is_code c) h).1).1
+body_fits is_abstract g (Some c) is h = (code_facts g c is (and_parts (not is_abstract) (is_code c) h).1).1
 
 -- A method whose body has this code is closed with it.
 pub closed_read : (h : Body) (g : Added) (left : ℕ) (o : Option Code) → IsCodeOrNone g o → is_optional_code h.access.is_abstract o ≡ true → closed (holding h g left) ≡ Ok (method_with h o)
 unfolding closed each
 closed_read h g left None is abstract = rw (is.labels, is.catches, is.instructions, abstract) refl
 closed_read h g left (Some c) is ok =
-    let p = both_true (not h.access.is_abstract) (is_code c) ok in
+    let p = and_parts (not h.access.is_abstract) (is_code c) ok in
     let f = code_facts g c is p.1 in
     let count : eqb (length g.instructions) 0 ≡ false = ap (λ (n : ℕ). eqb n 0) (sym (each_length (IsPlaced g.labels) g.instructions c.instructions is.instructions)) ∙ f.0 in
     let placed_all = each_read (placed g.labels) (IsPlaced g.labels) (instruction_read g.labels) g.instructions c.instructions is.instructions in
     let handlers = each_read (placed_catch g.labels) (IsPlacedCatch g.labels) (handler_read g.labels) (map read_catch g.catches) c.handlers (each_map read_catch (IsPlacedCatch g.labels) g.catches c.handlers is.handlers) in
-    rw (placed_all, handlers, not_true h.access.is_abstract p.0, count, sym is.stack, sym is.locals) refl
+    rw (placed_all, handlers, not-true h.access.is_abstract p.0, count, sym is.stack, sym is.locals) refl
 
 -- ---- what good rows lead to
 
@@ -208,7 +208,7 @@ has_int c = is_int c.0
 sorted_good : (acc cases sorted : Cases) → AreSorted acc cases sorted → list_all has_int acc ≡ true → keys_rise acc ≡ true → list_all has_int cases ≡ true → are_keys sorted ≡ true
 sorted_good acc cases sorted none ints rise good = rw (ints, rise) refl
 sorted_good acc cases sorted (more {c} {cs} lacks are) ints rise good =
-    let p = both_true (has_int c) (list_all has_int cs) good in
+    let p = and_parts (has_int c) (list_all has_int cs) good in
     sorted_good (with_case c acc) cs sorted are (with_case_all has_int c acc p.0 ints) (with_case_rises c acc lacks rise) p.1
 
 -- no label stands behind so many instructions
@@ -218,7 +218,7 @@ Within count labels = list_all (λ (l : List ℕ × ℕ). nat_le l.1 count) labe
 labels_stay : (m n : ℕ) (labels : List (List ℕ × ℕ)) → m ≤ n → Within m labels → Within n labels
 labels_stay m n [] less h = refl
 labels_stay m n (l ∷ ls) less h =
-    let p = both_true (nat_le l.1 m) (list_all (λ (l : List ℕ × ℕ). nat_le l.1 m) ls) h in
+    let p = and_parts (nat_le l.1 m) (list_all (λ (l : List ℕ × ℕ). nat_le l.1 m) ls) h in
     let place = leb-true l.1 m p.0 in
     rw (le-leb l.1 n (omega (arith, place, less)), labels_stay m n ls less p.1) refl
 
@@ -239,19 +239,19 @@ instruction_added g i p good =
 -- the rows of a switch, and those behind it
 switch_rows : (xs : List Row) (d : List ℕ) (rest rows : List Row) → rows ≡ xs ++ DefaultRow d ∷ rest → list_all is_good_row rows ≡ true → (list_all is_good_row xs ≡ true) × (list_all is_good_row rest ≡ true)
 unfolding is_good_row
-switch_rows xs d rest rows e h = both_true (list_all is_good_row xs) (list_all is_good_row rest) (sym (list_all-append is_good_row xs (DefaultRow d ∷ rest)) ∙ ap (list_all is_good_row) (sym e) ∙ h)
+switch_rows xs d rest rows e h = and_parts (list_all is_good_row xs) (list_all is_good_row rest) (sym (list_all-append is_good_row xs (DefaultRow d ∷ rest)) ∙ ap (list_all is_good_row) (sym e) ∙ h)
 
 pub body_good : (g h : Added) (rows : List Row) → IsBody g rows h → list_all is_good_row rows ≡ true → IsGoodBody g → IsGoodBody h
 unfolding is_good_row is_listed
 body_good g h rows none good b = b
 body_good g h rows (stack {n} {rows = rest} body) good b =
-    let p = both_true (nat_le n 1024) (list_all is_good_row rest) good in
+    let p = and_parts (nat_le n 1024) (list_all is_good_row rest) good in
     body_good (record g { stack = n }) h rest body p.1 (record { stack = p.0; locals = b.locals; labels = b.labels; catches = b.catches; instructions = b.instructions })
 body_good g h rows (locals {n} {rows = rest} body) good b =
-    let p = both_true (nat_le n 1024) (list_all is_good_row rest) good in
+    let p = and_parts (nat_le n 1024) (list_all is_good_row rest) good in
     body_good (record g { locals = n }) h rest body p.1 (record { stack = b.stack; locals = p.0; labels = b.labels; catches = b.catches; instructions = b.instructions })
 body_good g h rows (catch {class} {from} {to} {using} {rows = rest} body) good b =
-    let p = both_true (is_caught class) (list_all is_good_row rest) good in
+    let p = and_parts (is_caught class) (list_all is_good_row rest) good in
     let x : Catch = record { class = class; from = from; to = to; handler = using } in
     let catches = all_push (λ (c : Catch). is_caught c.class) g.catches x b.catches p.0 in
     body_good (record g { catches = g.catches ++ x ∷ [] }) h rest body p.1 (record { stack = b.stack; locals = b.locals; labels = b.labels; catches = catches; instructions = b.instructions })
@@ -260,10 +260,10 @@ body_good g h rows (label {l} {rows = rest} e body) good b =
     let labels = all_push (λ (l : List ℕ × ℕ). nat_le l.1 count) g.labels (l, count) b.labels (le-leb count count (omega arith)) in
     body_good (record g { labels = g.labels ++ (l, count) ∷ [] }) h rest body good (record { stack = b.stack; locals = b.locals; labels = labels; catches = b.catches; instructions = b.instructions })
 body_good g h rows (operation {i} {rows = rest} body) good b =
-    let p = both_true (is_listed i && eqb (listed_size i) 1) (list_all is_good_row rest) good in
-    body_good (and_instruction g i) h rest body p.1 (instruction_added g i (both_true (is_listed i) (eqb (listed_size i) 1) p.0).0 b)
+    let p = and_parts (is_listed i && eqb (listed_size i) 1) (list_all is_good_row rest) good in
+    body_good (and_instruction g i) h rest body p.1 (instruction_added g i (and_parts (is_listed i) (eqb (listed_size i) 1) p.0).0 b)
 body_good g h rows (table {low} {rows = others} labels d rest e fits body) good b =
-    let p = both_true (is_int low) (list_all is_good_row others) good in
+    let p = and_parts (is_int low) (list_all is_good_row others) good in
     let i : Instruction (List ℕ) = instruction.TableSwitch low labels d in
     body_good (and_instruction g i) h rest body (switch_rows (map TargetRow labels) d rest others e p.1).1 (instruction_added g i p.0 b)
 body_good g h rows (lookup {rows = others} cases sorted d rest e are body) good b =
@@ -283,7 +283,7 @@ cases_within : (count : ℕ) (labels : List (List ℕ × ℕ)) (cs : Cases) (ds 
     → list_all (λ (c : ℤ × ℕ). is_int c.0 && nat_le c.1 count) ds ≡ true
 cases_within count labels cs ds h none ints = refl
 cases_within count labels cs ds h (more {x = c} {y = d} {xs = others} {ys = rest} e is) ints =
-    let p = both_true (has_int c) (list_all has_int others) ints in
+    let p = and_parts (has_int c) (list_all has_int others) ints in
     rw (ap is_int e.0, p.0, within count labels c.1 d.1 h e.1, cases_within count labels others rest h is p.1) refl
 
 placed_good : (count : ℕ) (labels : List (List ℕ × ℕ)) (i : Instruction (List ℕ)) (j : Instruction ℕ) → Within count labels → IsPlaced labels i j → is_listed i ≡ true → is_instruction count j ≡ true
@@ -291,7 +291,7 @@ unfolding is_listed is_instruction
 placed_good count labels i j h (jump {l} {place} e) good = within count labels l place h e
 placed_good count labels i j h (table {low} {ls} {d} {places} {place} is e) good = rw (good, places_within count labels ls places h is, within count labels d place h e) refl
 placed_good count labels i j h (lookup {cs} {d} {cases} {place} is e) good =
-    let p = both_true (list_all has_int cs) (keys_rise cs) good in
+    let p = and_parts (list_all has_int cs) (keys_rise cs) good in
     rw (cases_within count labels cs cases h is p.0, same_rise labels cs cases is, p.1, within count labels d place h e) refl
 placed_good count labels i j h other good = good
 
@@ -299,7 +299,7 @@ all_good : (count : ℕ) (labels : List (List ℕ × ℕ)) (is : List (Instructi
     → (room : ℕ) → sizes is ≤ room → (list_all (is_instruction count) js ≡ true) × (have_room room js ≡ true)
 all_good count labels is js h none good room less = (refl, refl)
 all_good count labels is js h (more {x = i} {y = j} {xs = others} {ys = rest} one all) good room less =
-    let p = both_true (is_listed i) (list_all is_listed others) good in
+    let p = and_parts (is_listed i) (list_all is_listed others) good in
     let size = placed_size labels i j one in
     let ih = all_good count labels others rest h all p.1 (room - instruction_size j) (omega (arith, size, less)) in
     (rw (placed_good count labels i j h one p.0, ih.0) refl, rw (le-leb (instruction_size j) room (omega (arith, size, less)), ih.1) refl)
@@ -309,7 +309,7 @@ handlers_good : (count : ℕ) (labels : List (List ℕ × ℕ)) (cs : List Catch
 unfolding is_handler
 handlers_good count labels cs hs h good none = refl
 handlers_good count labels cs hs h good (more {x = c} {y = k} {xs = others} {ys = rest} r rs) =
-    let p = both_true (is_caught c.class) (list_all (λ c. is_caught c.class) others) good in
+    let p = and_parts (is_caught c.class) (list_all (λ c. is_caught c.class) others) good in
     rw (r.class, p.0, within count labels c.from k.from h r.from, within count labels c.to k.to h r.to, within count labels c.handler k.handler h r.handler, handlers_good count labels others rest h p.1 rs) refl
 
 code_good : (b : Body) (o : Option Code) → IsGoodBody (added b) → sizes b.listing.instructions ≤ 16384 → IsCodeOrNone (added b) o → Demanded b o → is_optional_code b.access.is_abstract o ≡ true
@@ -327,7 +327,7 @@ pub closed_good : (b : Body) (m : Method) → is_head b.access b.name b.method_t
 unfolding is_method is_head
 closed_good b m head g room e =
     let c = closed_ok b m e in
-    let p = both_true _ (fits_head b.access b.name b.method_type) head in
+    let p = and_parts _ (fits_head b.access b.name b.method_type) head in
     let begins = same_bytes b.name (codes "<clinit>") in
-    let q = both_true (not (b.access.is_abstract && b.access.is_static)) (not (begins && not (may_initialize b.access b.method_type))) p.1 in
+    let q = and_parts (not (b.access.is_abstract && b.access.is_static)) (not (begins && not (may_initialize b.access b.method_type))) p.1 in
     subst (λ (m : Method). is_method m ≡ true) c.2 (rw (p.0, q.0, sym (starts begins (may_initialize b.access b.method_type)) ∙ q.1, code_good b m.code g room c.0 c.1) refl)

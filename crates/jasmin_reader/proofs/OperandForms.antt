@@ -1,6 +1,6 @@
 -- Operands and instruction lines, both ways: those that are read are those of the grammar.
 use Rattle.std.proofs.Common.{◌≡◌, ℕ, zero, suc, ℤ, pos, negsuc, ◌+ℤ◌, ◌-ℤ◌, Bool, true, false, not, cond, eqb, List, [], ◌∷◌, ◌++◌, replicate, Option, Some, None, Result, Ok, Err, refl, sym, ap, subst, ◌∙◌, arith}
-use Rattle.std.proofs.lemmas.Bool.{not_from_false}
+use Rattle.std.proofs.lemmas.Bool.{not_from_false, and_parts, not-true}
 use Rattle.std.proofs.lemmas.Int.{ints}
 use Rattle.descriptors.specs.ClassName.{is_class_name}
 use Rattle.descriptors.specs.Spelling.{field_spelling, element_spelling}
@@ -11,7 +11,8 @@ use Rattle.descriptors.specs.declared.field.ElementType.TheVariants as element
 use Rattle.descriptors.specs.declared.field.FieldType.{FieldType}
 use Rattle.jasmin_words.specs.declared.fault.FaultKind.{FaultKind}
 use Rattle.jasmin_words.specs.declared.fault.FaultKind.TheVariants as fault
-use Rattle.jasmin_words.specs.Gives.{◌>>=◌}
+use Rattle.sequence.specs.Gives.{◌>>=◌}
+use Rattle.sequence.proofs.Results.{bind_ok, given}
 use Rattle.jasmin_words.specs.Integers.{integer_of}
 use Rattle.jasmin_words.specs.Lexing.{Item, Word, LongWord, Text, BadText}
 use Rattle.jasmin_words.specs.Names.{is_label}
@@ -35,7 +36,6 @@ use Rattle.jasmin_reader.specs.Places.{operand, ended_at}
 use Rattle.jasmin_reader.specs.Operands.{checked, label_in, class_name_in, integer_in, int_in, local_in, count_in, type_in, member_in, method_in, base_of, base_in, begins_with, reference_in, last_operand, count_at, labels_between, room_in, room_at, table_of, raw, begun_at}
 use Rattle.jasmin_reader.specs.Table.{base_at, base_words}
 use Rattle.jasmin_reader.specs.Listing.{Listing, has_room, with_begun}
-use Rattle.jasmin_reader.proofs.Binds.{bind_ok, given, both_true, not_true}
 use Rattle.jasmin_reader.proofs.RowSteps.{plain_row}
 use Rattle.jasmin_reader.proofs.Words.{checked_ok, integer_ok, int_ok, int_read, number_ok, number_read, type_ok, type_read, lacks, class_lacks, member_ok, member_read, method_ok, method_read, find_ok}
 
@@ -102,7 +102,7 @@ bracket t = by t.dimensions t.element
 
 no_bracket : (w : List ℕ) → lacks 91 w ≡ true → begins_with 91 w ≡ false
 no_bracket [] h = refl
-no_bracket (b ∷ bs) h = not_true (eqb b 91) (both_true _ _ h).0
+no_bracket (b ∷ bs) h = not-true (eqb b 91) (and_parts _ _ h).0
 
 reference_ok : (t : _) (w : List ℕ) (r : ReferenceType) → reference_in w ≡ Ok r → IsOperands (form.TypeUse t) (Word w ∷ []) (instruction.TypeUse t r)
 unfolding reference_in
@@ -115,7 +115,7 @@ reference_ok t w r e = by (begins_with 91 w) refl e
     by true p h =
         let one = bind_ok (type_in w) _ r h in
         let is = type_ok w one.0 one.1 in
-        given Says one.2 (array is (not_true (eqb one.0.dimensions 0) (cc (bracket one.0, is.spelling, p))))
+        given Says one.2 (array is (not-true (eqb one.0.dimensions 0) (cc (bracket one.0, is.spelling, p))))
     by false p h =
         let one = bind_ok (class_name_in w) _ r h in
         let is = checked_ok is_class_name w one.0 one.1 in

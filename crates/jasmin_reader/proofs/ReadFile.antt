@@ -1,12 +1,13 @@
 -- All lines of a file, and the rows that they say. Both ways.
 use Rattle.std.proofs.Common.{◌≡◌, ℕ, ◌+◌, Bool, true, not, List, [], ◌∷◌, ◌++◌, Option, Some, None, Result, Ok, Err, refl, ◌∙◌}
 use Rattle.std.specs.List.{list_all}
-use Rattle.std.proofs.lemmas.Bool.{and_from}
+use Rattle.std.proofs.lemmas.Bool.{and_from, and_parts}
 use Rattle.std.proofs.lemmas.List.Folds.{list_all-append}
 use Rattle.jasmin_words.proofs.Lexed.{are_lexed}
 use Rattle.jasmin_words.specs.declared.fault.FaultKind.{FaultKind}
 use Rattle.jasmin_words.specs.declared.fault.FaultKind.TheVariants as fault
-use Rattle.jasmin_words.specs.Gives.{◌>>=◌}
+use Rattle.sequence.specs.Gives.{◌>>=◌}
+use Rattle.sequence.proofs.Results.{not_refused, bind_ok, then}
 use Rattle.jasmin_words.specs.Lexing.{Item, words_of}
 use Rattle.jasmin_text.specs.Forms.{directive_at, directives}
 use Rattle.jasmin_text.specs.Grammar.{IsRow, blank, skipped, class, interface, super, implements, field, method, end, stack, locals, catch, label, labelled, operation, target, case, default, Row, ClassRow, SuperRow, ImplementsRow, FieldRow, MethodRow, EndRow, StackRow, LocalsRow, CatchRow, LabelRow, TargetRow, CaseRow, DefaultRow, AreRows, none, more}
@@ -22,13 +23,12 @@ use Rattle.jasmin_reader.specs.Operands.{begins_with}
 use Rattle.jasmin_reader.specs.Bodies.{statement_at, limit_at, catch_at, end_from}
 use Rattle.jasmin_reader.specs.Reading.{no_word, class_line, super_line, implements_line, field_line, method_line, end_line, directive_line, statement_line, line_by, line_at}
 use Rattle.jasmin_reader.proofs.AccessWords.{short_word, within_ok, first_is}
-use Rattle.jasmin_reader.proofs.Binds.{bind_ok, both_true, then}
 use Rattle.jasmin_reader.proofs.DirectiveLines.{Says, in_body_ok, directive_ok, in_body_said, untaken, row_read}
 use Rattle.jasmin_reader.proofs.GoodRows.{is_good_row, is_typed, is_headed, rows_good}
 use Rattle.jasmin_reader.proofs.Heads.{class_head, interface_head, field_head, method_head}
 use Rattle.jasmin_reader.proofs.RowSteps.{row_at, rows_at, rows_append}
 use Rattle.jasmin_reader.proofs.StatementLines.{line_items, statement_taken, label_said, labelled_said, operation_said, target_said, case_said, default_said}
-use Rattle.jasmin_reader.proofs.Words.{number_read, not_refused}
+use Rattle.jasmin_reader.proofs.Words.{number_read}
 use Rattle.jasmin_reader.specs.File.{finished, then_lines, rest_at, empty_reader, class_at}
 
 -- ---- a line that is read
@@ -68,14 +68,14 @@ unfolding line_at directive_at directives directive_line class_line super_line i
 row_said r s items rows blank headed done = done
 row_said r s items rows (skipped {w} {rest} e) headed done = rw e done
 row_said r s items rows (class {items = i} {k} {a} {name} access e is h other) headed done =
-    rw (class_head i access k a name e is h (rw other (untaken k name (both_true _ true headed).0))) (single r s (ClassRow k a name) done)
-row_said r s items rows (interface {items = i} {a} {name} access e is h) headed done = rw (interface_head i access a name e is h (untaken kind.Interface name (both_true _ true headed).0)) (single r s (ClassRow kind.Interface a name) done)
+    rw (class_head i access k a name e is h (rw other (untaken k name (and_parts _ true headed).0))) (single r s (ClassRow k a name) done)
+row_said r s items rows (interface {items = i} {a} {name} access e is h) headed done = rw (interface_head i access a name e is h (untaken kind.Interface name (and_parts _ true headed).0)) (single r s (ClassRow kind.Interface a name) done)
 row_said r s items rows (super {name} h) headed done = rw h (single r s (SuperRow name) done)
 row_said r s items rows (implements {name} h) headed done = rw h (single r s (ImplementsRow name) done)
 row_said r s items rows (field {items = i} {a} {name} {type} {value} access rest w e is h d v) headed done =
-    let parts = both_true (not (is_member_word name)) (is_typed type value) (both_true _ true headed).0 in
+    let parts = and_parts (not (is_member_word name)) (is_typed type value) (and_parts _ true headed).0 in
     rw (field_head i access rest a name w type value e is h d v parts.0 parts.1) (single r s (FieldRow (record { access = a; name = name; field_type = type; value = value })) done)
-row_said r s items rows (method {items = i} {a} {name} {type} access w e spelled is h m) headed done = rw (method_head i access w a name type e spelled is h m (both_true _ true headed).0) (single r s (MethodRow a name type) done)
+row_said r s items rows (method {items = i} {a} {name} {type} access w e spelled is h m) headed done = rw (method_head i access w a name type e spelled is h m (and_parts _ true headed).0) (single r s (MethodRow a name type) done)
 row_said r s items rows end headed done = single r s EndRow done
 row_said r s items rows (stack {w} {n} h) headed done = in_body_said r s r.body _ _ (λ b c e. rw (number_read 0 1024 fault.LimitExceeded w n h) e) (single r s (StackRow n) done)
 row_said r s items rows (locals {w} {n} h) headed done = in_body_said r s r.body _ _ (λ b c e. rw (number_read 0 1024 fault.LimitExceeded w n h) e) (single r s (LocalsRow n) done)

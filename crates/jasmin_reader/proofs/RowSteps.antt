@@ -1,10 +1,12 @@
 -- What a row of the grammar does to what is read.
 use Rattle.std.proofs.Common.{◌≡◌, ℕ, ◌-◌, Bool, true, false, List, [], ◌∷◌, ◌++◌, length, Option, Some, None, is_none, is_some, Result, Ok, Err, ℤ, refl, ap, ◌∙◌}
+use Rattle.std.proofs.lemmas.Bool.{and_parts}
 use Rattle.std.specs.Prelude.{nat_lt}
 use Rattle.std.specs.List.{list_all}
 use Rattle.jasmin_words.specs.declared.fault.FaultKind.{FaultKind}
 use Rattle.jasmin_words.specs.declared.fault.FaultKind.TheVariants as fault
-use Rattle.jasmin_words.specs.Gives.{◌>>=◌}
+use Rattle.sequence.specs.Gives.{◌>>=◌}
+use Rattle.sequence.proofs.Results.{bind_ok, given}
 use Rattle.jasmin_text.specs.Grammar.{Row, ClassRow, SuperRow, ImplementsRow, FieldRow, MethodRow, EndRow, StackRow, LocalsRow, CatchRow, LabelRow, InstructionRow, TableRow, LookupRow, TargetRow, CaseRow, DefaultRow, place_of}
 use Rattle.jasmin_text.specs.declared.instruction.Instruction.TheVariants as instruction
 use Rattle.jasmin_reader.specs.declared.body.Body.{Body}
@@ -14,7 +16,6 @@ use Rattle.jasmin_reader.specs.declared.switch.Switch.TheVariants as switch
 use Rattle.jasmin_reader.specs.Operands.{labels_between, table_of}
 use Rattle.jasmin_reader.specs.Listing.{Listing, has_room, with_instruction, with_switch, without_switch, less_room, is_full, with_target, new_key, case_of, with_key}
 use Rattle.jasmin_reader.specs.Bodies.{new_label, with_label, listed, outside_switch}
-use Rattle.jasmin_reader.proofs.Binds.{bind_ok, given, both_true}
 use Rattle.jasmin_reader.specs.Reading.{allowed, has_room_for, is_in_class, is_in_header, member_room, empty_body, in_body, ended_by}
 
 -- ---- in a method
@@ -102,7 +103,7 @@ row_in_body row h r = refl
 pub rows_in_method : (rows : List Row) → list_all is_body_row rows ≡ true → (r : Reader) (b last : Body) → body_rows b rows ≡ Ok last → rows_at (record r { body = Some b }) rows ≡ Ok (record r { body = Some last })
 rows_in_method [] h r b last e = given (λ (x : Body). rows_at (record r { body = Some b }) [] ≡ Ok (record r { body = Some x })) e refl
 rows_in_method (row ∷ rows) h r b last e =
-    let p = both_true (is_body_row row) (list_all is_body_row rows) h in
+    let p = and_parts (is_body_row row) (list_all is_body_row rows) h in
     let one = bind_ok (body_row b row) _ last e in
     let step : row_at (record r { body = Some b }) row ≡ Ok (record r { body = Some one.0 }) = row_in_body row p.0 (record r { body = Some b }) ∙ ap (λ (x : Result Body FaultKind). x >>= λ c. Ok (record r { body = Some c })) one.1 in
     ap (λ (x : Result Reader FaultKind). x >>= λ s. rows_at s rows) step ∙ rows_in_method rows p.1 r one.0 last one.2

@@ -1,11 +1,11 @@
 -- Cases that are put in their places, one after the other.
 use Rattle.std.proofs.Common.{◌≡◌, ℕ, suc, Bool, true, false, ◌&&◌, ◌||◌, cond, List, [], ◌∷◌, length, Option, Some, None, is_some, Ok, Less, Equal, Greater, refl, ap, ◌∙◌}
+use Rattle.std.proofs.lemmas.Bool.{and_parts}
 use Rattle.std.specs.Prelude.{ℤ, int_lt}
 use Rattle.std.specs.List.{list_all}
 use Rattle.std.specs.Ordering.{is_eq, match_ordering}
 use Rattle.jasmin_text.specs.Grammar.{Cases, with_case, lacks_key, Each, none, more, IsPlacedCase}
 use Rattle.jasmin_text.specs.Spellable.{rises, rises_from}
-use Rattle.jasmin_reader.proofs.Binds.{both_true}
 use Rattle.jasmin_reader.proofs.GoodRows.{keys_rise_from, keys_rise}
 use Rattle.jasmin_reader.specs.Listing.{new_key, case_of, with_key}
 
@@ -15,7 +15,7 @@ use Rattle.jasmin_reader.specs.Listing.{new_key, case_of, with_key}
 pub new_key_is : (acc : Cases) (key : ℤ) (label : List ℕ) → lacks_key key acc ≡ true → (case_of acc key ≡ None) × (with_key acc key label ≡ with_case (key, label) acc)
 new_key_is [] key label h = (refl, refl)
 new_key_is (e ∷ es) key label h =
-    let p = both_true (int_lt key e.0 || int_lt e.0 key) (lacks_key key es) h in
+    let p = and_parts (int_lt key e.0 || int_lt e.0 key) (lacks_key key es) h in
     by (int_lt key e.0) (int_lt e.0 key) p.0 (new_key_is es key label p.1)
   where
     by : (s t : Bool) → (s || t) ≡ true → (case_of es key ≡ None) × (with_key es key label ≡ with_case (key, label) es)
@@ -50,7 +50,7 @@ with_case_length c (d ∷ ds) = by (int_lt c.0 d.0) (with_case_length c ds)
 pub with_case_all : (p : ℤ × List ℕ → Bool) (c : ℤ × List ℕ) (cs : Cases) → p c ≡ true → list_all p cs ≡ true → list_all p (with_case c cs) ≡ true
 with_case_all p c [] h k = rw h refl
 with_case_all p c (d ∷ ds) h k =
-    let q = both_true (p d) (list_all p ds) k in
+    let q = and_parts (p d) (list_all p ds) k in
     by (int_lt c.0 d.0) q.0 q.1 (with_case_all p c ds h q.1)
   where
     by : (t : Bool) → p d ≡ true → list_all p ds ≡ true → list_all p (with_case c ds) ≡ true → list_all p (cond t (c ∷ d ∷ ds) (d ∷ with_case c ds)) ≡ true
@@ -60,8 +60,8 @@ with_case_all p c (d ∷ ds) h k =
 rises_after : (from : ℤ) (c : ℤ × List ℕ) (cs : Cases) → int_lt from c.0 ≡ true → lacks_key c.0 cs ≡ true → keys_rise_from from cs ≡ true → keys_rise_from from (with_case c cs) ≡ true
 rises_after from c [] below h k = rw below refl
 rises_after from c (d ∷ ds) below h k =
-    let p = both_true (int_lt c.0 d.0 || int_lt d.0 c.0) (lacks_key c.0 ds) h in
-    let q = both_true (int_lt from d.0) (keys_rise_from d.0 ds) k in
+    let p = and_parts (int_lt c.0 d.0 || int_lt d.0 c.0) (lacks_key c.0 ds) h in
+    let q = and_parts (int_lt from d.0) (keys_rise_from d.0 ds) k in
     by (int_lt c.0 d.0) refl p.0 q.0 q.1 (λ above. rises_after d.0 c ds above p.1 q.1)
   where
     by : (t : Bool) → int_lt c.0 d.0 ≡ t → (t || int_lt d.0 c.0) ≡ true → int_lt from d.0 ≡ true → keys_rise_from d.0 ds ≡ true → (int_lt d.0 c.0 ≡ true → keys_rise_from d.0 (with_case c ds) ≡ true)
@@ -72,7 +72,7 @@ rises_after from c (d ∷ ds) below h k =
 pub with_case_rises : (c : ℤ × List ℕ) (cs : Cases) → lacks_key c.0 cs ≡ true → keys_rise cs ≡ true → keys_rise (with_case c cs) ≡ true
 with_case_rises c [] h k = refl
 with_case_rises c (d ∷ ds) h k =
-    let p = both_true (int_lt c.0 d.0 || int_lt d.0 c.0) (lacks_key c.0 ds) h in
+    let p = and_parts (int_lt c.0 d.0 || int_lt d.0 c.0) (lacks_key c.0 ds) h in
     by (int_lt c.0 d.0) refl p.0 (λ above. rises_after d.0 c ds above p.1 k)
   where
     by : (t : Bool) → int_lt c.0 d.0 ≡ t → (t || int_lt d.0 c.0) ≡ true → (int_lt d.0 c.0 ≡ true → keys_rise_from d.0 (with_case c ds) ≡ true) → keys_rise (cond t (c ∷ d ∷ ds) (d ∷ with_case c ds)) ≡ true

@@ -4,7 +4,8 @@ use Rattle.std.specs.Prelude.{ℤ}
 use Rattle.std.proofs.lemmas.Bool.{and_from}
 use Rattle.jasmin_words.specs.declared.fault.FaultKind.{FaultKind}
 use Rattle.jasmin_words.specs.declared.fault.FaultKind.TheVariants as fault
-use Rattle.jasmin_words.specs.Gives.{◌>>=◌}
+use Rattle.sequence.specs.Gives.{◌>>=◌}
+use Rattle.sequence.proofs.Results.{not_refused, bind_ok, back, carried, done, then}
 use Rattle.jasmin_words.specs.Integers.{integer_of}
 use Rattle.jasmin_words.specs.Lexing.{Item, Word, Colon}
 use Rattle.jasmin_words.specs.Names.{is_label}
@@ -25,12 +26,11 @@ use Rattle.jasmin_reader.specs.Listing.{Listing, has_room, with_switch, with_key
 use Rattle.jasmin_reader.specs.Bodies.{new_label, with_label, label_at, listed, labelled_by, labelled_at, plain_by, statement_by, statement_at, outside_switch}
 use Rattle.jasmin_reader.specs.Reading.{in_body, statement_line, line_at}
 use Rattle.jasmin_reader.proofs.AccessWords.{item_of, short_word, within_ok, first_is}
-use Rattle.jasmin_reader.proofs.Binds.{bind_ok, back, carried, done, then}
 use Rattle.jasmin_reader.proofs.BodyRows.{outside_ok}
 use Rattle.jasmin_reader.proofs.DirectiveLines.{short_word_is, BodySays, one_said, single_row}
 use Rattle.jasmin_reader.proofs.OperandForms.{begun_ok, operands_read, ended_ok, checked_last}
 use Rattle.jasmin_reader.proofs.RowSteps.{room_of, plain_row, switch_row, listing_by, listing_row, body_row, is_body_row, row_at}
-use Rattle.jasmin_reader.proofs.Words.{not_refused, checked_ok, integer_ok, no_directive_at, form_has_no_dot, label_has_no_dot, integer_has_no_dot, integer_not_default}
+use Rattle.jasmin_reader.proofs.Words.{checked_ok, integer_ok, no_directive_at, form_has_no_dot, label_has_no_dot, integer_has_no_dot, integer_not_default}
 
 -- ---- lines that are taken
 

@@ -2,7 +2,7 @@
 use Rattle.std.proofs.Common.{◌≡◌, ℕ, zero, suc, ◌+◌, ◌^◌, ◌<◌, ◌≤◌, ℤ, pos, negsuc, neg_ℤ, int_le, Bool, true, false, not, cond, eqb, nat_le, List, [], ◌∷◌, ◌++◌, length, take, drop, Option, Some, None, IfSome, Result, Ok, Err, refl, sym, ap, ◌∙◌, arith, codes, add-one, one-add, eqb-true, lt-ltb, leb-true, le-leb, take-append-drop, take_at, drop_at}
 use Rattle.std.specs.List.{list_all, AllByRecursion}
 use Rattle.std.specs.Str.Parse.{digits_value}
-use Rattle.std.proofs.lemmas.Bool.{and_from, not_from_false, not-false, false_from_ne_true}
+use Rattle.std.proofs.lemmas.Bool.{and_from, not_from_false, not-false, false_from_ne_true, and_parts, not-true, cond-false}
 use Rattle.std.proofs.lemmas.Int.Digits.{digits_value-lt}
 use Rattle.std.proofs.lemmas.Option.{cond_some}
 use Rattle.std.proofs.Math.Seq.{drop-append-add}
@@ -23,22 +23,16 @@ use Rattle.jasmin_words.specs.Integers.{magnitude_of, of_bits, integer_of, IsInt
 use Rattle.jasmin_words.specs.Lexing.{fits}
 use Rattle.jasmin_words.specs.Names.{same_bytes, is_name_byte as is_member_byte, is_member_name, IsMemberName, is_label}
 use Rattle.jasmin_words.proofs.Numbers.{integer_is}
-use Rattle.jasmin_words.proofs.Results.{in_at}
+use Rattle.sequence.proofs.Results.{in_at, bind_ok, some_ok, given, test_passed, not_refused}
 use Rattle.jasmin_text.specs.Forms.{form_at, forms, directive_at, directives}
 use Rattle.jasmin_text.specs.Grammar.{IsIntIn, IsNumberIn, IsDescriptor, IsMemberWord, IsMethodWord, short_low}
 use Rattle.jasmin_text.specs.Spellable.{is_int, is_short, is_type, is_element_type, is_result_type, is_field_type, is_method_type}
 use Rattle.jasmin_text.specs.Tables.{find_row, access_of, access_words, member_access_of}
 use Rattle.jasmin_text.specs.declared.form.Form.{Form}
 use Rattle.jasmin_text.specs.declared.instruction.MethodReference.{MethodReference}
-use Rattle.jasmin_text.proofs.WordBytes.{in_segments, split_byte, one_of}
+use Rattle.jasmin_text.proofs.WordBytes.{in_segments, split_byte, one_of, same_is}
 use Rattle.jasmin_reader.specs.Places.{both}
 use Rattle.jasmin_reader.specs.Operands.{checked, class_name_in, member_name_in, integer_in, int_in, number_between, number_in, by_descriptor, type_in, signature_in, slash_in, member_at, member_in, name_len, typed_in, method_in, begins_with}
-use Rattle.jasmin_reader.proofs.Binds.{bind_ok, some_ok, given, both_true, not_true, test_passed, left, same_is}
-
--- what a test didn't refuse
-pub not_refused : {A : Type 0} (b : Bool) (k : FaultKind) (read : Result A FaultKind) (x : A) → cond b (Err k) read ≡ Ok x → (b ≡ false) × (read ≡ Ok x)
-not_refused true k read x e = absurd cc
-not_refused false k read x e = (refl, e)
 
 pub checked_ok : (test : List ℕ → Bool) (w x : List ℕ) → checked (test w) w ≡ Ok x → (test x ≡ true) × (w ≡ x)
 checked_ok test w x e = let p = test_passed (test w) w fault.BadOperand x e in (rw (← p.1) p.0, p.1)
@@ -53,7 +47,7 @@ unfolding int_in
 int_ok low high w n e =
     let one = bind_ok (integer_in w) _ n e in
     let two = test_passed _ one.0 _ n one.2 in
-    let three = both_true _ _ two.0 in
+    let three = and_parts _ _ two.0 in
     rw (← two.1) (record { value = integer_ok w one.0 one.1; from = three.0; to = three.1 })
 
 pub int_read : (low high : ℤ) (w : List ℕ) (n : ℤ) → IsIntIn low high w n → int_in low high w ≡ Ok n
@@ -152,7 +146,7 @@ is_other c test none_here b h = not_from_false (eqb b c) (false_from_ne_true (eq
 
 all_lack : (c : ℕ) (test : ℕ → Bool) → test c ≡ false → (xs : List ℕ) → list_all test xs ≡ true → lacks c xs ≡ true
 all_lack c test none_here [] h = refl
-all_lack c test none_here (x ∷ xs) h = let p = both_true (test x) _ h in and_from _ _ (is_other c test none_here x p.0) (all_lack c test none_here xs p.1)
+all_lack c test none_here (x ∷ xs) h = let p = and_parts (test x) _ h in and_from _ _ (is_other c test none_here x p.0) (all_lack c test none_here xs p.1)
 
 segments_lack : (c : ℕ) → eqb 47 c ≡ false → is_name_byte c ≡ false → (name : List ℕ) → list_all (list_all is_name_byte) (segments name) ≡ true → lacks c name ≡ true
 segments_lack c slash none_here [] h = refl
@@ -171,7 +165,7 @@ pub member_lacks : (c : ℕ) → lacks c (codes "<init>") ≡ true → lacks c (
 unfolding is_member_name
 member_lacks c i j none_here name h =
     one_of (same_bytes name (codes "<init>")) (same_bytes name (codes "<clinit>")) _ (lacks c name ≡ true) h
-    (λ e. ap (lacks c) (same_is name _ e) ∙ i) (λ e. ap (lacks c) (same_is name _ e) ∙ j) (λ e. all_lack c is_member_byte none_here name (both_true _ _ e).1)
+    (λ e. ap (lacks c) (same_is name _ e) ∙ i) (λ e. ap (lacks c) (same_is name _ e) ∙ j) (λ e. all_lack c is_member_byte none_here name (and_parts _ _ e).1)
 
 -- ---- members: the last slash
 
@@ -188,7 +182,7 @@ slash_parts (b ∷ bs) n e = by (slash_in bs) (slash_parts bs) e
 
 slash_none : (name : List ℕ) → lacks 47 name ≡ true → slash_in name ≡ None
 slash_none [] h = refl
-slash_none (b ∷ bs) h = let p = both_true (not (eqb b 47)) (lacks 47 bs) h in rw (slash_none bs p.1, not_true (eqb b 47) p.0) refl
+slash_none (b ∷ bs) h = let p = and_parts (not (eqb b 47)) (lacks 47 bs) h in rw (slash_none bs p.1, not-true (eqb b 47) p.0) refl
 
 slash_is : (class name : List ℕ) → lacks 47 name ≡ true → slash_in (class ++ 47 ∷ name) ≡ Some (length class)
 slash_is [] name h = rw (slash_none name h) refl
@@ -223,7 +217,7 @@ both_ok (Err j) (Err k) z e = absurd cc
 
 name_len_is : (front : List ℕ) (m : Signature) → lacks 40 front ≡ true → name_len (front ++ method_spelling m) ≡ length front
 name_len_is [] m h = refl
-name_len_is (b ∷ bs) m h = let p = both_true (not (eqb b 40)) (lacks 40 bs) h in rw (not_true (eqb b 40) p.0) (one-add _ ∙ ap suc (name_len_is bs m p.1))
+name_len_is (b ∷ bs) m h = let p = and_parts (not (eqb b 40)) (lacks 40 bs) h in rw (not-true (eqb b 40) p.0) (one-add _ ∙ ap suc (name_len_is bs m p.1))
 
 -- what stands before the descriptor, and the descriptor
 pub record Typed {A : Type 0} (read : List ℕ → Result A FaultKind) (w : List ℕ) (x : A × Signature) : Type 0 where
@@ -279,8 +273,8 @@ find_ok {X} P w (r ∷ rows) x all e = by (same_bytes w r.0) refl (find_ok P w r
 find_none : {X : Type 0} (test : List ℕ → Bool) (w : List ℕ) → test w ≡ false → (rows : List (List ℕ × X)) → list_all (λ (r : List ℕ × X). test r.0) rows ≡ true → find_row w rows ≡ None
 find_none test w h [] k = refl
 find_none test w h (r ∷ rows) k =
-    let p = both_true (test r.0) _ k in
-    left (same_bytes w r.0) _ _ _ (false_from_ne_true _ (λ s. cc (ap test (same_is w r.0 s), h, p.0))) (find_none test w h rows p.1)
+    let p = and_parts (test r.0) _ k in
+    cond-false (same_bytes w r.0) _ _ (false_from_ne_true _ (λ s. cc (ap test (same_is w r.0 s), h, p.0))) ∙ find_none test w h rows p.1
 
 -- ---- words that a table lacks
 
@@ -295,7 +289,7 @@ form_has_no_dot w f e = false_from_ne_true _ (λ h. let none = find_none (λ v. 
 
 pub label_has_no_dot : (w : List ℕ) → is_label w ≡ true → begins_with 46 w ≡ false
 label_has_no_dot [] h = refl
-label_has_no_dot (b ∷ bs) h = not_true (eqb b 46) (both_true _ _ h).0
+label_has_no_dot (b ∷ bs) h = not-true (eqb b 46) (and_parts _ _ h).0
 
 -- a word with a ( is no access word of fields and methods
 pub access_lacks : (w : List ℕ) → lacks 40 w ≡ false → member_access_of w ≡ None

@@ -3,7 +3,7 @@ use Rattle.std.specs.Prelude.{ℕ, Bool, true, false, not, ◌&&◌, List, [], �
 use Rattle.std.specs.Option.{ok_or}
 use Rattle.jasmin_words.specs.declared.fault.FaultKind.{FaultKind}
 use Rattle.jasmin_words.specs.declared.fault.FaultKind.TheVariants as fault
-use Rattle.jasmin_words.specs.Gives.{◌>>=◌}
+use Rattle.sequence.specs.Gives.{◌>>=◌}
 use Rattle.jasmin_words.specs.Lexing.{Item}
 use Rattle.jasmin_words.specs.Names.{is_label, same_bytes}
 use Rattle.jasmin_text.specs.Forms.{directive_at}

@@ -2,8 +2,8 @@
 use Rattle.std.specs.Prelude.{◌≡◌, ◌⊎◌, ℕ, ◌+◌, List, [], ◌∷◌, Some, None, Result, Ok, Err, unwrap_or, codes}
 use Rattle.jasmin_words.specs.declared.fault.FaultKind.{FaultKind}
 use Rattle.jasmin_words.specs.declared.fault.FaultKind.TheVariants as fault
-use Rattle.jasmin_words.specs.declared.refusal.Refusal.{Refusal}
-use Rattle.jasmin_words.specs.declared.refusal.Refusal.TheVariants as refusal
+use Rattle.sequence.specs.declared.refusal.Refusal.{Refusal}
+use Rattle.sequence.specs.declared.refusal.Refusal.TheVariants as refusal
 use Rattle.jasmin_words.specs.Lexing.{words_of}
 use Rattle.jasmin_text.specs.declared.class_text.ClassParts.{ClassParts}
 use Rattle.jasmin_text.specs.Lines.{lines_of}

@@ -6,7 +6,7 @@ use Rattle.descriptors.specs.Signature.{Signature}
 use Rattle.descriptors.specs.declared.field.FieldType.{FieldType}
 use Rattle.jasmin_words.specs.declared.fault.FaultKind.{FaultKind}
 use Rattle.jasmin_words.specs.declared.fault.FaultKind.TheVariants as fault
-use Rattle.jasmin_words.specs.Gives.{◌>>=◌}
+use Rattle.sequence.specs.Gives.{◌>>=◌}
 use Rattle.jasmin_words.specs.Lexing.{Item, Word, LongWord, BadWord, Equals}
 use Rattle.jasmin_words.specs.Names.{same_bytes}
 use Rattle.jasmin_text.specs.Spellable.{is_int_type, is_string_type}

@@ -5,7 +5,7 @@ use Rattle.std.specs.Map.{lookup}
 use Rattle.std.specs.Ordering.{int_cmp}
 use Rattle.jasmin_words.specs.declared.fault.FaultKind.{FaultKind}
 use Rattle.jasmin_words.specs.declared.fault.FaultKind.TheVariants as fault
-use Rattle.jasmin_words.specs.Gives.{◌>>=◌}
+use Rattle.sequence.specs.Gives.{◌>>=◌}
 use Rattle.jasmin_words.specs.Lexing.{Item, Colon}
 use Rattle.jasmin_words.specs.Names.{same_bytes}
 use Rattle.jasmin_text.specs.Forms.{form_at, is_left_out}

@@ -10,9 +10,9 @@ use Rattle.descriptors.specs.declared.fault.DescriptorFault.TheVariants as descr
 use Rattle.descriptors.specs.declared.field.FieldType.{FieldType}
 use Rattle.jasmin_words.specs.declared.fault.FaultKind.{FaultKind}
 use Rattle.jasmin_words.specs.declared.fault.FaultKind.TheVariants as fault
-use Rattle.jasmin_words.specs.declared.refusal.Refusal.{Refusal}
-use Rattle.jasmin_words.specs.declared.refusal.Refusal.TheVariants as refusal
-use Rattle.jasmin_words.specs.Gives.{◌>>=◌}
+use Rattle.sequence.specs.declared.refusal.Refusal.{Refusal}
+use Rattle.sequence.specs.declared.refusal.Refusal.TheVariants as refusal
+use Rattle.sequence.specs.Gives.{◌>>=◌}
 use Rattle.jasmin_words.specs.Integers.{integer_of}
 use Rattle.jasmin_words.specs.Lexing.{Item, Text, BadText}
 use Rattle.jasmin_words.specs.Names.{is_label, is_member_name}

@@ -1,7 +1,7 @@
 //! A method that is not at its end.
 
 ghost use Rattle.std.specs.Prelude.{◌≡◌, ℕ, List, Option, is_some, None, true, codes};
-ghost use Rattle.jasmin_words.specs.Gives.{Gives};
+ghost use Rattle.sequence.specs.Gives.{Gives};
 ghost use Rattle.jasmin_reader.specs.Places.{IsFaultOr};
 ghost use Rattle.jasmin_words.specs.Lexing.{views};
 ghost use Rattle.jasmin_reader.specs.declared.body.Body.{Body};
@@ -17,8 +17,8 @@ use descriptors::{ClassName, MethodType};
 use jasmin_text::Access;
 use jasmin_text::form::{Directive, directive_of};
 use jasmin_words::name::{MemberName, is_label, same};
-use jasmin_words::{FaultKind, Refusal, Token};
-use sequence::{Sequence, Text};
+use jasmin_words::{FaultKind, Token};
+use sequence::{Refusal, Sequence, Text};
 use std::alloc::Global;
 
 /// A row of the handler table by labels.

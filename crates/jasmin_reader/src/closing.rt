@@ -1,7 +1,7 @@
 //! What is looked at where a method ends.
 
 ghost use Rattle.std.specs.Prelude.{◌≡◌};
-ghost use Rattle.jasmin_words.specs.Gives.{Gives};
+ghost use Rattle.sequence.specs.Gives.{Gives};
 ghost use Rattle.jasmin_text.specs.declared.instruction.Instruction.TheVariants as instructions;
 ghost use Rattle.jasmin_reader.specs.Bodies.{placed_label, placed_labels, placed_cases, placed, all_placed, handler_of, placed_catch, placed_catches, body_of, method_with, closed};
 
@@ -9,8 +9,8 @@ use crate::body::{Body, Catch};
 use crate::labels::Labels;
 use crate::place::LineError;
 use jasmin_text::{Boxed, Code, Handler, Instruction, Jump, Method};
-use jasmin_words::{FaultKind, Refusal};
-use sequence::{Sequence, Text};
+use jasmin_words::FaultKind;
+use sequence::{Refusal, Sequence, Text};
 use std::alloc::Global;
 use std::mem::replace;
 

@@ -4,7 +4,7 @@ ghost use Rattle.std.specs.Prelude.{◌≡◌, ◌<◌, ◌∷◌, ◌≤◌, le
 ghost use Rattle.jasmin_text.specs.Grammar.{Spells};
 ghost use Rattle.jasmin_text.specs.Spellable.{IsSpellable};
 ghost use Rattle.jasmin_text.specs.declared.class_text.ClassParts.{ClassParts};
-ghost use Rattle.jasmin_words.specs.Gives.{Gives};
+ghost use Rattle.sequence.specs.Gives.{Gives};
 ghost use Rattle.jasmin_words.specs.Lexing.{words_of};
 ghost use Rattle.jasmin_reader.specs.Reading.{line_at};
 ghost use Rattle.jasmin_text.specs.Lines.{line_len, lines_of};
@@ -17,8 +17,8 @@ use crate::place::LineError;
 use crate::reader::Reader;
 use descriptors::ClassName;
 use jasmin_text::{ClassParts, ClassText};
-use jasmin_words::{FaultKind, Refusal, words};
-use sequence::Sequence;
+use jasmin_words::{FaultKind, words};
+use sequence::{Refusal, Sequence};
 use std::alloc::{AllocError, Global};
 use std::mem::replace;
 

@@ -1,7 +1,7 @@
 //! The lines that name a class, a field or a method.
 
 ghost use Rattle.std.specs.Prelude.{◌≡◌};
-ghost use Rattle.jasmin_words.specs.Gives.{Gives};
+ghost use Rattle.sequence.specs.Gives.{Gives};
 ghost use Rattle.jasmin_words.specs.Lexing.{view, views};
 ghost use Rattle.jasmin_reader.specs.Heads.{start, with_access, fits_place, head_word_at, with_class_word, with_word, is_word, has_word, begins_with_word, is_signature, begins_with_part, behind, is_before_name, named_from, no_access_by, no_access_in, class_from};
 
@@ -11,7 +11,8 @@ use descriptors::ClassName;
 use jasmin_text::table::{AccessWord, access_of, member_access_of};
 use jasmin_text::{Access, ClassKind};
 use jasmin_words::name::same;
-use jasmin_words::{FaultKind, Refusal, Token};
+use jasmin_words::{FaultKind, Token};
+use sequence::Refusal;
 use std::alloc::Global;
 
 /// What a line names.

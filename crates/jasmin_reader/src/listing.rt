@@ -1,7 +1,7 @@
 //! The instructions of a method, as far as they are read.
 
 ghost use Rattle.std.specs.Prelude.{◌≡◌, ◌≤◌, ◌<◌, ◌+◌, length, is_some, None, OnOk, IfSome};
-ghost use Rattle.jasmin_words.specs.Gives.{Gives};
+ghost use Rattle.sequence.specs.Gives.{Gives};
 ghost use Rattle.jasmin_words.specs.Lexing.{views};
 ghost use Rattle.std.specs.Option.{option_map};
 ghost use Rattle.jasmin_reader.specs.Listing.{empty_listing, has_room, with_instruction, with_switch, with_begun, unknown_word as unknown_word_of, instruction_at, behind_colon as behind_colon_of, colon_from, is_default, less_room, is_full, without_switch, key_in, with_target, target_at, table_end, table_by, case_from, case_at, lookup_end, switch_at};
@@ -13,8 +13,8 @@ use crate::values::integer;
 use jasmin_text::form::{form_of, left_out};
 use jasmin_text::{Boxed, Instruction};
 use jasmin_words::name::same;
-use jasmin_words::{FaultKind, Refusal, Token};
-use sequence::{Sequence, Text};
+use jasmin_words::{FaultKind, Token};
+use sequence::{Refusal, Sequence, Text};
 use std::alloc::{AllocError, Global};
 use std::marker::Model;
 use std::mem::replace;

@@ -1,7 +1,7 @@
 //! The lines of fields and methods.
 
 ghost use Rattle.std.specs.Prelude.{◌≡◌};
-ghost use Rattle.jasmin_words.specs.Gives.{Gives};
+ghost use Rattle.sequence.specs.Gives.{Gives};
 ghost use Rattle.jasmin_words.specs.Lexing.{views};
 ghost use Rattle.jasmin_text.specs.Spellable.{is_int_type, is_string_type};
 ghost use Rattle.jasmin_reader.specs.Heads.{behind_signature, constant_for, value_at, value_from, described_from, field_named, field_from, may_initialize, fits_initializer, method_there, method_named, method_from};
@@ -12,8 +12,8 @@ use crate::values::typed;
 use descriptors::{ElementType, FieldType, MethodType};
 use jasmin_text::{Access, Boxed, ClassKind, Constant, Field};
 use jasmin_words::name::{MemberName, same};
-use jasmin_words::{FaultKind, Refusal, Token};
-use sequence::Text;
+use jasmin_words::{FaultKind, Token};
+use sequence::{Refusal, Text};
 use std::alloc::Global;
 
 /// What stands behind the one signature that a field's line may have, which is skipped.

@@ -2,7 +2,7 @@
 #![tactic(auto, unfolding(crate::specs::Operands::begun_at))]
 
 ghost use Rattle.std.specs.Prelude.{◌≡◌};
-ghost use Rattle.jasmin_words.specs.Gives.{Gives};
+ghost use Rattle.sequence.specs.Gives.{Gives};
 ghost use Rattle.jasmin_words.specs.Lexing.{views};
 ghost use Rattle.jasmin_text.specs.declared.form.Form.TheVariants as forms;
 ghost use Rattle.jasmin_reader.specs.Operands.{constant_from, count_at, labels_between, room_in, room_at, begun_at};
@@ -16,9 +16,9 @@ use jasmin_text::{
     Boxed, Call, Constant, FieldAccess, FieldReference, Instruction, Jump, Local, MethodReference,
     Plain, ReferenceType, TypeUse,
 };
+use jasmin_words::Token;
 use jasmin_words::name::MemberName;
-use jasmin_words::{Refusal, Token};
-use sequence::{Sequence, Text};
+use sequence::{Refusal, Sequence, Text};
 use std::alloc::Global;
 
 /// What an instruction's line begins.

@@ -3,13 +3,14 @@
 ghost use Rattle.std.specs.Prelude.{◌≡◌, Result, List, ℕ};
 ghost use Rattle.jasmin_words.specs.declared.fault.FaultKind.{FaultKind};
 ghost use Rattle.jasmin_words.specs.declared.fault.FaultKind.TheVariants as faults;
-ghost use Rattle.jasmin_words.specs.declared.refusal.Refusal.TheVariants as refusals;
-ghost use Rattle.jasmin_words.specs.Gives.{Gives};
+ghost use Rattle.sequence.specs.declared.refusal.Refusal.TheVariants as refusals;
+ghost use Rattle.sequence.specs.Gives.{Gives};
 ghost use Rattle.jasmin_words.specs.Lexing.{view, views};
 ghost use Rattle.jasmin_reader.specs.Places.{misplaced, word_of, within_limit, next_word, operand as operand_of, string_from, ended_at, first_word, lowest as lowest_of};
 ghost use Rattle.jasmin_reader.specs.Operands.{last_operand as last_operand_of};
 
-use jasmin_words::{FaultKind, Refusal, Token};
+use jasmin_words::{FaultKind, Token};
+use sequence::Refusal;
 use std::alloc::Global;
 
 /// Why a line is refused.

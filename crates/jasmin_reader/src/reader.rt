@@ -1,7 +1,7 @@
 //! A class, line by line. "Own choice" marks this project's own choice (docs/JASMIN.md).
 
 ghost use Rattle.std.specs.Prelude.{◌≡◌, Some, None, Err, OnOk, is_some, true};
-ghost use Rattle.jasmin_words.specs.Gives.{Gives};
+ghost use Rattle.sequence.specs.Gives.{Gives};
 ghost use Rattle.jasmin_words.specs.Lexing.{views};
 ghost use Rattle.jasmin_text.specs.Forms.{form_at};
 ghost use Rattle.jasmin_reader.specs.File.{empty_reader};
@@ -20,8 +20,8 @@ use descriptors::ClassName;
 use jasmin_text::form::{Directive, directive_of, form_of};
 use jasmin_text::{Field, Method};
 use jasmin_words::name::is_label;
-use jasmin_words::{FaultKind, Refusal, Token};
-use sequence::Sequence;
+use jasmin_words::{FaultKind, Token};
+use sequence::{Refusal, Sequence};
 use std::alloc::Global;
 
 /// The limit of a method's stack and of its locals where no line gives one: own choice.

@@ -1,7 +1,7 @@
 //! What single words stand for.
 
 ghost use Rattle.std.specs.Prelude.{◌≡◌, ◌≤◌, ◌<◌, length, IfOk, IfSome};
-ghost use Rattle.jasmin_words.specs.Gives.{Gives};
+ghost use Rattle.sequence.specs.Gives.{Gives};
 ghost use Rattle.jasmin_reader.specs.Places.{IsFaultOr, lowest_with};
 ghost use Rattle.jasmin_reader.specs.Operands.{integer_in, number_in, limit_in, refusal_of, signature_in, slash_in, name_len, typed_in, begins_with};
 
@@ -11,10 +11,10 @@ use descriptors::{
     BaseType, ClassName, DescriptorFault, FieldType, MethodType, parse_field, parse_method,
 };
 use jasmin_text::{MethodReference, ReferenceType};
+use jasmin_words::FaultKind;
 use jasmin_words::integer::parse_integer;
 use jasmin_words::name::{MemberName, is_label};
-use jasmin_words::{FaultKind, Refusal};
-use sequence::Text;
+use sequence::{Refusal, Text};
 use std::alloc::Global;
 
 /// An int.

@@ -1,4 +1,3 @@
-pub mod Results
 pub mod Parts
 pub mod Tokens
 pub mod Quoted

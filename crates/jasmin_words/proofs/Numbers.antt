@@ -5,16 +5,12 @@ use Rattle.std.specs.Int.{w32}
 use Rattle.std.specs.Char.{digit_value}
 use Rattle.std.specs.Fmt.{signed_decimal, decimal}
 use Rattle.std.specs.Str.Parse.{IsNumeral, AllDigits, digits_value, digits_value_after}
-use Rattle.std.proofs.lemmas.Bool.{eqb-true, ltb-true, lt-ltb, le-leb, leb-true}
+use Rattle.std.proofs.lemmas.Bool.{eqb-true, ltb-true, lt-ltb, le-leb, leb-true, and_parts}
 use Rattle.std.proofs.lemmas.Fmt.{decimal_is_IsNumeral}
 use Rattle.std.proofs.lemmas.Int.Digits.{digits_value-lt}
 use Rattle.std.proofs.Math.Nat.{le-mul_of_pos_right, pow-le-pow_right}
-use Rattle.jasmin_words.proofs.Results.{HoldsIn, cond_in, guard_in, map_in}
+use Rattle.sequence.proofs.Results.{HoldsIn, cond_in, guard_in, map_in}
 use Rattle.jasmin_words.specs.Integers.{number_after, magnitude_of, positive, negative, of_bits, pattern, integer_of, IsInteger, decimal as in_decimal, minus, bits}
-
-both : (a b : Bool) → (a && b) ≡ true → (a ≡ true) × (b ≡ true)
-both true b e = (refl, e)
-both false b e = absurd cc
 
 and_false : (b : Bool) → (b && false) ≡ false
 and_false true = refl
@@ -33,7 +29,7 @@ after_is : (base v : ℕ) (ds : List ℕ) → v < 4294967296 → HoldsIn (IsValu
 after_is base v [] less = (tt, refl, less)
 after_is base v (d ∷ ds) less =
     guard_in (IsValue base v (d ∷ ds)) (nat_lt (digit_value d) base && nat_lt (v * base + digit_value d) 4294967296) _ (λ e.
-    let p = both (nat_lt (digit_value d) base) (nat_lt (v * base + digit_value d) 4294967296) e in
+    let p = and_parts (nat_lt (digit_value d) base) (nat_lt (v * base + digit_value d) 4294967296) e in
     map_in (IsValue base (v * base + digit_value d) ds) (IsValue base v (d ∷ ds)) (number_after base (v * base + digit_value d) ds) (λ n q. ((ltb-true (digit_value d) base p.0, q.0), q.1, q.2)) (after_is base (v * base + digit_value d) ds (ltb-true (v * base + digit_value d) 4294967296 p.1)))
 
 after_again : (base v : ℕ) (ds : List ℕ) → 1 ≤ base → AllDigits base ds → digits_value_after base v ds < 4294967296 → number_after base v ds ≡ Some (digits_value_after base v ds)
@@ -76,7 +72,7 @@ integer_is (a ∷ []) =
 integer_is (a ∷ b ∷ rest) =
     cond_in (IsInteger (a ∷ b ∷ rest)) (eqb a 45) _ _ (λ e. subst (λ (z : ℕ). HoldsIn (IsInteger (z ∷ b ∷ rest)) (negative (magnitude_of 10 (b ∷ rest)))) (sym (eqb-true a 45 e)) (negative_is (b ∷ rest) (magnitude_of 10 (b ∷ rest)) (magnitude_is 10 (b ∷ rest)))) (λ _.
     cond_in (IsInteger (a ∷ b ∷ rest)) (eqb a 48 && eqb b 120) _ _ (λ e.
-    let p = both (eqb a 48) (eqb b 120) e in
+    let p = and_parts (eqb a 48) (eqb b 120) e in
     let same : a ∷ b ∷ rest ≡ 48 ∷ 120 ∷ rest = let p0 : a ≡ 48 = eqb-true a 48 p.0 in let p1 : b ≡ 120 = eqb-true b 120 p.1 in cc in
     subst (λ (z : List ℕ). HoldsIn (IsInteger z) (cond (nat_le (length rest) 8) (pattern (magnitude_of 16 rest)) None)) (sym same)
     (guard_in (IsInteger (48 ∷ 120 ∷ rest)) (nat_le (length rest) 8) _ (λ f. pattern_is rest (magnitude_of 16 rest) (leb-true (length rest) 8 f) (magnitude_is 16 rest))))

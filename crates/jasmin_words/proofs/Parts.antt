@@ -4,13 +4,13 @@ use Rattle.std.proofs.lemmas.Bool.{eqb-true}
 use Rattle.std.proofs.lemmas.List.{append-nil}
 use Rattle.std.specs.Char.{digit_value}
 use Rattle.std.specs.Char.Utf16.{is_high_surrogate, is_low_surrogate}
-use Rattle.jasmin_words.specs.declared.refusal.Refusal.{Refusal}
-use Rattle.jasmin_words.specs.declared.refusal.Refusal.TheVariants as refusal
+use Rattle.sequence.specs.declared.refusal.Refusal.{Refusal}
+use Rattle.sequence.specs.declared.refusal.Refusal.TheVariants as refusal
 use Rattle.jasmin_words.specs.declared.escape.EscapeFault.{EscapeFault}
 use Rattle.jasmin_words.specs.declared.escape.Part.{Part}
-use Rattle.jasmin_words.specs.Gives.{◌>>=◌, Fails}
+use Rattle.sequence.specs.Gives.{◌>>=◌, Fails}
 use Rattle.jasmin_words.specs.Escapes.{encoded, hex_at, unit_at, low_at, unicode_at, escape, byte_or_wrong, escape_at, part_at, before, unescaped_in, unescaped}
-use Rattle.jasmin_words.proofs.Results.{Holds, bind_holds, guard_holds, refuse_holds, cond_holds, holds_at}
+use Rattle.sequence.proofs.Results.{Holds, bind_holds, guard_holds, refuse_holds, cond_holds, holds_at, weaker}
 
 -- at most so many bytes are left
 abbrev Leaves : {A : Type 0} → ℕ → A × List ℕ → Type 0
@@ -42,11 +42,7 @@ unfolding unicode_at
 unicode_leaves s =
     bind_holds (Leaves (length s)) (Leaves (length s)) (unit_at s) _ (unit_leaves s) (λ unit _ p.
     refuse_holds (Leaves _) (is_low_surrogate unit.0) _ _ (λ _.
-    cond_holds (Leaves _) (is_high_surrogate unit.0) _ _ (λ _. weaker (length unit.1) (length s) (low_at unit.0 unit.1) p (low_leaves unit.0 unit.1)) (λ _. p)))
-  where
-    weaker : (n m : ℕ) (r : Result (Part × List ℕ) EscapeFault) → n ≤ m → Holds (Leaves n) r → Holds (Leaves m) r
-    weaker n m (Ok x) le h = omega arith
-    weaker n m (Err e) le h = tt
+    cond_holds (Leaves _) (is_high_surrogate unit.0) _ _ (λ _. weaker (Leaves (length unit.1)) (Leaves (length s)) (low_at unit.0 unit.1) (λ x q. omega (arith, p, q)) (low_leaves unit.0 unit.1)) (λ _. p)))
 
 byte_leaves : (o : Option ℕ) (rest : List ℕ) → Holds (Leaves (length rest)) (byte_or_wrong o rest)
 byte_leaves (Some c) rest = omega arith
@@ -55,11 +51,9 @@ byte_leaves None rest = tt
 escape_leaves : (s : List ℕ) → Holds (Leaves (length s)) (escape_at s)
 unfolding escape_at
 escape_leaves [] = tt
-escape_leaves (e ∷ rest) = cond_holds (Leaves _) (eqb e 117) _ _ (λ _. wider rest e (unicode_at rest) (unicode_leaves rest)) (λ _. wider rest e (byte_or_wrong (escape e) rest) (byte_leaves (escape e) rest))
-  where
-    wider : (rest : List ℕ) (e : ℕ) (r : Result (Part × List ℕ) EscapeFault) → Holds (Leaves (length rest)) r → Holds (Leaves (length (e ∷ rest))) r
-    wider rest e (Ok x) h = omega arith
-    wider rest e (Err f) h = tt
+escape_leaves (e ∷ rest) =
+    let wider = weaker (Leaves (length rest)) (Leaves (length (e ∷ rest))) in
+    cond_holds (Leaves _) (eqb e 117) _ _ (λ _. wider (unicode_at rest) (λ x h. omega (arith, h)) (unicode_leaves rest)) (λ _. wider (byte_or_wrong (escape e) rest) (λ x h. omega (arith, h)) (byte_leaves (escape e) rest))
 
 part_leaves : (b : ℕ) (rest : List ℕ) → Holds (Leaves (length rest)) (part_at (b ∷ rest))
 unfolding part_at

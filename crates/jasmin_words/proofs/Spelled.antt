@@ -1,5 +1,6 @@
 -- What is spelled by words is read as those words.
 use Rattle.std.proofs.Common.{◌≡◌, ℕ, suc, ◌+◌, Bool, true, false, not, ◌&&◌, ◌||◌, eqb, List, [], ◌∷◌, ◌++◌, length, Some, None, refl, ap, ◌∙◌, arith}
+use Rattle.std.proofs.lemmas.Bool.{and_parts, not-true}
 use Rattle.std.proofs.lemmas.List.{take_at, drop_at}
 use Rattle.std.specs.List.{list_all}
 use Rattle.std.specs.Str.{is_utf8}
@@ -22,14 +23,6 @@ string_again text bytes rest u h f =
 
 -- ---- words
 
-both : (a b : Bool) → (a && b) ≡ true → (a ≡ true) × (b ≡ true)
-both true b e = (refl, e)
-both false b e = absurd cc
-
-is_not : (b : Bool) → not b ≡ true → b ≡ false
-is_not true e = absurd cc
-is_not false e = refl
-
 one_more : (n : ℕ) → 1 + n ≡ suc n
 one_more n = omega arith
 
@@ -37,15 +30,15 @@ unit_len : (w rest : List ℕ) → list_all (λ x. is_plain x && not (is_parting
 unit_len [] [] h e = refl
 unit_len [] (b ∷ bs) h e = rw e refl
 unit_len (b ∷ w) rest h e =
-    let p = both (is_plain b && not (is_parting b)) (list_all (λ x. is_plain x && not (is_parting x)) w) h in
-    let q = both (is_plain b) (not (is_parting b)) p.0 in
-    rw (is_not (is_parting b) q.1) (one_more (word_len (w ++ rest)) ∙ ap suc (unit_len w rest p.1 e))
+    let p = and_parts (is_plain b && not (is_parting b)) (list_all (λ x. is_plain x && not (is_parting x)) w) h in
+    let q = and_parts (is_plain b) (not (is_parting b)) p.0 in
+    rw (not-true (is_parting b) q.1) (one_more (word_len (w ++ rest)) ∙ ap suc (unit_len w rest p.1 e))
 
 all_plain : (w : List ℕ) → list_all (λ x. is_plain x && not (is_parting x)) w ≡ true → list_all is_plain w ≡ true
 all_plain [] h = refl
 all_plain (b ∷ w) h =
-    let p = both (is_plain b && not (is_parting b)) (list_all (λ x. is_plain x && not (is_parting x)) w) h in
-    let q = both (is_plain b) (not (is_parting b)) p.0 in
+    let p = and_parts (is_plain b && not (is_parting b)) (list_all (λ x. is_plain x && not (is_parting x)) w) h in
+    let q = and_parts (is_plain b) (not (is_parting b)) p.0 in
     rw q.0 (all_plain w p.1)
 
 word_item_again : (w : List ℕ) → list_all is_word_byte w ≡ true → fits w ≡ true → word_item w ≡ Word w
@@ -60,9 +53,9 @@ word_again w rest h f e =
 
 starts : (b : ℕ) (w : List ℕ) → list_all (λ x. is_plain x && not (is_parting x)) (b ∷ w) ≡ true → is_parting b ≡ false
 starts b w h =
-    let p = both (is_plain b && not (is_parting b)) (list_all (λ x. is_plain x && not (is_parting x)) w) h in
-    let q = both (is_plain b) (not (is_parting b)) p.0 in
-    is_not (is_parting b) q.1
+    let p = and_parts (is_plain b && not (is_parting b)) (list_all (λ x. is_plain x && not (is_parting x)) w) h in
+    let q = and_parts (is_plain b) (not (is_parting b)) p.0 in
+    not-true (is_parting b) q.1
 
 -- a byte that parts no word is none of those that do
 either : (a b : Bool) → (a || b) ≡ false → (a ≡ false) × (b ≡ false)

@@ -1,6 +1,6 @@
 -- What is read without a wrong word is spelled so.
 use Rattle.std.proofs.Common.{◌≡◌, ℕ, zero, suc, ◌+◌, ◌<◌, Bool, true, false, not, ◌&&◌, cond, eqb, List, [], ◌∷◌, ◌++◌, length, drop, take, Option, Some, None, Result, Ok, Err, refl, sym, ap, subst, ◌∙◌, arith}
-use Rattle.std.proofs.lemmas.Bool.{eqb-true}
+use Rattle.std.proofs.lemmas.Bool.{eqb-true, and_parts, not-false}
 use Rattle.std.proofs.lemmas.List.{take-append-drop}
 use Rattle.std.specs.List.{list_all}
 use Rattle.std.specs.Str.{is_utf8}
@@ -36,14 +36,10 @@ closes : (e : Bool) (s : List ℕ) → EndsQuoted (drop (raw_len e s) s)
 closes e [] = tt
 closes e (b ∷ s) =
     let go : (t : Bool) → (not e && eqb b 34) ≡ t → EndsQuoted (drop (cond t 0 (1 + raw_len (not e && eqb b 92) s)) (b ∷ s)) = λ t. elim t as (λ t. (not e && eqb b 34) ≡ t → EndsQuoted (drop (cond t 0 (1 + raw_len (not e && eqb b 92) s)) (b ∷ s))) [
-      | true ↦ λ h. eqb-true b 34 (second (not e) (eqb b 34) h)
+      | true ↦ λ h. eqb-true b 34 (and_parts (not e) (eqb b 34) h).1
       | false ↦ λ h. let one : 1 + raw_len (not e && eqb b 92) s ≡ suc (raw_len (not e && eqb b 92) s) = omega arith in rw one (closes (not e && eqb b 92) s)
     ] in
     go (not e && eqb b 34) refl
-  where
-    second : (a b : Bool) → (a && b) ≡ true → b ≡ true
-    second true b h = h
-    second false b h = absurd cc
 
 -- a string item that isn't bad is what the text means
 abbrev pub IsStringItem : Bool → List ℕ → Item → Type 0
@@ -58,11 +54,7 @@ cond_item closed raw false x y p q = q refl
 resolved_is : (closed : Bool) (raw : List ℕ) (r : Result (List ℕ) EscapeFault) → is_utf8 raw ≡ true → unescaped raw ≡ r → IsStringItem closed raw (resolved_item closed r)
 resolved_is closed raw (Err Wrong) u e = tt
 resolved_is closed raw (Err Cut) u e = cond_item closed raw closed _ _ (λ _. tt) (λ _. tt)
-resolved_is closed raw (Ok bytes) u e = cond_item closed raw (not closed) _ _ (λ _. tt) (λ c. cond_item closed raw (fits bytes) _ _ (λ f. (is_true closed c, u, e, f)) (λ _. tt))
-  where
-    is_true : (b : Bool) → not b ≡ false → b ≡ true
-    is_true true h = refl
-    is_true false h = absurd cc
+resolved_is closed raw (Ok bytes) u e = cond_item closed raw (not closed) _ _ (λ _. tt) (λ c. cond_item closed raw (fits bytes) _ _ (λ f. (not-false closed c, u, e, f)) (λ _. tt))
 
 pub string_is : (closed : Bool) (raw : List ℕ) → IsStringItem closed raw (string_item closed raw)
 unfolding string_item
@@ -105,10 +97,6 @@ string_next fresh b bs e =
 
 -- ---- words
 
-both : (a b : Bool) → (a && b) ≡ true → (a ≡ true) × (b ≡ true)
-both true b e = (refl, e)
-both false b e = absurd cc
-
 ends_after : (s : List ℕ) → Ends (drop (word_len s) s)
 ends_after [] = tt
 ends_after (b ∷ bs) =
@@ -124,7 +112,7 @@ none_part [] h = refl
 none_part (b ∷ bs) h =
     let go : (t : Bool) → is_parting b ≡ t → list_all is_plain (take (cond t 0 (1 + word_len bs)) (b ∷ bs)) ≡ true → list_all (λ x. is_plain x && not (is_parting x)) (take (cond t 0 (1 + word_len bs)) (b ∷ bs)) ≡ true = λ t. elim t as (λ t. is_parting b ≡ t → list_all is_plain (take (cond t 0 (1 + word_len bs)) (b ∷ bs)) ≡ true → list_all (λ x. is_plain x && not (is_parting x)) (take (cond t 0 (1 + word_len bs)) (b ∷ bs)) ≡ true) [
       | true ↦ λ e h. refl
-      | false ↦ λ e. let one : 1 + word_len bs ≡ suc (word_len bs) = omega arith in rw one (λ h. let p = both (is_plain b) (list_all is_plain (take (word_len bs) bs)) h in rw (p.0, e) (none_part bs p.1))
+      | false ↦ λ e. let one : 1 + word_len bs ≡ suc (word_len bs) = omega arith in rw one (λ h. let p = and_parts (is_plain b) (list_all is_plain (take (word_len bs) bs)) h in rw (p.0, e) (none_part bs p.1))
     ] in
     go (is_parting b) refl h
 
@@ -140,7 +128,7 @@ blank_next fresh b s (Some x) e h = λ words ok q. blank e (h words ok q)
 
 comment_next : (fresh : Bool) (b : ℕ) (s : List ℕ) → (eqb b 59 && fresh) ≡ true → IsSpelled fresh (b ∷ s) []
 comment_next fresh b s e =
-    let p = both (eqb b 59) fresh e in
+    let p = and_parts (eqb b 59) fresh e in
     subst (λ (f : Bool). IsSpelled f (b ∷ s) []) (sym p.1) (subst (λ (l : List ℕ). IsSpelled true l []) (sym (head_is b 59 s p.0)) comment)
 
 word_is : (fresh : Bool) (line w rest : List ℕ) → line ≡ w ++ rest → (list_all is_plain w ≡ true → IsWord fresh w) → Ends rest → IsNext fresh line (Some (word_item w, rest))

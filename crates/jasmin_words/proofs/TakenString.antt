@@ -1,6 +1,6 @@
 -- A string that was read is written so.
 use Rattle.std.proofs.Common.{◌≡◌, ℕ, zero, suc, Bool, true, false, ◌&&◌, eqb, List, [], ◌∷◌, ◌++◌, length, Option, Some, None, Result, Ok, Err, refl, sym, ap, subst, arith}
-use Rattle.std.proofs.lemmas.Bool.{eqb-true}
+use Rattle.std.proofs.lemmas.Bool.{eqb-true, and_parts}
 use Rattle.std.specs.Char.{digit_value}
 use Rattle.std.specs.Char.Utf16.{is_high_surrogate, is_low_surrogate, surrogate_pair_char}
 use Rattle.jasmin_words.specs.declared.escape.EscapeFault.{EscapeFault}
@@ -9,7 +9,7 @@ use Rattle.jasmin_words.specs.declared.escape.Part.TheVariants.{Byte, Char}
 use Rattle.jasmin_words.specs.Escapes.{encoded, is_hex, hex_at, unit_at, low_at, unicode_at, escape, byte_or_wrong, escape_at, part_at, before, unescaped_in, unescaped}
 use Rattle.jasmin_words.specs.Lexing.{raw_len}
 use Rattle.jasmin_words.specs.Spelling.{IsUnit, IsQuoted, nothing, plain, escaped, unicode, pair}
-use Rattle.jasmin_words.proofs.Results.{Holds, bind_holds, guard_holds, refuse_holds, cond_holds, holds_at}
+use Rattle.sequence.proofs.Results.{Holds, bind_holds, guard_holds, refuse_holds, cond_holds, holds_at}
 use Rattle.jasmin_words.proofs.Quoted.{raw_digits, raw_escape, raw_plain}
 
 -- no quote closes the text
@@ -73,10 +73,6 @@ pair_front s rest x low u m v g l o =
     let open_too = subst IsOpen e o in
     (92 ∷ 117 ∷ u.0 ∷ u.1 ∷ u.2 ∷ u.3 ∷ 92 ∷ 117 ∷ v.0 ∷ v.1 ∷ v.2 ∷ v.3 ∷ [], e, omega arith, λ text bytes q. pair u.0 u.1 u.2 u.3 v.0 v.1 v.2 v.3 u.5 g v.5 l refl q)
 
-both : (a b : Bool) → (a && b) ≡ true → (a ≡ true) × (b ≡ true)
-both true b e = (refl, e)
-both false b e = absurd cc
-
 low_is : (s t : List ℕ) (x : ℕ × List ℕ) → IsUnitAt s x → x.1 ≡ t → is_high_surrogate x.0 ≡ true → Holds (IsFront (92 ∷ 117 ∷ s)) (low_at x.0 t)
 unfolding low_at
 low_is s [] x u m g = tt
@@ -85,7 +81,7 @@ low_is s (b ∷ c ∷ rest) x u m g =
     guard_holds (IsFront (92 ∷ 117 ∷ s)) (eqb b 92 && eqb c 117) _ _ (λ e.
     bind_holds (IsUnitAt rest) (IsFront (92 ∷ 117 ∷ s)) (unit_at rest) _ (unit_is rest) (λ low _ v.
     guard_holds (IsFront (92 ∷ 117 ∷ s)) (is_low_surrogate low.0) _ _ (λ l.
-    let p = both (eqb b 92) (eqb c 117) e in
+    let p = and_parts (eqb b 92) (eqb c 117) e in
     let p0 : b ≡ 92 = eqb-true b 92 p.0 in
     let p1 : c ≡ 117 = eqb-true c 117 p.1 in
     let same : x.1 ≡ 92 ∷ 117 ∷ rest = cc in

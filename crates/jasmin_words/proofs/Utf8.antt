@@ -8,7 +8,7 @@ use Rattle.std.proofs.Math.Utf8.{low_scalar}
 use Rattle.std.specs.Char.{digit_value, encode_utf8, IsScalar}
 use Rattle.std.specs.Char.Utf16.{is_high_surrogate, is_low_surrogate, surrogate_pair_char}
 use Rattle.std.specs.Str.{IsUtf8}
-use Rattle.jasmin_words.proofs.Results.{HoldsIn, cond_in, in_at}
+use Rattle.sequence.proofs.Results.{HoldsIn, cond_in, in_at}
 use Rattle.jasmin_words.specs.Escapes.{is_hex, escape}
 use Rattle.jasmin_words.specs.Spelling.{IsUnit, IsQuoted, nothing, plain, escaped, unicode, pair}
 

@@ -7,7 +7,7 @@ use Rattle.jasmin_words.specs.declared.escape.EscapeFault.{EscapeFault}
 use Rattle.jasmin_words.specs.declared.escape.EscapeFault.TheVariants.{Wrong, Cut}
 use Rattle.jasmin_words.specs.declared.escape.Part.{Part}
 use Rattle.jasmin_words.specs.declared.escape.Part.TheVariants.{Byte, Char}
-use Rattle.jasmin_words.specs.Gives.{◌>>=◌}
+use Rattle.sequence.specs.Gives.{◌>>=◌}
 
 -- the bytes that a part of a string means
 abbrev pub encoded : Part → List ℕ

@@ -1,5 +1,4 @@
 pub mod Fault
-pub mod Gives
 pub mod Escapes
 pub mod Lexing
 pub mod Spelling

@@ -2,10 +2,10 @@
 
 ghost use Rattle.std.specs.Prelude.{◌≡◌, ◌<◌, ◌≤◌, ◌++◌, IfOk, OnOk};
 ghost use Rattle.std.specs.Char.Utf16.{is_high_surrogate, is_low_surrogate};
-ghost use Rattle.jasmin_words.specs.Gives.{Gives};
+ghost use Rattle.sequence.specs.Gives.{Gives};
 ghost use Rattle.jasmin_words.specs.Escapes.{encoded, hex_digit, hex_at, unit_at, low_at, unicode_at, escape_at, part_at, unescaped};
 
-use crate::refusal::Refusal;
+use sequence::Refusal;
 use std::alloc::{AllocError, Global};
 
 /// What is wrong with an escape.

@@ -13,9 +13,7 @@ pub mod fault;
 pub mod integer;
 pub mod name;
 pub mod quote;
-pub mod refusal;
 pub mod token;
 
 pub use fault::FaultKind;
-pub use refusal::Refusal;
 pub use token::{Token, words};

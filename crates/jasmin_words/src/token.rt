@@ -9,8 +9,7 @@ ghost use Rattle.jasmin_words.specs.Spelling.{IsSpelled, AreWords, AreLexed};
 
 use crate::escape::{EscapeFault, unescape};
 use crate::fault::FaultKind;
-use crate::refusal::Refusal;
-use sequence::Text;
+use sequence::{Refusal, Text};
 use std::alloc::{AllocError, Global};
 
 /// The most bytes of a word, and of a string's characters in UTF-8.

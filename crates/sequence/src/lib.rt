@@ -1,4 +1,4 @@
-//! Lists that own their memory, seen by contracts as the list alone.
+//! Lists that own their memory, seen by contracts as the list alone, and what every reading of texts shares.
 //!
 //! A [`Sequence`] is a `Vec` without its capacity and its allocator: two sequences are equal in a contract
 //! where they have the same elements in the same order. Class texts, linked classes and events hold
@@ -6,10 +6,16 @@
 //! function. A [`Text`] is a sequence of bytes.
 //!
 //! A sequence is made of a `Vec` and gives it back without taking memory.
+//!
+//! A function that reads a text returns its value or a [`Refusal`]: there was no memory, or the text has a fault.
+//! `specs/Gives.antt` says what such a function gives, and `proofs/Results.antt` has the lemmas about its steps.
 #![tactic(auto)]
 
 ghost use Rattle.std.specs.Prelude.{◌≡◌, ◌++◌, ◌∷◌, [], length, IfOk, IsTrue, OnErr, OnOk, ◌↔◌};
 
+mod refusal;
+
+pub use refusal::Refusal;
 use std::alloc::{AllocError, AllocFailed, Global};
 use std::marker::Model;
 

@@ -10,7 +10,7 @@ use Rattle.jasmin_text.specs.declared.class_text.ClassParts.{ClassParts}
 use Rattle.jasmin_text.specs.Spellable.{is_class_word, is_taken, is_field, is_method, is_spellable, IsSpellable}
 use Rattle.jasmin_text.proofs.WordBytes.{class_name_word}
 use Rattle.jasmin_words.specs.Lexing.{fits}
-use Rattle.jasmin_words.proofs.Results.{Holds, bind_holds, guard_holds}
+use Rattle.sequence.proofs.Results.{Holds, bind_holds, guard_holds}
 use Rattle.hierarchy.specs.declared.class.Class.{Class}
 use Rattle.hierarchy.specs.declared.class.ClassId.{ClassId}
 use Rattle.hierarchy.specs.BuiltIn.{built_ins, built_in_names}

@@ -19,7 +19,7 @@ use Rattle.jasmin_text.proofs.WordBytes.{same_is, member_name_word, field_word}
 use Rattle.jasmin_words.specs.Lexing.{fits}
 use Rattle.jasmin_words.specs.Names.{same_bytes, is_member_name}
 use Rattle.jasmin_words.specs.Spelling.{is_word_byte}
-use Rattle.jasmin_words.proofs.Results.{Holds, cond_holds, HoldsIn, cond_in, map_in, in_at}
+use Rattle.sequence.proofs.Results.{Holds, cond_holds, HoldsIn, cond_in, map_in, in_at, weaker}
 use Rattle.hierarchy.specs.declared.class.Class.{Class}
 use Rattle.hierarchy.specs.declared.class.ClassId.{ClassId}
 use Rattle.hierarchy.specs.LinkedProgram.{LinkedProgram, class_at}
@@ -34,7 +34,7 @@ use Rattle.trace.specs.TraceText.{field_in_trace}
 use Rattle.trace_reader.specs.Fields.{field_from, known_field, field_at}
 use Rattle.trace_reader.proofs.ClassWords.{words_at, at_place}
 use Rattle.trace_reader.proofs.LineNumbers.{same_self}
-use Rattle.trace_reader.proofs.LineWords.{IsLineWord, unbroken_word, unbroken_joined, weaker}
+use Rattle.trace_reader.proofs.LineWords.{IsLineWord, unbroken_word, unbroken_joined}
 
 -- ---- the field that a word names
 

@@ -4,7 +4,7 @@ use Rattle.std.specs.Fmt.{decimal}
 use Rattle.std.specs.Prelude.{codes}
 use Rattle.std.specs.Str.{is_utf8}
 use Rattle.jasmin_words.specs.Quoting.{quoted}
-use Rattle.jasmin_words.proofs.Results.{Holds, bind_holds}
+use Rattle.sequence.proofs.Results.{Holds, bind_holds, weaker}
 use Rattle.hierarchy.specs.declared.class.ClassId.{ClassId}
 use Rattle.hierarchy.specs.LinkedProgram.{LinkedProgram}
 use Rattle.hierarchy.specs.LinkedTexts.{IsLinked}
@@ -24,7 +24,7 @@ use Rattle.trace_reader.specs.Verbs.{verb_at}
 use Rattle.trace_reader.specs.Words.{word_at, space_at, next_at, end_at}
 use Rattle.trace_reader.proofs.ClassWords.{IsNamedNext, class_found, class_again}
 use Rattle.trace_reader.proofs.LineNumbers.{number_found, number_again, thread_found, thread_again, decimal_line}
-use Rattle.trace_reader.proofs.LineWords.{IsLineWord, weaker, word_found, space_found, next_found, end_found, word_again, next_again}
+use Rattle.trace_reader.proofs.LineWords.{IsLineWord, word_found, space_found, next_found, end_found, word_again, next_again}
 use Rattle.trace_reader.proofs.OneLine.{deed_word, verb_word, verb_found, verb_again, verb_line, deed_of, rest_text, deed_text, IsDeed, kind_found, kind_again, rest_begins}
 use Rattle.trace_reader.proofs.QuotedTexts.{IsTextOf, text_found, text_again}
 

@@ -11,7 +11,7 @@ use Rattle.std.specs.Prelude.{ℤ, pos, negsuc, neg_ℤ, FitsSigned, slice_index
 use Rattle.jasmin_words.specs.Integers.{integer_of, of_bits, IsInteger, decimal as in_decimal, minus, bits}
 use Rattle.jasmin_words.specs.Names.{same_bytes}
 use Rattle.jasmin_words.proofs.Numbers.{written_again, integer_is}
-use Rattle.jasmin_words.proofs.Results.{Holds, guard_holds, cond_holds, HoldsIn, guard_in}
+use Rattle.sequence.proofs.Results.{Holds, guard_holds, cond_holds, HoldsIn, guard_in}
 use Rattle.jasmin_text.proofs.WordBytes.{same_is, decimal_word}
 use Rattle.jasmin_text.specs.Spellable.{is_int}
 use Rattle.jasmin_text.proofs.AccessLines.{int_of}

@@ -1,11 +1,11 @@
 -- What is a word of a line, and that it is read again.
-use Rattle.std.proofs.Common.{◌≡◌, ℕ, ◌<◌, Bool, true, false, not, ◌&&◌, eqb, List, [], ◌∷◌, ◌++◌, length, Result, Ok, Err, refl, sym, ap, ◌∙◌, arith}
-use Rattle.std.proofs.lemmas.Bool.{eqb-true}
+use Rattle.std.proofs.Common.{◌≡◌, ℕ, ◌<◌, Bool, true, false, not, eqb, List, [], ◌∷◌, ◌++◌, length, Ok, refl, sym, ap, ◌∙◌, arith}
+use Rattle.std.proofs.lemmas.Bool.{eqb-true, and_parts, not-true}
 use Rattle.std.proofs.lemmas.List.{take-append-drop}
 use Rattle.std.proofs.Math.Seq.{take-append_seam, drop-append_seam}
 use Rattle.std.specs.List.{list_all}
 use Rattle.jasmin_words.specs.Spelling.{is_word_byte}
-use Rattle.jasmin_words.proofs.Results.{Holds, bind_holds, guard_holds, refuse_holds}
+use Rattle.sequence.proofs.Results.{Holds, bind_holds, guard_holds, refuse_holds, weaker}
 use Rattle.trace_reader.specs.Words.{ends_word, word_len, word_at, space_at, next_at, end_at}
 
 -- ---- what is read stands there
@@ -18,10 +18,6 @@ pub space_found : (s : List ℕ) → Holds (λ x. s ≡ 32 ∷ x) (space_at s)
 unfolding space_at
 space_found [] = tt
 space_found (b ∷ s) = guard_holds (λ x. b ∷ s ≡ 32 ∷ x) (eqb b 32) _ _ (λ e. ap (λ (z : ℕ). z ∷ s) (eqb-true b 32 e))
-
-pub weaker : {A F : Type 0} (P Q : A → Type 0) (r : Result A F) → ((x : A) → P x → Q x) → Holds P r → Holds Q r
-weaker P Q (Ok x) f h = f x h
-weaker P Q (Err e) f h = tt
 
 pub next_found : (s : List ℕ) → Holds (λ x. s ≡ 32 ∷ (x.0 ++ x.1)) (next_at s)
 unfolding next_at
@@ -44,20 +40,12 @@ pub record IsLineWord (w : List ℕ) : Type 0 where
   pub some : 0 < length w
   pub whole : unbroken w ≡ true
 
-both : (a b : Bool) → (a && b) ≡ true → (a ≡ true) × (b ≡ true)
-both true b e = (refl, e)
-both false b e = absurd cc
-
-not_true : (b : Bool) → not b ≡ true → b ≡ false
-not_true true e = absurd cc
-not_true false e = refl
-
 length_of : (w rest : List ℕ) (b : ℕ) → unbroken w ≡ true → ends_word b ≡ true → word_len (w ++ b ∷ rest) ≡ length w
 length_of [] rest b h e = rw e refl
 length_of (x ∷ w) rest b h e =
-    let p = both (not (ends_word x)) (unbroken w) h in
+    let p = and_parts (not (ends_word x)) (unbroken w) h in
     let q = length_of w rest b p.1 e in
-    rw (not_true (ends_word x) p.0) (omega (arith, q))
+    rw (not-true (ends_word x) p.0) (omega (arith, q))
 
 pub word_again : (w rest : List ℕ) (b : ℕ) → IsLineWord w → ends_word b ≡ true → word_at (w ++ b ∷ rest) ≡ Ok (w, b ∷ rest)
 unfolding word_at
@@ -75,8 +63,8 @@ plain_byte b h = grind arith
 
 pub unbroken_word : (w : List ℕ) → list_all is_word_byte w ≡ true → unbroken w ≡ true
 unbroken_word [] h = refl
-unbroken_word (b ∷ w) h = let p = both (is_word_byte b) (list_all is_word_byte w) h in rw (plain_byte b p.0, unbroken_word w p.1) refl
+unbroken_word (b ∷ w) h = let p = and_parts (is_word_byte b) (list_all is_word_byte w) h in rw (plain_byte b p.0, unbroken_word w p.1) refl
 
 pub unbroken_joined : (v w : List ℕ) → unbroken v ≡ true → unbroken w ≡ true → unbroken (v ++ w) ≡ true
 unbroken_joined [] w p q = q
-unbroken_joined (b ∷ v) w p q = let h = both (not (ends_word b)) (unbroken v) p in rw (h.0, unbroken_joined v w h.1 q) refl
+unbroken_joined (b ∷ v) w p q = let h = and_parts (not (ends_word b)) (unbroken v) p in rw (h.0, unbroken_joined v w h.1 q) refl

@@ -1,6 +1,6 @@
 -- Texts that are written are read again, and what is read as a text is its spelling.
 use Rattle.std.proofs.Common.{◌≡◌, ℕ, zero, suc, inl, inr, ◌+◌, ◌-◌, ◌*◌, ◌/◌, ◌%◌, ◌≤◌, ◌<◌, Bool, true, false, ◌&&◌, ◌||◌, cond, eqb, nat_lt, List, [], ◌∷◌, ◌++◌, length, Option, Some, None, Result, Ok, Err, refl, sym, ap, subst, ◌∙◌, append_assoc, arith}
-use Rattle.std.proofs.lemmas.Bool.{eqb-true, cases_Bool}
+use Rattle.std.proofs.lemmas.Bool.{eqb-true, cases_Bool, and_parts}
 use Rattle.std.proofs.lemmas.List.{append-nil, length-drop}
 use Rattle.std.specs.Prelude.{nat_le, codes, not, take, drop}
 use Rattle.std.specs.Char.{digit_char}
@@ -8,11 +8,11 @@ use Rattle.std.proofs.lemmas.Str.{IsUtf8-from_ascii, is_utf8-from_IsUtf8}
 use Rattle.std.proofs.lemmas.Str.Ascii.{IsAscii-nil, IsAscii-cons}
 use Rattle.std.specs.List.{list_all}
 use Rattle.std.specs.Str.{is_utf8, IsAscii}
-use Rattle.jasmin_words.specs.declared.refusal.Refusal.{Refusal}
-use Rattle.jasmin_words.specs.declared.refusal.Refusal.TheVariants as refusal
-use Rattle.jasmin_words.specs.Gives.{◌>>=◌, Fails}
+use Rattle.sequence.specs.declared.refusal.Refusal.{Refusal}
+use Rattle.sequence.specs.declared.refusal.Refusal.TheVariants as refusal
+use Rattle.sequence.specs.Gives.{◌>>=◌, Fails}
 use Rattle.jasmin_words.specs.Quoting.{quoted_byte, quoted_bytes, quoted}
-use Rattle.jasmin_words.proofs.Results.{Holds, bind_holds, guard_holds, cond_holds, holds_at, HoldsIn, cond_in, guard_in}
+use Rattle.sequence.proofs.Results.{Holds, bind_holds, guard_holds, cond_holds, holds_at, HoldsIn, cond_in, guard_in}
 use Rattle.trace_reader.specs.Words.{ends_word}
 use Rattle.trace_reader.specs.Strings.{low_hex, has_code, coded, letter, byte_or_bad, code_at, escape_at, is_plain, plain_len, byte_at, before, closing, bytes_in, bytes_at, quote_at, closed_at, utf8_at, text_at}
 use Rattle.trace_reader.specs.declared.fault.TraceFaultKind.{TraceFaultKind}
@@ -41,10 +41,6 @@ with_code v e = grind arith
 itself : (b : ℕ) → eqb b 92 ≡ false → is_plain b ≡ true → quoted_byte b ≡ b ∷ []
 itself b n e = grind arith
 
-both : (a b : Bool) → (a && b) ≡ true → (a ≡ true) × (b ≡ true)
-both true b e = (refl, e)
-both false b e = absurd cc
-
 coded_found : (high low : ℕ) (rest : List ℕ) → Holds (Spelled (92 ∷ 117 ∷ 48 ∷ 48 ∷ high ∷ low ∷ rest)) (byte_or_bad (coded (low_hex high) (low_hex low)) rest)
 coded_found high low rest = at (low_hex high) (low_hex low) (hex_digit high) (hex_digit low)
   where
@@ -67,7 +63,7 @@ code_found (z ∷ y ∷ []) = tt
 code_found (z ∷ y ∷ high ∷ []) = tt
 code_found (z ∷ y ∷ high ∷ low ∷ rest) =
     guard_holds (Spelled (92 ∷ 117 ∷ z ∷ y ∷ high ∷ low ∷ rest)) (eqb z 48 && eqb y 48) _ _ (λ e.
-    let p = both (eqb z 48) (eqb y 48) e in
+    let p = and_parts (eqb z 48) (eqb y 48) e in
     rw (eqb-true z 48 p.0, eqb-true y 48 p.1) (coded_found high low rest))
 
 letter_found : (e : ℕ) (rest : List ℕ) → Holds (Spelled (92 ∷ e ∷ rest)) (byte_or_bad (letter e) rest)
@@ -202,7 +198,7 @@ not-true false e = refl
 
 plain_byte : (b : ℕ) (s : List ℕ) → (is_plain b && not (eqb b 92)) ≡ true → byte_at (b ∷ s) ≡ Ok (b, s)
 unfolding byte_at
-plain_byte b s e = let p = both (is_plain b) (not (eqb b 92)) e in let n : eqb b 92 ≡ false = not-true (eqb b 92) p.1 in rw (n, p.0) refl
+plain_byte b s e = let p = and_parts (is_plain b) (not (eqb b 92)) e in let n : eqb b 92 ≡ false = not-true (eqb b 92) p.1 in rw (n, p.0) refl
 
 taken : (n b : ℕ) (s : List ℕ) → take (1 + n) (b ∷ s) ≡ b ∷ take n s
 taken n b s = let e : 1 + n ≡ suc n = omega arith in rw e refl
@@ -251,7 +247,7 @@ fails front (b ∷ s) (refusal.Fault k) total c f so_far = elim (cases_Bool (eqb
 
 ascii : (bs : List ℕ) → list_all (λ b. nat_lt b 128) bs ≡ true → IsAscii bs
 ascii [] e = IsAscii-nil
-ascii (b ∷ bs) e = let p = both (nat_lt b 128) (list_all (λ b. nat_lt b 128) bs) e in let small = p.0 in IsAscii-cons b bs (grind arith) (ascii bs p.1)
+ascii (b ∷ bs) e = let p = and_parts (nat_lt b 128) (list_all (λ b. nat_lt b 128) bs) e in let small = p.0 in IsAscii-cons b bs (grind arith) (ascii bs p.1)
 
 pub ascii_is_utf8 : (bs : List ℕ) → list_all (λ b. nat_lt b 128) bs ≡ true → is_utf8 bs ≡ true
 ascii_is_utf8 bs e = is_utf8-from_IsUtf8 bs (IsUtf8-from_ascii bs (ascii bs e))

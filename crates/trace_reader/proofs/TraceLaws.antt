@@ -2,8 +2,8 @@
 use Rattle.std.proofs.Common.{◌≡◌, ◌⊎◌, inl, inr, ℕ, zero, suc, ◌+◌, Bool, true, false, cond, List, [], ◌∷◌, ◌++◌, length, Result, Ok, Err, refl, sym, ap, ◌∙◌, append_assoc, arith}
 use Rattle.std.proofs.lemmas.Option.{slice_get_within}
 use Rattle.std.specs.List.{AllByRecursion}
-use Rattle.jasmin_words.specs.Gives.{◌>>=◌}
-use Rattle.jasmin_words.proofs.Results.{holds_at}
+use Rattle.sequence.specs.Gives.{◌>>=◌}
+use Rattle.sequence.proofs.Results.{holds_at}
 use Rattle.hierarchy.specs.declared.built_in.BuiltIn.{BuiltIn}
 use Rattle.hierarchy.specs.declared.built_in.BuiltIn.TheVariants.{Throwable}
 use Rattle.hierarchy.specs.declared.class.ClassId.{ClassId}

@@ -12,7 +12,7 @@ use Rattle.descriptors.specs.declared.base.BaseType.{BaseType}
 use Rattle.jasmin_text.specs.declared.class_text.Field.{Field}
 use Rattle.jasmin_text.proofs.WordBytes.{same_is}
 use Rattle.jasmin_words.specs.Names.{same_bytes}
-use Rattle.jasmin_words.proofs.Results.{Holds, bind_holds, HoldsIn, cond_in, guard_in}
+use Rattle.sequence.proofs.Results.{Holds, bind_holds, HoldsIn, cond_in, guard_in}
 use Rattle.hierarchy.specs.declared.class.ClassId.{ClassId}
 use Rattle.hierarchy.specs.declared.value.Value.{Value}
 use Rattle.hierarchy.specs.declared.value.Value.TheVariants as value

@@ -5,8 +5,8 @@ use Rattle.std.proofs.lemmas.List.{append-nil, length-append}
 use Rattle.std.proofs.lemmas.Fmt.{decimal_nonempty}
 use Rattle.std.specs.List.{AllByRecursion}
 use Rattle.std.specs.Prelude.{IfOk}
-use Rattle.jasmin_words.specs.Gives.{◌>>=◌}
-use Rattle.jasmin_words.proofs.Results.{Holds, bind_holds, cond_holds, holds_at}
+use Rattle.sequence.specs.Gives.{◌>>=◌}
+use Rattle.sequence.proofs.Results.{Holds, bind_holds, cond_holds, holds_at, weaker}
 use Rattle.hierarchy.specs.LinkedProgram.{LinkedProgram}
 use Rattle.hierarchy.specs.LinkedTexts.{IsLinked}
 use Rattle.init_core.specs.declared.event.Event.{Event}
@@ -20,7 +20,6 @@ use Rattle.trace_reader.specs.Reading.{event_at}
 use Rattle.trace_reader.specs.TraceEvents.{IsTraceEvent, IsTraceOf}
 use Rattle.trace_reader.specs.TraceReading.{line_end, is_past, line_at, events_from, events_of}
 use Rattle.trace_reader.proofs.LineEnds.{line_ends}
-use Rattle.trace_reader.proofs.LineWords.{weaker}
 use Rattle.trace_reader.proofs.LineEvents.{IsLine, event_found, event_again}
 
 pub line_within : (s : List ℕ) → line_end s ≤ length s

@@ -1,7 +1,7 @@
 -- The kinds of fault, and what a function answers that meets one.
 use Rattle.std.specs.Prelude.{◌≡◌, ◌⊎◌, ℕ, Result, Ok, Err}
-use Rattle.jasmin_words.specs.declared.refusal.Refusal.{Refusal}
-use Rattle.jasmin_words.specs.declared.refusal.Refusal.TheVariants as refusal
+use Rattle.sequence.specs.declared.refusal.Refusal.{Refusal}
+use Rattle.sequence.specs.declared.refusal.Refusal.TheVariants as refusal
 use Rattle.trace_reader.specs.declared.fault.TraceFault.{TraceFault}
 use Rattle.trace_reader.specs.declared.fault.TraceFaultKind.{TraceFaultKind}
 use Rattle.trace_reader.specs.declared.fault.TraceFaultKind.TheVariants.{BadLine, NumberOutOfTurn, UnknownStep, UnknownName, BadValue, TooLarge, OutOfMemory}

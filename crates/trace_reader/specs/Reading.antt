@@ -1,6 +1,6 @@
 -- The first fault of a line, from the left, or its event and the bytes behind it.
 use Rattle.std.specs.Prelude.{ℕ, List, length, nat_lt, Option, Some, None, Result, Ok, Err, if◌then◌else◌}
-use Rattle.jasmin_words.specs.Gives.{◌>>=◌}
+use Rattle.sequence.specs.Gives.{◌>>=◌}
 use Rattle.hierarchy.specs.declared.class.ClassId.{ClassId}
 use Rattle.hierarchy.specs.declared.value.Value.{Value}
 use Rattle.hierarchy.specs.LinkedProgram.{LinkedProgram, class_named}

@@ -1,7 +1,7 @@
 -- Texts in their one canonical spelling.
 use Rattle.std.specs.Prelude.{ℕ, zero, suc, ◌+◌, ◌-◌, ◌*◌, List, [], ◌∷◌, ◌++◌, length, Bool, not, ◌&&◌, ◌||◌, nat_lt, nat_le, ◌==◌, Option, Some, None, Result, Ok, Err, if◌then◌else◌}
 use Rattle.std.specs.Str.{is_utf8}
-use Rattle.jasmin_words.specs.Gives.{◌>>=◌}
+use Rattle.sequence.specs.Gives.{◌>>=◌}
 use Rattle.trace_reader.specs.Words.{ends_word}
 use Rattle.trace_reader.specs.declared.fault.TraceFaultKind.{TraceFaultKind}
 use Rattle.trace_reader.specs.declared.fault.TraceFaultKind.TheVariants.{BadLine, BadValue}

@@ -1,6 +1,6 @@
 -- The words of a line: one space parts two of them, and LF ends the line.
 use Rattle.std.specs.Prelude.{ℕ, ◌+◌, List, [], ◌∷◌, take, drop, Bool, ◌||◌, ◌==◌, Result, Ok, Err, if◌then◌else◌}
-use Rattle.jasmin_words.specs.Gives.{◌>>=◌}
+use Rattle.sequence.specs.Gives.{◌>>=◌}
 use Rattle.trace_reader.specs.declared.fault.TraceFaultKind.{TraceFaultKind}
 use Rattle.trace_reader.specs.declared.fault.TraceFaultKind.TheVariants.{BadLine}
 

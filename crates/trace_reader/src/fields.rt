@@ -4,7 +4,7 @@ ghost use Rattle.std.specs.Prelude.{◌≡◌, ◌<◌, ◌≤◌, ◌==◌, ◌
 ghost use Rattle.std.specs.List.{list_any};
 ghost use Rattle.descriptors.specs.Spelling.{field_spelling, element_spelling};
 ghost use Rattle.hierarchy.specs.Ops.{is_static_field};
-ghost use Rattle.jasmin_words.specs.Gives.{Gives};
+ghost use Rattle.sequence.specs.Gives.{Gives};
 ghost use Rattle.jasmin_words.specs.Names.{same_bytes};
 ghost use Rattle.statics.specs.Statics.{base_in, static_fields};
 ghost use Rattle.trace.specs.TraceText.{field_in_trace};
@@ -17,7 +17,7 @@ use crate::words::{Read, same};
 use descriptors::{BaseType, ElementType, FieldType};
 use hierarchy::{ClassId, Program, Value};
 use jasmin_text::Field;
-use jasmin_words::Refusal;
+use sequence::Refusal;
 use statics::narrowed_int;
 
 /// The numbers of references in a trace are below this.

@@ -3,7 +3,7 @@
 ghost use Rattle.std.specs.Prelude.{◌≡◌, ◌<◌, ◌≤◌, IfOk, Some};
 ghost use Rattle.hierarchy.specs.LinkedProgram.{class_named};
 ghost use Rattle.init_core.specs.Numbers.{IsInRange};
-ghost use Rattle.jasmin_words.specs.Gives.{Gives};
+ghost use Rattle.sequence.specs.Gives.{Gives};
 ghost use Rattle.trace_reader.specs.Reading.{of_files, of_program, class_at, throwable_at, use_at, kind_at, done_at, event_at};
 
 use crate::fault::TraceFaultKind;
@@ -14,7 +14,7 @@ use crate::verbs::{Deed, Verb, verb_of};
 use crate::words::{Read, behind_space, line_end, next_word, word};
 use hierarchy::{ClassId, Program, Value};
 use init_core::{CLASS_NUMBERS, Event, FIELD_PLACES, Kind, THREADS};
-use jasmin_words::Refusal;
+use sequence::Refusal;
 use std::alloc::Global;
 
 /// The class of the files that has this name.

@@ -2,14 +2,14 @@
 
 ghost use Rattle.std.specs.Prelude.{◌≡◌, ◌<◌, IfOk};
 ghost use Rattle.std.specs.List.{list_all};
-ghost use Rattle.jasmin_words.specs.Gives.{Gives};
+ghost use Rattle.sequence.specs.Gives.{Gives};
 ghost use Rattle.trace_reader.specs.Numbers.{is_digit, is_number as is_decimal, int_in, number_in, number_at, known_thread, thread_at};
 
 use crate::fault::TraceFaultKind;
 use crate::words::{Read, same};
 use itoa::Buffer;
-use jasmin_words::Refusal;
 use jasmin_words::integer::parse_integer;
+use sequence::Refusal;
 
 fn digit(byte: u8) -> bool
     ensures { result ≡ is_digit byte }

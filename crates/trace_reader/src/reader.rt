@@ -11,7 +11,7 @@ use crate::fault::{TraceFault, TraceFaultKind};
 use crate::lines::event;
 use hierarchy::Program;
 use init_core::{Event, THREADS};
-use jasmin_words::Refusal;
+use sequence::Refusal;
 use std::alloc::Global;
 
 /// The most lines of a trace.

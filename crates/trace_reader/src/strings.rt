@@ -3,14 +3,13 @@
 ghost use Rattle.std.specs.Prelude.{◌≡◌, ◌<◌, ◌≤◌, ◌++◌, length, take, drop, nat_lt, option_copied, IfOk, IfSome};
 ghost use Rattle.std.specs.List.{list_all};
 ghost use Rattle.std.specs.Str.{is_utf8 as are_utf8};
-ghost use Rattle.jasmin_words.specs.Gives.{Gives};
+ghost use Rattle.sequence.specs.Gives.{Gives};
 ghost use Rattle.trace_reader.specs.Strings.{low_hex, has_code, coded, letter, code_at, escape_at, is_plain, stands_alone, plain_len, byte_at, closing, bytes_at, quote_at, closed_at, text_at};
 
 use crate::fault::TraceFaultKind;
 use crate::words::{Read, ends_word};
-use jasmin_words::Refusal;
 use jasmin_words::token::is_text;
-use sequence::Text;
+use sequence::{Refusal, Text};
 use std::alloc::{AllocError, Global};
 
 fn digit_of(byte: u8) -> Option<u8>

@@ -1,12 +1,12 @@
 //! The third word of a line.
 
 ghost use Rattle.std.specs.Prelude.{◌≡◌};
-ghost use Rattle.jasmin_words.specs.Gives.{Gives};
+ghost use Rattle.sequence.specs.Gives.{Gives};
 ghost use Rattle.trace_reader.specs.Verbs.{deed_at, verb_at};
 
 use crate::fault::TraceFaultKind;
 use crate::words::{Read, same};
-use jasmin_words::Refusal;
+use sequence::Refusal;
 
 /// What a thread does at a class.
 #[derive(Clone, Copy, Debug)]

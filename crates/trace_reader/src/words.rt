@@ -1,12 +1,12 @@
 //! The words of a line.
 
 ghost use Rattle.std.specs.Prelude.{◌≡◌, ◌≤◌, ◌<◌, length, IfOk};
-ghost use Rattle.jasmin_words.specs.Gives.{Gives};
+ghost use Rattle.sequence.specs.Gives.{Gives};
 ghost use Rattle.jasmin_words.specs.Names.{same_bytes};
 ghost use Rattle.trace_reader.specs.Words.{ends_word as is_ending, word_len, word_at, space_at, next_at, end_at};
 
 use crate::fault::TraceFaultKind;
-use jasmin_words::Refusal;
+use sequence::Refusal;
 
 /// What a line's reading answers: what was read, else what is wrong with the line, or that memory ran out.
 pub(crate) type Read<T> = Result<T, Refusal<TraceFaultKind>>;

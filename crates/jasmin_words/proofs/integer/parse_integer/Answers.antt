@@ -1,7 +1,7 @@
 use Rattle.std.proofs.Common.{◌≡◌, Option, Some, None, sym, subst, ◌∙◌}
 use Rattle.std.specs.Prelude.{ℤ, IfSome}
 use Rattle.jasmin_words.specs.Integers.{integer_of, IsInteger}
-use Rattle.jasmin_words.proofs.Results.{HoldsIn}
+use Rattle.sequence.proofs.Results.{HoldsIn}
 use Rattle.jasmin_words.proofs.Numbers.{integer_is, integer_again}
 use Rattle.jasmin_words.proofs.integer.parse_integer.Goals as goal
 

@@ -1,5 +1,5 @@
 use Rattle.std.proofs.Common.{◌≤◌, arith}
-use Rattle.jasmin_words.proofs.Results.{holds_at}
+use Rattle.sequence.proofs.Results.{holds_at}
 use Rattle.trace_reader.specs.TraceEvents.{IsTraceOf}
 use Rattle.trace_reader.specs.TraceReading.{events_of}
 use Rattle.trace_reader.proofs.WholeTrace.{trace_found, trace_again}

@@ -1,5 +1,5 @@
 use Rattle.std.proofs.Common.{◌<◌}
-use Rattle.jasmin_words.proofs.Results.{holds_at}
+use Rattle.sequence.proofs.Results.{holds_at}
 use Rattle.init_core.specs.declared.event.TheConstants.{FIELD_PLACES}
 use Rattle.trace_reader.specs.Fields.{field_at}
 use Rattle.trace_reader.proofs.FieldWords.{field_small}

@@ -1,4 +1,4 @@
-//! Why a text could not be read: its own fault, or want of memory.
+//! Why a text could not be read: its own fault, or no memory.
 
 ghost use Rattle.std.specs.Prelude.{◌≡◌};
 
@@ -14,7 +14,7 @@ pub enum Refusal<F> {
 }
 
 impl<F> From<AllocError> for Refusal<F> {
-    ghost use Rattle.jasmin_words.specs.declared.refusal.Refusal.TheVariants.{Memory};
+    ghost use Rattle.sequence.specs.declared.refusal.Refusal.TheVariants.{Memory};
 
     ghost from_gives = { λ _ e. e ≡ Memory };
 
@@ -24,7 +24,7 @@ impl<F> From<AllocError> for Refusal<F> {
 }
 
 impl<F, T: Drop> From<AllocFailed<T>> for Refusal<F> {
-    ghost use Rattle.jasmin_words.specs.declared.refusal.Refusal.TheVariants.{Memory};
+    ghost use Rattle.sequence.specs.declared.refusal.Refusal.TheVariants.{Memory};
 
     ghost from_gives = { λ _ e. e ≡ Memory };
 
