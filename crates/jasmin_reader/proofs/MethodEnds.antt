@@ -1,10 +1,10 @@
 -- Where a method ends: labels get their places, and the method is that of the grammar, both ways; what good rows lead to can be spelled.
-use Rattle.std.proofs.Common.{◌≡◌, ℕ, suc, ◌+◌, ◌-◌, ◌≤◌, Bool, true, false, not, ◌&&◌, cond, eqb, nat_le, List, [], ◌∷◌, ◌++◌, length, map, Option, Some, None, ok_or, Result, Ok, Err, ℤ, refl, sym, ap, subst, ◌∙◌, arith, codes}
+use Rattle.std.proofs.Common.{◌≡◌, ℕ, suc, ◌+◌, ◌-◌, ◌≤◌, Bool, true, false, not, ◌&&◌, cond, eqb, nat_le, List, [], ◌∷◌, ◌++◌, length, map, Option, Some, None, Result, Ok, Err, ℤ, refl, sym, ap, subst, ◌∙◌, arith, codes}
 use Rattle.std.specs.List.{list_all}
 use Rattle.std.proofs.lemmas.Bool.{eqb-true, leb-true, le-leb, and_parts, not-true}
 use Rattle.std.proofs.lemmas.List.{nil_from_length, length_push}
 use Rattle.std.proofs.lemmas.List.Folds.{list_all-append, list_all-map}
-use Rattle.sequence.proofs.Results.{bind_ok, done, given}
+use Rattle.sequence.proofs.Results.{bind_ok, done, given, some_ok}
 use Rattle.jasmin_words.specs.declared.fault.FaultKind.{FaultKind}
 use Rattle.jasmin_words.specs.declared.fault.FaultKind.TheVariants as fault
 use Rattle.jasmin_words.specs.Names.{same_bytes}
@@ -50,11 +50,7 @@ each_length R xs ys (more {xs = others} {ys = rest} r rs) = ap suc (each_length 
 -- ---- places
 
 label_ok : (labels : List (List ℕ × ℕ)) (l : List ℕ) (place : ℕ) → placed_label labels l ≡ Ok place → IsPlaceOf labels l place
-label_ok labels l place e = by (place_of labels l) e
-  where
-    by : (o : Option ℕ) → ok_or o fault.UnknownLabel ≡ Ok place → o ≡ Some place
-    by (Some p) h = cc
-    by None h = absurd cc
+label_ok labels l place e = some_ok (place_of labels l) fault.UnknownLabel place e
 
 case_ok : (labels : List (List ℕ × ℕ)) (c : ℤ × List ℕ) (d : ℤ × ℕ) → placed_case labels c ≡ Ok d → IsPlacedCase labels c d
 case_ok labels c d e = let place = bind_ok (placed_label labels c.1) _ d e in given (IsPlacedCase labels c) place.2 (refl, label_ok labels c.1 place.0 place.1)

@@ -116,10 +116,6 @@ lifted rows h r b last here e =
 
 -- ---- guards that were passed
 
-pub allowed_ok : {B : Type 0} (b : Bool) (f : Result B FaultKind) (y : B) → (allowed b >>= λ _. f) ≡ Ok y → (b ≡ true) × (f ≡ Ok y)
-allowed_ok true f y e = (refl, e)
-allowed_ok false f y e = absurd cc
-
 pub room_ok : {B : Type 0} (b : Bool) (f : Result B FaultKind) (y : B) → (has_room_for b >>= λ _. f) ≡ Ok y → (b ≡ true) × (f ≡ Ok y)
 room_ok true f y e = (refl, e)
 room_ok false f y e = absurd cc
