@@ -9,12 +9,11 @@ use Rattle.descriptors.specs.Spelling.{method_spelling}
 use Rattle.jasmin_words.specs.Lexing.{Word, Colon, fits}
 use Rattle.jasmin_words.specs.Names.{same_bytes, is_member_name}
 use Rattle.jasmin_words.proofs.Numbers.{written_again}
-use Rattle.jasmin_text.specs.Forms.{form_at, forms}
+use Rattle.jasmin_text.specs.Forms.{form_at, forms, word_of}
 use Rattle.jasmin_text.specs.Keywords.{spelled}
 use Rattle.jasmin_text.specs.Canonical.{label_text, caught_text, range_text, handler_line, method_text, interface_count, interface_line, increment_line, case_line}
 use Rattle.jasmin_text.specs.Spellable.{is_class_word, is_int, is_short, is_caught, is_method_type}
 use Rattle.jasmin_text.specs.Grammar.{IsIntIn, short_low, IsCaught, InstructionRow, TableRow, LookupRow, CaseRow, CatchRow, increment, counted, all, class, simple, table, lookup, catch, operation, case}
-use Rattle.jasmin_text.specs.declared.keyword.Keyword.TheVariants as keyword
 use Rattle.jasmin_text.specs.declared.form.Form.TheVariants as form
 use Rattle.jasmin_text.specs.declared.class_text.Handler.{Handler}
 use Rattle.jasmin_text.specs.declared.instruction.Instruction.TheVariants as instruction
@@ -75,34 +74,34 @@ short_in (pos n) h = let less = ltb-true n 32768 h in record { value = written_a
 short_in (negsuc n) h = let less = ltb-true n 32768 h in record { value = written_again (negsuc n) (short_is_int (negsuc n) h); from = le-leb n 32767 (omega arith); to = refl }
 
 pub increment_row : (n : ℕ) (by : ℤ) → n ≤ 65535 → is_short by ≡ true → IsLine (increment_line n by) (InstructionRow (instruction.Increment n by) ∷ [])
-unfolding increment_line spelled form_at forms
+unfolding increment_line word_of form_at forms
 increment_row n by h s =
-    three_words (codes "iinc") (decimal n) (signed_decimal by) _ ((refl, refl), refl) (number_fixed n (omega arith)) (int_fixed by (short_is_int by s))
+    three_words (word_of form.Increment) (decimal n) (signed_decimal by) _ ((refl, refl), refl) (number_fixed n (omega arith)) (int_fixed by (short_is_int by s))
     (operation (simple {f = form.Increment} refl (increment (number_in 0 65535 n (omega arith) h (omega arith)) (short_in by s))))
 
 -- ---- invokeinterface
 
 pub interface_row : (r : MethodReference) → is_class_name r.class ≡ true → is_member_name r.name ≡ true → is_method_type r.method_type ≡ true → fits (r.class ++ 47 ∷ r.name ++ method_spelling r.method_type) ≡ true
     → IsLine (interface_line r) (InstructionRow (instruction.CallInterface r) ∷ [])
-unfolding interface_line method_text spelled form_at forms
+unfolding interface_line method_text word_of form_at forms
 interface_row r h k t f =
     let n : ℕ = interface_count r in
     let low : 1 ≤ n = omega arith in
     let high : n ≤ 255 = omega arith in
-    three_words (codes "invokeinterface") (r.class ++ 47 ∷ r.name ++ method_spelling r.method_type) (decimal n) _ ((refl, refl), refl) (method_is_word true r.class r.name r.method_type h k t, f) (number_fixed n (omega arith))
+    three_words (word_of form.CallInterface) (r.class ++ 47 ∷ r.name ++ method_spelling r.method_type) (decimal n) _ ((refl, refl), refl) (method_is_word true r.class r.name r.method_type h k t, f) (number_fixed n (omega arith))
     (operation (simple {f = form.CallInterface} refl (counted (record { parts = refl; class_name = h; member_name = k; method_type = is_signature r.method_type t }) (number_in 1 255 n low high (omega arith)))))
 
 -- ---- switches
 
-pub table_row : (low : ℤ) → is_int low ≡ true → IsLine (spelled keyword.TableSwitch ++ signed_decimal low) (TableRow low None ∷ [])
-unfolding spelled form_at forms
+pub table_row : (low : ℤ) → is_int low ≡ true → IsLine (word_of form.TableSwitch ++ 32 ∷ signed_decimal low) (TableRow low None ∷ [])
+unfolding word_of form_at forms
 table_row low h =
     let i = int_of low h in
-    two_words (codes "tableswitch") (signed_decimal low) _ ((refl, refl), refl) (int_fixed low i) (operation (table refl (written_again low i)))
+    two_words (word_of form.TableSwitch) (signed_decimal low) _ ((refl, refl), refl) (int_fixed low i) (operation (table refl (written_again low i)))
 
-pub lookup_row : IsLine (spelled keyword.LookupSwitch) (LookupRow ∷ [])
-unfolding spelled form_at forms
-lookup_row = said (codes "lookupswitch") (Word (codes "lookupswitch") ∷ []) (LookupRow ∷ []) (last_word true (codes "lookupswitch") (refl, refl) refl) (operation (lookup refl))
+pub lookup_row : IsLine (word_of form.LookupSwitch) (LookupRow ∷ [])
+unfolding word_of form_at forms
+lookup_row = said (word_of form.LookupSwitch) (Word (word_of form.LookupSwitch) ∷ []) (LookupRow ∷ []) (last_word true (word_of form.LookupSwitch) (refl, refl) refl) (operation (lookup refl))
 
 case_spaced : (c : ℤ × ℕ) → case_line c ≡ signed_decimal c.0 ++ (codes " : " ++ label_text c.1)
 unfolding case_line spelled

@@ -1,6 +1,6 @@
 -- Canonical lines of instructions with operands say their rows.
 use Rattle.std.proofs.Common.{◌≡◌, ℕ, zero, suc, ◌≤◌, Bool, true, false, ◌&&◌, eqb, List, [], ◌∷◌, ◌++◌, length, replicate, Option, Some, None, refl, arith}
-use Rattle.std.specs.Prelude.{ℤ, pos, negsuc, nat_le, FitsSigned, IfSome, codes}
+use Rattle.std.specs.Prelude.{ℤ, pos, negsuc, nat_le, FitsSigned, IfSome}
 use Rattle.std.specs.List.{list_all, AllByRecursion}
 use Rattle.std.specs.Int.{w32}
 use Rattle.std.specs.Fmt.{decimal, signed_decimal}
@@ -20,10 +20,8 @@ use Rattle.jasmin_words.specs.Names.{is_member_name}
 use Rattle.jasmin_words.specs.Quoting.{quoted}
 use Rattle.jasmin_words.specs.Spelling.{IsWord}
 use Rattle.jasmin_words.proofs.Numbers.{written_again}
-use Rattle.jasmin_text.specs.Keywords.{spelled}
-use Rattle.jasmin_text.specs.Forms.{form_at, forms}
-use Rattle.jasmin_text.specs.InstructionWords.{field_word, call_word, type_word, base_word}
-use Rattle.jasmin_text.specs.declared.keyword.Keyword.TheVariants as keyword
+use Rattle.jasmin_text.specs.Forms.{form_at, forms, word_of}
+use Rattle.jasmin_text.specs.BaseWords.{base_word}
 use Rattle.jasmin_text.specs.Canonical.{constant_text, field_text, method_text}
 use Rattle.jasmin_text.specs.Spellable.{is_element_type, is_type, is_result_type, is_method_type}
 use Rattle.jasmin_text.specs.Grammar.{InstructionRow, int, text, field as op_field, call as op_call, new, new_array, class as op_class, array, simple, operation}
@@ -55,37 +53,38 @@ int_fixed (negsuc n) h =
     let short = length-decimal-le 10 (suc n) (omega arith) (omega (arith, h.sfits)) (omega (arith, h.sfits)) in
     ((refl, bytes.decimal_word (suc n) (omega (arith, h.sfits))), le-leb (length (45 ∷ decimal (suc n))) 65535 (omega arith))
 
-pub int_row : (z : ℤ) → FitsSigned w32 z → IsLine (spelled keyword.Ldc ++ constant_text (constant.Int z)) (InstructionRow (instruction.Constant (constant.Int z)) ∷ [])
-unfolding spelled constant_text form_at forms
-int_row z h = two_words (codes "ldc") (signed_decimal z) _ ((refl, refl), refl) (int_fixed z h) (operation (simple {f = form.Constant} refl (int (written_again z h))))
+pub int_row : (z : ℤ) → FitsSigned w32 z → IsLine (word_of form.Constant ++ 32 ∷ constant_text (constant.Int z)) (InstructionRow (instruction.Constant (constant.Int z)) ∷ [])
+unfolding word_of constant_text form_at forms
+int_row z h = two_words (word_of form.Constant) (signed_decimal z) _ ((refl, refl), refl) (int_fixed z h) (operation (simple {f = form.Constant} refl (int (written_again z h))))
 
-pub text_row : (t : List ℕ) → is_utf8 t ≡ true → fits t ≡ true → IsLine (spelled keyword.Ldc ++ constant_text (constant.Text t)) (InstructionRow (instruction.Constant (constant.Text t)) ∷ [])
-unfolding spelled constant_text form_at forms
+pub text_row : (t : List ℕ) → is_utf8 t ≡ true → fits t ≡ true → IsLine (word_of form.Constant ++ 32 ∷ constant_text (constant.Text t)) (InstructionRow (instruction.Constant (constant.Text t)) ∷ [])
+unfolding word_of constant_text form_at forms
 text_row t u f =
-    said (codes "ldc " ++ quoted t) (Word (codes "ldc") ∷ Text t ∷ []) (InstructionRow (instruction.Constant (constant.Text t)) ∷ [])
-    (word_before (codes "ldc") (quoted t) _ ((refl, refl), refl) (last_text true t u f))
+    said (word_of form.Constant ++ 32 ∷ quoted t) (Word (word_of form.Constant) ∷ Text t ∷ []) (InstructionRow (instruction.Constant (constant.Text t)) ∷ [])
+    (word_before (word_of form.Constant) (quoted t) _ ((refl, refl), refl) (last_text true t u f))
     (operation (simple {f = form.Constant} refl text))
 
 -- ---- classes and arrays
 
-pub new_row : (name : List ℕ) → is_class_name name ≡ true → fits name ≡ true → IsLine (spelled keyword.New ++ name) (InstructionRow (instruction.New name) ∷ [])
-unfolding spelled form_at forms
-new_row name h f = two_words (codes "new") name _ ((refl, refl), refl) (class_is_word true name h, f) (operation (simple {f = form.New} refl (new h)))
+pub new_row : (name : List ℕ) → is_class_name name ≡ true → fits name ≡ true → IsLine (word_of form.New ++ 32 ∷ name) (InstructionRow (instruction.New name) ∷ [])
+unfolding word_of form_at forms
+new_row name h f = two_words (word_of form.New) name _ ((refl, refl), refl) (class_is_word true name h, f) (operation (simple {f = form.New} refl (new h)))
 
 base_fixed : (b : BaseType) → IsFixed (base_word b)
 base_fixed base.Boolean = ((refl, refl), refl)
 base_fixed b = ((refl, refl), refl)
 
-pub new_array_row : (b : BaseType) → IsLine (spelled keyword.NewArray ++ base_word b) (InstructionRow (instruction.NewArray b) ∷ [])
-unfolding spelled form_at forms
-new_array_row b = two_words (codes "newarray") (base_word b) _ ((refl, refl), refl) (base_fixed b) (operation (simple {f = form.NewArray} refl new_array))
+pub new_array_row : (b : BaseType) → IsLine (word_of form.NewArray ++ 32 ∷ base_word b) (InstructionRow (instruction.NewArray b) ∷ [])
+unfolding word_of form_at forms
+new_array_row b = two_words (word_of form.NewArray) (base_word b) _ ((refl, refl), refl) (base_fixed b) (operation (simple {f = form.NewArray} refl new_array))
 
-types_fixed : (t : TypeUse) → IsFixed (type_word t)
+types_fixed : (t : TypeUse) → IsFixed (word_of (form.TypeUse t))
+unfolding word_of forms
 types_fixed type_use.ANewArray = ((refl, refl), refl)
 types_fixed t = ((refl, refl), refl)
 
-pub class_use_row : (t : TypeUse) (name : List ℕ) → is_class_name name ≡ true → fits name ≡ true → IsLine (type_word t ++ 32 ∷ name) (InstructionRow (instruction.TypeUse t (reference.Class name)) ∷ [])
-class_use_row t name h f = two_words (type_word t) name _ (types_fixed t) (class_is_word true name h, f) (operation (simple (types_again t) (op_class h)))
+pub class_use_row : (t : TypeUse) (name : List ℕ) → is_class_name name ≡ true → fits name ≡ true → IsLine (word_of (form.TypeUse t) ++ 32 ∷ name) (InstructionRow (instruction.TypeUse t (reference.Class name)) ∷ [])
+class_use_row t name h f = two_words (word_of (form.TypeUse t)) name _ (types_fixed t) (class_is_word true name h, f) (operation (simple (types_again t) (op_class h)))
 
 -- ---- descriptors and members
 
@@ -107,9 +106,9 @@ is_type_of t d h = record { dimensions = d; element = is_element t.element h }
     is_element (element.Base b) h = tt
     is_element (element.Class name) h = h
 
-pub array_use_row : (t : TypeUse) (a : FieldType) → a.dimensions ≤ 255 → (eqb a.dimensions 0) ≡ false → is_element_type a.element ≡ true → fits (field_spelling a) ≡ true → IsLine (type_word t ++ 32 ∷ field_spelling a) (InstructionRow (instruction.TypeUse t (reference.Array a)) ∷ [])
+pub array_use_row : (t : TypeUse) (a : FieldType) → a.dimensions ≤ 255 → (eqb a.dimensions 0) ≡ false → is_element_type a.element ≡ true → fits (field_spelling a) ≡ true → IsLine (word_of (form.TypeUse t) ++ 32 ∷ field_spelling a) (InstructionRow (instruction.TypeUse t (reference.Array a)) ∷ [])
 array_use_row t a d n h f =
-    two_words (type_word t) (field_spelling a) _ (types_fixed t) (descriptor_is_word true a h, f)
+    two_words (word_of (form.TypeUse t)) (field_spelling a) _ (types_fixed t) (descriptor_is_word true a h, f)
     (operation (simple (types_again t) (array (record { spelling = refl; field_type = is_type_of a d h }) n)))
 
 pub class_first : (fresh : Bool) (name rest : List ℕ) → IsWord fresh name → IsWordText (name ++ rest) → IsWord fresh (name ++ rest)
@@ -119,15 +118,16 @@ class_first fresh (b ∷ name) rest w h = (w.0, h)
 member_is_word : (fresh : Bool) (class name : List ℕ) → is_class_name class ≡ true → is_member_name name ≡ true → IsWord fresh (class ++ 47 ∷ name)
 member_is_word fresh class name h k = class_first fresh class (47 ∷ name) (class_is_word fresh class h) (joined_words class (47 ∷ name) (bytes.class_name_word class h) (bytes.member_name_word name k))
 
-fields_fixed : (f : FieldAccess) → IsFixed (field_word f)
+fields_fixed : (f : FieldAccess) → IsFixed (word_of (form.Field f))
+unfolding word_of forms
 fields_fixed access.GetStatic = ((refl, refl), refl)
 fields_fixed f = ((refl, refl), refl)
 
 pub field_row : (a : FieldAccess) (r : FieldReference) → is_class_name r.class ≡ true → is_member_name r.name ≡ true → fits (r.class ++ 47 ∷ r.name) ≡ true → r.field_type.dimensions ≤ 255 → is_element_type r.field_type.element ≡ true → fits (field_spelling r.field_type) ≡ true
-    → IsLine (field_word a ++ 32 ∷ field_text r) (InstructionRow (instruction.Field a r) ∷ [])
+    → IsLine (word_of (form.Field a) ++ 32 ∷ field_text r) (InstructionRow (instruction.Field a r) ∷ [])
 unfolding field_text
 field_row a r c m f d e g =
-    three_words (field_word a) (r.class ++ 47 ∷ r.name) (field_spelling r.field_type) _ (fields_fixed a) (member_is_word true r.class r.name c m, f) (descriptor_is_word true r.field_type e, g)
+    three_words (word_of (form.Field a)) (r.class ++ 47 ∷ r.name) (field_spelling r.field_type) _ (fields_fixed a) (member_is_word true r.class r.name c m, f) (descriptor_is_word true r.field_type e, g)
     (operation (simple (field_again a) (op_field (record { parts = refl; class_name = c; member_name = m }) (record { spelling = refl; field_type = is_type_of r.field_type d e }))))
 
 -- ---- calls
@@ -150,7 +150,8 @@ is_signature m h =
     let q = and_parts (nat_le (length m.parameters) 255) (list_all is_type m.parameters) p.0 in
     record { limit = leb-true (length m.parameters) 255 q.0; parameters = and_all is_type IsFieldType m.parameters is_known q.1; result = is_result m.result p.1 }
 
-calls_fixed : (c : Call) → IsFixed (call_word c)
+calls_fixed : (c : Call) → IsFixed (word_of (form.Call c))
+unfolding word_of forms
 calls_fixed a_call.InvokeStatic = ((refl, refl), refl)
 calls_fixed c = ((refl, refl), refl)
 
@@ -161,8 +162,8 @@ method_is_word fresh class name m h k t =
     (joined_words (class ++ 47 ∷ name) (method_spelling m) (joined_words class (47 ∷ name) (bytes.class_name_word class h) (bytes.member_name_word name k)) (bytes.method_word m t))
 
 pub call_row : (c : Call) (r : MethodReference) → is_class_name r.class ≡ true → is_member_name r.name ≡ true → is_method_type r.method_type ≡ true → fits (r.class ++ 47 ∷ r.name ++ method_spelling r.method_type) ≡ true
-    → IsLine (call_word c ++ 32 ∷ method_text r) (InstructionRow (instruction.Call c r) ∷ [])
+    → IsLine (word_of (form.Call c) ++ 32 ∷ method_text r) (InstructionRow (instruction.Call c r) ∷ [])
 unfolding method_text
 call_row c r h k t f =
-    two_words (call_word c) (r.class ++ 47 ∷ r.name ++ method_spelling r.method_type) _ (calls_fixed c) (method_is_word true r.class r.name r.method_type h k t, f)
+    two_words (word_of (form.Call c)) (r.class ++ 47 ∷ r.name ++ method_spelling r.method_type) _ (calls_fixed c) (method_is_word true r.class r.name r.method_type h k t, f)
     (operation (simple (call_again c) (op_call (record { parts = refl; class_name = h; member_name = k; method_type = is_signature r.method_type t }))))

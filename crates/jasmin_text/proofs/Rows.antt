@@ -14,7 +14,8 @@ use Rattle.jasmin_words.proofs.Numbers.{written_again}
 use Rattle.jasmin_text.specs.Keywords.{spelled}
 use Rattle.jasmin_text.specs.declared.keyword.Keyword.TheVariants as keyword
 use Rattle.jasmin_text.specs.Canonical.{super_line, implements_line, label_text, label_line, stack_line, locals_line, default_line}
-use Rattle.jasmin_text.specs.InstructionWords.{plain_word, local_word, jump_word}
+use Rattle.jasmin_text.specs.Forms.{word_of, forms}
+use Rattle.jasmin_text.specs.declared.form.Form.TheVariants as form
 use Rattle.jasmin_text.specs.declared.class_text.Code.{Code}
 use Rattle.jasmin_text.specs.declared.instruction.Instruction.TheVariants as instruction
 use Rattle.jasmin_text.specs.declared.instruction.Plain.{Plain}
@@ -125,25 +126,28 @@ default_row n h =
 
 -- ---- instructions
 
-plain_fixed : (p : Plain) → IsFixed (plain_word p)
+plain_fixed : (p : Plain) → IsFixed (word_of (form.Plain p))
+unfolding word_of forms
 plain_fixed plain.Nop = ((refl, refl), refl)
 plain_fixed p = ((refl, refl), refl)
 
-local_fixed : (w : Local) → IsFixed (local_word w)
+local_fixed : (w : Local) → IsFixed (word_of (form.Local w))
+unfolding word_of forms
 local_fixed local.ILoad = ((refl, refl), refl)
 local_fixed w = ((refl, refl), refl)
 
-jump_fixed : (w : Jump) → IsFixed (jump_word w)
+jump_fixed : (w : Jump) → IsFixed (word_of (form.Jump w))
+unfolding word_of forms
 jump_fixed jump.IfEq = ((refl, refl), refl)
 jump_fixed w = ((refl, refl), refl)
 
-pub plain_row : (p : Plain) → IsLine (plain_word p) (InstructionRow (instruction.Plain p) ∷ [])
-plain_row p = let w = plain_fixed p in said (plain_word p) (Word (plain_word p) ∷ []) (InstructionRow (instruction.Plain p) ∷ []) (last_word true (plain_word p) w.0 w.1) (operation (simple (plain_again p) op_plain))
+pub plain_row : (p : Plain) → IsLine (word_of (form.Plain p)) (InstructionRow (instruction.Plain p) ∷ [])
+plain_row p = let w = plain_fixed p in said (word_of (form.Plain p)) (Word (word_of (form.Plain p)) ∷ []) (InstructionRow (instruction.Plain p) ∷ []) (last_word true (word_of (form.Plain p)) w.0 w.1) (operation (simple (plain_again p) op_plain))
 
-pub local_row : (l : Local) (n : ℕ) → n ≤ 65535 → IsLine (local_word l ++ 32 ∷ decimal n) (InstructionRow (instruction.Local l n) ∷ [])
+pub local_row : (l : Local) (n : ℕ) → n ≤ 65535 → IsLine (word_of (form.Local l) ++ 32 ∷ decimal n) (InstructionRow (instruction.Local l n) ∷ [])
 local_row l n h =
-    two_words (local_word l) (decimal n) _ (local_fixed l) (number_fixed n (omega arith))
+    two_words (word_of (form.Local l)) (decimal n) _ (local_fixed l) (number_fixed n (omega arith))
     (operation (simple (local_again l) (op_local (number_in 0 65535 n (omega arith) h (omega arith)))))
 
-pub jump_row : (j : Jump) (n : ℕ) → n < 65536 → IsLine (jump_word j ++ 32 ∷ label_text n) (InstructionRow (instruction.Jump j (label_text n)) ∷ [])
-jump_row j n h = two_words (jump_word j) (label_text n) _ (jump_fixed j) (label_fixed n h) (operation (simple (jump_again j) (op_jump (label_is n))))
+pub jump_row : (j : Jump) (n : ℕ) → n < 65536 → IsLine (word_of (form.Jump j) ++ 32 ∷ label_text n) (InstructionRow (instruction.Jump j (label_text n)) ∷ [])
+jump_row j n h = two_words (word_of (form.Jump j)) (label_text n) _ (jump_fixed j) (label_fixed n h) (operation (simple (jump_again j) (op_jump (label_is n))))

@@ -7,7 +7,9 @@ use Rattle.jasmin_words.specs.Quoting.{quoted}
 use Rattle.jasmin_text.specs.declared.keyword.Keyword.{Keyword}
 use Rattle.jasmin_text.specs.declared.keyword.Keyword.TheVariants as word
 use Rattle.jasmin_text.specs.Keywords.{spelled}
-use Rattle.jasmin_text.specs.InstructionWords.{plain_word, local_word, jump_word, field_word, call_word, type_word, base_word}
+use Rattle.jasmin_text.specs.BaseWords.{base_word}
+use Rattle.jasmin_text.specs.Forms.{word_of}
+use Rattle.jasmin_text.specs.declared.form.Form.TheVariants as form
 use Rattle.jasmin_text.specs.declared.access.Access.{Access}
 use Rattle.jasmin_text.specs.declared.class_text.ClassKind.{ClassKind}
 use Rattle.jasmin_text.specs.declared.class_text.ClassKind.TheVariants as kind
@@ -110,10 +112,10 @@ abbrev pub interface_count : MethodReference → ℕ
 interface_count r = min 255 (length r.method_type.parameters + 1)
 
 unfoldable pub interface_line : MethodReference → List ℕ
-interface_line r = spelled word.InvokeInterface ++ method_text r ++ 32 ∷ decimal (interface_count r)
+interface_line r = word_of form.CallInterface ++ 32 ∷ method_text r ++ 32 ∷ decimal (interface_count r)
 
 unfoldable pub increment_line : ℕ → ℤ → List ℕ
-increment_line n by = spelled word.Iinc ++ decimal n ++ 32 ∷ signed_decimal by
+increment_line n by = word_of form.Increment ++ 32 ∷ decimal n ++ 32 ∷ signed_decimal by
 
 -- a key of a lookupswitch with its target
 unfoldable pub case_line : ℤ × ℕ → List ℕ
@@ -124,19 +126,19 @@ default_line place = spelled word.Default ++ label_text place
 
 -- the lines of an instruction; a switch has one for each label or key, and one for the rest
 unfoldable pub instruction_lines : Instruction ℕ → List (List ℕ)
-instruction_lines (instruction.Plain p) = plain_word p ∷ []
-instruction_lines (instruction.Constant c) = (spelled word.Ldc ++ constant_text c) ∷ []
-instruction_lines (instruction.Local l n) = (local_word l ++ 32 ∷ decimal n) ∷ []
+instruction_lines (instruction.Plain p) = word_of (form.Plain p) ∷ []
+instruction_lines (instruction.Constant c) = (word_of form.Constant ++ 32 ∷ constant_text c) ∷ []
+instruction_lines (instruction.Local l n) = (word_of (form.Local l) ++ 32 ∷ decimal n) ∷ []
 instruction_lines (instruction.Increment n c) = increment_line n c ∷ []
-instruction_lines (instruction.Jump j place) = (jump_word j ++ 32 ∷ label_text place) ∷ []
-instruction_lines (instruction.TableSwitch low places default) = (spelled word.TableSwitch ++ signed_decimal low) ∷ (map label_text places ++ default_line default ∷ [])
-instruction_lines (instruction.LookupSwitch cases default) = spelled word.LookupSwitch ∷ (map case_line cases ++ default_line default ∷ [])
-instruction_lines (instruction.Field f r) = (field_word f ++ 32 ∷ field_text r) ∷ []
-instruction_lines (instruction.Call c r) = (call_word c ++ 32 ∷ method_text r) ∷ []
+instruction_lines (instruction.Jump j place) = (word_of (form.Jump j) ++ 32 ∷ label_text place) ∷ []
+instruction_lines (instruction.TableSwitch low places default) = (word_of form.TableSwitch ++ 32 ∷ signed_decimal low) ∷ (map label_text places ++ default_line default ∷ [])
+instruction_lines (instruction.LookupSwitch cases default) = word_of form.LookupSwitch ∷ (map case_line cases ++ default_line default ∷ [])
+instruction_lines (instruction.Field f r) = (word_of (form.Field f) ++ 32 ∷ field_text r) ∷ []
+instruction_lines (instruction.Call c r) = (word_of (form.Call c) ++ 32 ∷ method_text r) ∷ []
 instruction_lines (instruction.CallInterface r) = interface_line r ∷ []
-instruction_lines (instruction.New name) = (spelled word.New ++ name) ∷ []
-instruction_lines (instruction.NewArray b) = (spelled word.NewArray ++ base_word b) ∷ []
-instruction_lines (instruction.TypeUse t r) = (type_word t ++ 32 ∷ reference_text r) ∷ []
+instruction_lines (instruction.New name) = (word_of form.New ++ 32 ∷ name) ∷ []
+instruction_lines (instruction.NewArray b) = (word_of form.NewArray ++ 32 ∷ base_word b) ∷ []
+instruction_lines (instruction.TypeUse t r) = (word_of (form.TypeUse t) ++ 32 ∷ reference_text r) ∷ []
 
 -- the places that an instruction names
 abbrev pub instruction_places : Instruction ℕ → List ℕ

@@ -9,7 +9,7 @@ use Rattle.descriptors.specs.declared.field.FieldType.{FieldType}
 use Rattle.jasmin_words.specs.Lexing.{Item, Word, Equals, Colon, Text, words_of}
 use Rattle.jasmin_words.specs.Integers.{integer_of}
 use Rattle.jasmin_words.specs.Names.{same_bytes, is_label, IsMemberName}
-use Rattle.jasmin_text.specs.InstructionWords.{base_word}
+use Rattle.jasmin_text.specs.BaseWords.{base_word}
 use Rattle.jasmin_text.specs.Tables.{find_row, access_of, member_access_of}
 use Rattle.jasmin_text.specs.Forms.{form_at, directive_at}
 use Rattle.jasmin_text.specs.Spellable.{IsSpellable}

@@ -1,4 +1,4 @@
--- The fixed words of the canonical spelling, with the spaces that stand round them.
+-- The fixed words of the canonical spelling but those of instructions, with the spaces that stand round them.
 use Rattle.std.specs.Prelude.{ℕ, List, codes}
 use Rattle.jasmin_text.specs.declared.keyword.Keyword.{Keyword}
 use Rattle.jasmin_text.specs.declared.keyword.Keyword.TheVariants as word
@@ -21,13 +21,6 @@ spelled word.All = codes "all"
 spelled word.Equals = codes " = "
 spelled word.Colon = codes " : "
 spelled word.Default = codes "default : "
-spelled word.Ldc = codes "ldc "
-spelled word.Iinc = codes "iinc "
-spelled word.TableSwitch = codes "tableswitch "
-spelled word.LookupSwitch = codes "lookupswitch"
-spelled word.InvokeInterface = codes "invokeinterface "
-spelled word.New = codes "new "
-spelled word.NewArray = codes "newarray "
 spelled word.Public = codes " public"
 spelled word.Private = codes " private"
 spelled word.Protected = codes " protected"

@@ -1,4 +1,4 @@
-pub mod InstructionWords
+pub mod BaseWords
 pub mod Keywords
 pub mod Canonical
 pub mod Lines

@@ -1,8 +1,7 @@
 //! The words that begin a line, with what they ask for.
 
 ghost use Rattle.std.specs.Prelude.{◌≡◌, Some};
-ghost use Rattle.jasmin_text.specs.Forms.{form_at, directive_at, is_left_out};
-ghost use Rattle.jasmin_text.specs.InstructionWords.{plain_word, local_word, jump_word, field_word, call_word, type_word};
+ghost use Rattle.jasmin_text.specs.Forms.{form_at, word_of, directive_at, is_left_out};
 ghost use Rattle.jasmin_text.specs.declared.form.Form.TheVariants as form;
 ghost use Rattle.jasmin_text.specs.declared.instruction.Plain.{Plain};
 ghost use Rattle.jasmin_text.specs.declared.instruction.Local.{Local};
@@ -15,7 +14,7 @@ use crate::instruction::{Call, FieldAccess, Jump, Local, Plain, TypeUse};
 use crate::table::{find, stands_in};
 
 /// What an instruction's word asks for behind it.
-#[derive(Clone, Copy)]
+#[derive(Clone, Copy, PartialEq, Eq)]
 pub enum Form {
     /// No operand.
     Plain(Plain),
@@ -54,7 +53,7 @@ pub enum Form {
 }
 
 /// Each word that begins an instruction, with what it asks for. A word is compared with one row after the other, so those that
-/// are common in code stand first.
+/// are common in code stand first. Of several words that ask for the same, the canonical spelling has the first.
 pub const FORMS: [(&[u8], Form); 112] = [
     (b"iload_1", Form::LocalAt(Local::ILoad, 1)),
     (b"aload_0", Form::LocalAt(Local::ALoad, 0)),
@@ -352,10 +351,10 @@ pub fn directive_of(word: &[u8]) -> Option<Directive>
 
 /// The word that the canonical spelling writes for an instruction is read as that instruction's.
 pub fn instruction_words_are_read_again()
-    ensures plain { (p : Plain) → form_at (plain_word p) ≡ Some (form.Plain p) }
-    ensures local { (l : Local) → form_at (local_word l) ≡ Some (form.Local l) }
-    ensures jump { (j : Jump) → form_at (jump_word j) ≡ Some (form.Jump j) }
-    ensures field { (f : FieldAccess) → form_at (field_word f) ≡ Some (form.Field f) }
-    ensures call { (c : Call) → form_at (call_word c) ≡ Some (form.Call c) }
-    ensures types { (t : TypeUse) → form_at (type_word t) ≡ Some (form.TypeUse t) }
+    ensures plain { (p : Plain) → form_at (word_of (form.Plain p)) ≡ Some (form.Plain p) }
+    ensures local { (l : Local) → form_at (word_of (form.Local l)) ≡ Some (form.Local l) }
+    ensures jump { (j : Jump) → form_at (word_of (form.Jump j)) ≡ Some (form.Jump j) }
+    ensures field { (f : FieldAccess) → form_at (word_of (form.Field f)) ≡ Some (form.Field f) }
+    ensures call { (c : Call) → form_at (word_of (form.Call c)) ≡ Some (form.Call c) }
+    ensures types { (t : TypeUse) → form_at (word_of (form.TypeUse t)) ≡ Some (form.TypeUse t) }
 {}

@@ -6,7 +6,7 @@
 
 use crate::boxed::Boxed;
 use crate::class_text::Constant;
-use crate::word::word_of;
+use crate::word::{canonical_form, word_of};
 use descriptors::{BaseType, ClassName, FieldType, MethodType};
 use jasmin_words::name::MemberName;
 use sequence::Sequence;
@@ -259,7 +259,7 @@ const _: () = prove!(size_of::<Instruction<u16>>() == 24);
 /// Shows the word of the instruction, without its operands.
 impl<L> fmt::Debug for Instruction<L> {
     fn fmt<W: fmt::Write>(&self, f: &mut fmt::Formatter<W>) -> fmt::Result {
-        match str::from_utf8(word_of(self)) {
+        match str::from_utf8(word_of(canonical_form(self))) {
             Ok(word) => f.write_str(word),
             Err(_) => Err(fmt::Error),
         }

@@ -1,11 +1,11 @@
-//! The fixed words of the canonical spelling.
+//! The fixed words of the canonical spelling but those of instructions.
 
 ghost use Rattle.std.specs.Prelude.{◌≡◌, ◌++◌, OnOk};
 ghost use Rattle.jasmin_text.specs.Keywords.{spelled};
 
 use std::alloc::AllocError;
 
-/// The fixed words of the canonical spelling, with the spaces that stand round them.
+/// The fixed words of the canonical spelling but those of instructions, with the spaces that stand round them.
 #[derive(Clone, Copy)]
 pub(crate) enum Keyword {
     Class,
@@ -25,13 +25,6 @@ pub(crate) enum Keyword {
     Equals,
     Colon,
     Default,
-    Ldc,
-    Iinc,
-    TableSwitch,
-    LookupSwitch,
-    InvokeInterface,
-    New,
-    NewArray,
     Public,
     Private,
     Protected,
@@ -66,13 +59,6 @@ pub(crate) fn spelling(keyword: Keyword) -> &'static [u8]
         Keyword::Equals => b" = ",
         Keyword::Colon => b" : ",
         Keyword::Default => b"default : ",
-        Keyword::Ldc => b"ldc ",
-        Keyword::Iinc => b"iinc ",
-        Keyword::TableSwitch => b"tableswitch ",
-        Keyword::LookupSwitch => b"lookupswitch",
-        Keyword::InvokeInterface => b"invokeinterface ",
-        Keyword::New => b"new ",
-        Keyword::NewArray => b"newarray ",
         Keyword::Public => b" public",
         Keyword::Private => b" private",
         Keyword::Protected => b" protected",

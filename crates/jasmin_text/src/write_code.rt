@@ -3,22 +3,31 @@
 ghost use Rattle.std.specs.Prelude.{◌≡◌, ◌++◌, ◌∷◌, [], map, OnOk};
 ghost use Rattle.std.specs.Fmt.{decimal};
 ghost use Rattle.jasmin_text.specs.Canonical.{ended, ended_all, constant_text, label_text, label_line, caught_text, range_text, handler_line, field_text, method_text, reference_text, interface_line, increment_line, case_line, default_line, instruction_lines};
-ghost use Rattle.jasmin_text.specs.Keywords.{spelled};
-ghost use Rattle.jasmin_text.specs.declared.keyword.Keyword.TheVariants.{Ldc};
+ghost use Rattle.jasmin_text.specs.Forms.{word_of as word_at};
+ghost use Rattle.jasmin_text.specs.declared.form.Form.TheVariants as form;
 ghost use Rattle.jasmin_text.specs.declared.instruction.Instruction.TheVariants as instruction;
 
 use crate::class_text::{Constant, Handler};
+use crate::form::Form;
 use crate::instruction::{
     Call, FieldAccess, FieldReference, Instruction, Jump, Local, MethodReference, Plain,
     ReferenceType, TypeUse,
 };
 use crate::keyword::{Keyword, push, push_keyword};
-use crate::word::{base_word, call_word, field_word, jump_word, local_word, plain_word, type_word};
+use crate::word::{base_word, word_of};
 use crate::write::{push_constant, push_field_type, push_method_type};
 use descriptors::ClassName;
 use jasmin_words::integer::{push_decimal, push_integer};
 use sequence::Sequence;
 use std::alloc::{AllocError, Global};
+
+/// Adds the word of an instruction and a space at the end.
+fn push_word(text: &mut Vec<u8>, form: Form) -> Result<(), AllocError>
+    ensures { OnOk result (text.new.items ≡ text.old.items ++ word_at form ++ 32 ∷ []) }
+{
+    push(text, word_of(form))?;
+    push(text, b" ")
+}
 
 pub(crate) fn push_number(text: &mut Vec<u8>, number: u16) -> Result<(), AllocError>
     ensures { OnOk result (text.new.items ≡ text.old.items ++ decimal number) }
@@ -126,7 +135,7 @@ fn push_interface_line(
     } else {
         255
     };
-    push_keyword(text, Keyword::InvokeInterface)?;
+    push_word(text, Form::CallInterface)?;
     push_method(alloc, text, method)?;
     push(text, b" ")?;
     push_number(text, count as u16)?;
@@ -137,7 +146,7 @@ fn push_interface_line(
 fn push_increment_line(text: &mut Vec<u8>, local: u16, by: i16) -> Result<(), AllocError>
     ensures { OnOk result (text.new.items ≡ text.old.items ++ ended (increment_line local by)) }
 {
-    push_keyword(text, Keyword::Iinc)?;
+    push_word(text, Form::Increment)?;
     push_number(text, local)?;
     push(text, b" ")?;
     push_integer(text, by as i32)?;
@@ -197,7 +206,7 @@ fn push_table_switch(
 ) -> Result<(), AllocError>
     ensures { OnOk result (text.new.items ≡ text.old.items ++ ended_all (instruction_lines (instruction.TableSwitch low places.now default))) }
 {
-    push_keyword(text, Keyword::TableSwitch)?;
+    push_word(text, Form::TableSwitch)?;
     push_integer(text, low)?;
     push(text, b"\n")?;
     push_place_lines(text, places.as_slice())?;
@@ -212,7 +221,7 @@ fn push_lookup_switch(
 ) -> Result<(), AllocError>
     ensures { OnOk result (text.new.items ≡ text.old.items ++ ended_all (instruction_lines (instruction.LookupSwitch cases.now default))) }
 {
-    push_keyword(text, Keyword::LookupSwitch)?;
+    push(text, word_of(Form::LookupSwitch))?;
     push(text, b"\n")?;
     push_case_lines(text, cases.as_slice())?;
     push_default_line(text, default)
@@ -222,8 +231,7 @@ fn push_lookup_switch(
 fn push_local_line(text: &mut Vec<u8>, local: Local, number: u16) -> Result<(), AllocError>
     ensures { OnOk result (text.new.items ≡ text.old.items ++ ended_all (instruction_lines (instruction.Local local number))) }
 {
-    push(text, local_word(local))?;
-    push(text, b" ")?;
+    push_word(text, Form::Local(local))?;
     push_number(text, number)?;
     push(text, b"\n")
 }
@@ -232,16 +240,15 @@ fn push_local_line(text: &mut Vec<u8>, local: Local, number: u16) -> Result<(), 
 fn push_jump_line(text: &mut Vec<u8>, jump: Jump, place: u16) -> Result<(), AllocError>
     ensures { OnOk result (text.new.items ≡ text.old.items ++ ended_all (instruction_lines (instruction.Jump jump place))) }
 {
-    push(text, jump_word(jump))?;
-    push(text, b" ")?;
+    push_word(text, Form::Jump(jump))?;
     push_label(text, place as usize)?;
     push(text, b"\n")
 }
 
 fn push_constant_line(text: &mut Vec<u8>, constant: &Constant) -> Result<(), AllocError>
-    ensures { OnOk result (text.new.items ≡ text.old.items ++ ended (spelled Ldc ++ constant_text constant.now)) }
+    ensures { OnOk result (text.new.items ≡ text.old.items ++ ended (word_at form.Constant ++ 32 ∷ constant_text constant.now)) }
 {
-    push_keyword(text, Keyword::Ldc)?;
+    push_word(text, Form::Constant)?;
     push_constant(text, constant)?;
     push(text, b"\n")
 }
@@ -255,8 +262,7 @@ fn push_field_use(
 ) -> Result<(), AllocError>
     ensures { OnOk result (text.new.items ≡ text.old.items ++ ended_all (instruction_lines (instruction.Field access field.now))) }
 {
-    push(text, field_word(access))?;
-    push(text, b" ")?;
+    push_word(text, Form::Field(access))?;
     push_field(alloc, text, field)?;
     push(text, b"\n")
 }
@@ -270,8 +276,7 @@ fn push_call(
 ) -> Result<(), AllocError>
     ensures { OnOk result (text.new.items ≡ text.old.items ++ ended_all (instruction_lines (instruction.Call call method.now))) }
 {
-    push(text, call_word(call))?;
-    push(text, b" ")?;
+    push_word(text, Form::Call(call))?;
     push_method(alloc, text, method)?;
     push(text, b"\n")
 }
@@ -285,18 +290,17 @@ fn push_type_use(
 ) -> Result<(), AllocError>
     ensures { OnOk result (text.new.items ≡ text.old.items ++ ended_all (instruction_lines (instruction.TypeUse type_use reference.now))) }
 {
-    push(text, type_word(type_use))?;
-    push(text, b" ")?;
+    push_word(text, Form::TypeUse(type_use))?;
     push_reference(alloc, text, reference)?;
     push(text, b"\n")
 }
 
-/// A line of a keyword and a word.
-fn push_keyed(text: &mut Vec<u8>, keyword: Keyword, word: &[u8]) -> Result<(), AllocError>
-    ensures { OnOk result (text.new.items ≡ text.old.items ++ ended (spelled keyword ++ word.now)) }
+/// A line of two words.
+fn push_two_words(text: &mut Vec<u8>, form: Form, operand: &[u8]) -> Result<(), AllocError>
+    ensures { OnOk result (text.new.items ≡ text.old.items ++ ended (word_at form ++ 32 ∷ operand.now)) }
 {
-    push_keyword(text, keyword)?;
-    push(text, word)?;
+    push_word(text, form)?;
+    push(text, operand)?;
     push(text, b"\n")
 }
 
@@ -304,7 +308,7 @@ fn push_keyed(text: &mut Vec<u8>, keyword: Keyword, word: &[u8]) -> Result<(), A
 fn push_plain_line(text: &mut Vec<u8>, plain: Plain) -> Result<(), AllocError>
     ensures { OnOk result (text.new.items ≡ text.old.items ++ ended_all (instruction_lines (instruction.Plain plain))) }
 {
-    push(text, plain_word(plain))?;
+    push(text, word_of(Form::Plain(plain)))?;
     push(text, b"\n")
 }
 
@@ -337,8 +341,8 @@ pub(crate) fn push_instruction(
         Instruction::Field(access, field) => push_field_use(alloc, text, *access, field.get()),
         Instruction::Call(call, method) => push_call(alloc, text, *call, method.get()),
         Instruction::CallInterface(method) => push_interface_line(alloc, text, method.get()),
-        Instruction::New(class) => push_keyed(text, Keyword::New, class.get().as_slice()),
-        Instruction::NewArray(base) => push_keyed(text, Keyword::NewArray, base_word(*base)),
+        Instruction::New(class) => push_two_words(text, Form::New, class.get().as_slice()),
+        Instruction::NewArray(base) => push_two_words(text, Form::NewArray, base_word(*base)),
         Instruction::TypeUse(type_use, reference) => push_type_use(
             alloc,
             text,
