@@ -1,12 +1,13 @@
 -- Access words before a name, both ways: what is read stands in lines of the grammar, and what stands there is read.
 use Rattle.std.proofs.Common.{◌≡◌, ℕ, Bool, true, false, not, ◌&&◌, cond, List, [], ◌∷◌, ◌++◌, map, Option, Some, None, is_some, Ok, refl, sym, ap, subst, ◌∙◌, codes}
 use Rattle.std.specs.Option.{option_map, ok_or}
+use Rattle.std.proofs.lemmas.Slice.Eq.{bytes_eq-Decides}
+use Rattle.std.specs.Str.{bytes_eq}
 use Rattle.jasmin_words.specs.declared.fault.FaultKind.{FaultKind}
 use Rattle.jasmin_words.specs.declared.fault.FaultKind.TheVariants as fault
 use Rattle.sequence.specs.Gives.{◌>>=◌}
 use Rattle.sequence.proofs.Results.{bind_ok, back, test_passed, some_ok}
 use Rattle.jasmin_words.specs.Lexing.{Item, Word, LongWord}
-use Rattle.jasmin_words.specs.Names.{same_bytes}
 use Rattle.jasmin_text.specs.Tables.{access_of, member_access_of, is_member_word}
 use Rattle.jasmin_text.specs.Spellable.{is_taken}
 use Rattle.jasmin_text.specs.Grammar.{with_word as more_access, is_taken_in, IsAccessBy, IsClassAccess, none, more, interface}
@@ -23,7 +24,6 @@ use Rattle.jasmin_reader.specs.declared.table.ClassWord.{ClassWord}
 use Rattle.jasmin_reader.specs.declared.table.ClassWord.TheVariants as class_word
 use Rattle.jasmin_reader.specs.Places.{word_of, first_word, within_limit}
 use Rattle.jasmin_reader.specs.Heads.{with_access, stand_together, fits_place, class_word_at, head_word_at, with_class_word, with_word, is_before_name, named_from, has_word, no_access_by, no_access_in}
-use Rattle.jasmin_text.proofs.WordBytes.{same_is}
 
 -- ---- words
 
@@ -56,7 +56,7 @@ is_access_at member = is_member_word
 
 says_some : (p : Place) (w : List ℕ) → is_some (head_word_at p w) ≡ is_access_at p w
 unfolding head_word_at class_word_at
-says_some place.Class w = by (same_bytes w (codes "interface"))
+says_some place.Class w = by (bytes_eq w (codes "interface"))
   where
     by : (s : Bool) → is_some (cond s (Some class_word.Interface) (option_map class_word.Access (access_of w))) ≡ cond s true (is_some (access_of w))
     by true = refl
@@ -105,10 +105,10 @@ no_interface None e = absurd cc
 
 class_says : (w : List ℕ) (c : ClassWord) → head_word_at place.Class w ≡ Some c → Says w c
 unfolding head_word_at class_word_at Says
-class_says w c e = by (same_bytes w (codes "interface")) refl c e
+class_says w c e = by (bytes_eq w (codes "interface")) refl c e
   where
-    by : (s : Bool) → same_bytes w (codes "interface") ≡ s → (c : ClassWord) → cond s (Some class_word.Interface) (option_map class_word.Access (access_of w)) ≡ Some c → Says w c
-    by true p class_word.Interface h = same_is w (codes "interface") p
+    by : (s : Bool) → bytes_eq w (codes "interface") ≡ s → (c : ClassWord) → cond s (Some class_word.Interface) (option_map class_word.Access (access_of w)) ≡ Some c → Says w c
+    by true p class_word.Interface h = (bytes_eq-Decides w (codes "interface")).0 p
     by true p (class_word.Access a) h = absurd cc
     by false p class_word.Interface h = absurd (no_interface (access_of w) h)
     by false p (class_word.Access a) h = says_access (access_of w) a h

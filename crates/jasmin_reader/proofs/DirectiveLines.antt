@@ -3,13 +3,15 @@ use Rattle.std.proofs.Common.{◌≡◌, ℕ, Bool, true, false, not, ◌&&◌, 
 use Rattle.std.specs.Prelude.{nat_lt}
 use Rattle.std.specs.List.{list_all}
 use Rattle.std.proofs.lemmas.Bool.{and_from, and_parts, not-true}
+use Rattle.std.proofs.lemmas.Slice.Eq.{bytes_eq-Decides}
+use Rattle.std.specs.Str.{bytes_eq}
 use Rattle.descriptors.specs.ClassName.{is_class_name}
 use Rattle.jasmin_words.specs.declared.fault.FaultKind.{FaultKind}
 use Rattle.jasmin_words.specs.declared.fault.FaultKind.TheVariants as fault
 use Rattle.sequence.specs.Gives.{◌>>=◌}
 use Rattle.sequence.proofs.Results.{bind_ok, carried, done, given, test_passed, then}
 use Rattle.jasmin_words.specs.Lexing.{Item, Word}
-use Rattle.jasmin_words.specs.Names.{same_bytes, is_label}
+use Rattle.jasmin_words.specs.Names.{is_label}
 use Rattle.jasmin_text.specs.Forms.{directive_at, directives}
 use Rattle.jasmin_text.specs.Grammar.{IsCaught, all, class as a_class, IsRow, skipped, super, implements, end, stack, locals, catch, Row, ClassRow, SuperRow, ImplementsRow, FieldRow, MethodRow, EndRow, StackRow, LocalsRow, CatchRow}
 use Rattle.jasmin_text.specs.Spellable.{is_taken}
@@ -29,7 +31,6 @@ use Rattle.jasmin_reader.specs.Heads.{class_from, field_from, method_from}
 use Rattle.jasmin_reader.specs.Bodies.{outside_switch, limit_by, limit_at, caught_in, keyword_in, label_behind, catch_from, catch_at, end_by, end_from, closed}
 use Rattle.jasmin_reader.specs.Reading.{allowed, has_room_for, is_in_class, is_in_header, member_room, class_line, super_line, implements_line, field_line, empty_body, method_line, in_body, ended_by, end_line, directive_line}
 use Rattle.jasmin_reader.proofs.AccessWords.{item_of, short_word, within_ok, first_is}
-use Rattle.jasmin_text.proofs.WordBytes.{same_is}
 use Rattle.jasmin_reader.proofs.GoodRows.{is_headed, rows_headed}
 use Rattle.jasmin_reader.proofs.Heads.{IsHeadedRow, class_taken, interface_taken, field_taken, method_taken}
 use Rattle.jasmin_reader.proofs.OperandForms.{ended_ok, operand_ok, last_ok, checked_last}
@@ -115,7 +116,7 @@ method_ok r s items e =
 -- an access word stands before no name
 pub untaken : (k : ClassKind) (name : List ℕ) → not (is_taken k name) ≡ true → is_taken kind.Interface name ≡ false
 untaken kind.Interface name h = not-true (is_taken kind.Interface name) h
-untaken kind.Class name h = by (same_bytes name (codes "interface")) (is_taken kind.Interface name) h
+untaken kind.Class name h = by (bytes_eq name (codes "interface")) (is_taken kind.Interface name) h
   where
     by : (s t : Bool) → not (cond s true t) ≡ true → t ≡ false
     by true t h = absurd cc
@@ -127,10 +128,10 @@ next_ok : (items : List Item) (w : (List ℕ × Bool) × List Item) → next_wor
 next_ok [] w e = absurd cc
 next_ok (t ∷ rest) w e = let one = bind_ok (word_of t) _ w e in given (λ (w : (List ℕ × Bool) × List Item). t ∷ rest ≡ item_of w.0 ∷ w.1) one.2 (ap (λ (i : Item). i ∷ rest) (first_is fault.BadOperand t one.0 one.1))
 
-pub short_word_is : (w : List ℕ × Bool) (v : List ℕ) → (same_bytes w.0 v && not w.1) ≡ true → item_of w ≡ Word v
-short_word_is w v h = let p = and_parts (same_bytes w.0 v) (not w.1) h in cc (short_word w (not-true w.1 p.1), same_is w.0 v p.0)
+pub short_word_is : (w : List ℕ × Bool) (v : List ℕ) → (bytes_eq w.0 v && not w.1) ≡ true → item_of w ≡ Word v
+short_word_is w v h = let p = and_parts (bytes_eq w.0 v) (not w.1) h in cc (short_word w (not-true w.1 p.1), (bytes_eq-Decides w.0 v).0 p.0)
 
-limit_by_ok : (b c : Body) (w : List ℕ × Bool) (rest : List Item) (s t : Bool) → outside_switch b ≡ Ok tt → (same_bytes w.0 (codes "stack") && not w.1) ≡ s → (same_bytes w.0 (codes "locals") && not w.1) ≡ t → limit_by b s t rest ≡ Ok c → BodySays b (Word (codes ".limit") ∷ item_of w ∷ rest) c
+limit_by_ok : (b c : Body) (w : List ℕ × Bool) (rest : List Item) (s t : Bool) → outside_switch b ≡ Ok tt → (bytes_eq w.0 (codes "stack") && not w.1) ≡ s → (bytes_eq w.0 (codes "locals") && not w.1) ≡ t → limit_by b s t rest ≡ Ok c → BodySays b (Word (codes ".limit") ∷ item_of w ∷ rest) c
 limit_by_ok b c w rest true t out p q e =
     let n = bind_ok (last_operand limit_in rest) _ c e in
     let a = last_ok limit_in rest n.0 n.1 in
@@ -151,12 +152,12 @@ limit_ok b c items e =
 -- ---- handler tables
 
 caught_ok : (w : List ℕ) (c : Option (List ℕ)) → caught_in w ≡ Ok c → IsCaught w c
-caught_ok w c e = by (same_bytes w (codes "all")) refl e
+caught_ok w c e = by (bytes_eq w (codes "all")) refl e
   where
-    by : (t : Bool) → same_bytes w (codes "all") ≡ t → cond t (Ok None) (class_name_in w >>= λ name. Ok (Some name)) ≡ Ok c → IsCaught w c
+    by : (t : Bool) → bytes_eq w (codes "all") ≡ t → cond t (Ok None) (class_name_in w >>= λ name. Ok (Some name)) ≡ Ok c → IsCaught w c
     by true p h =
         let k : None ≡ c = cc in
-        rw (same_is w (codes "all") p, ← k) all
+        rw ((bytes_eq-Decides w (codes "all")).0 p, ← k) all
     by false p h =
         let one = bind_ok (class_name_in w) _ c h in
         let a = checked_ok is_class_name w one.0 one.1 in
@@ -171,7 +172,7 @@ behind_ok keyword items x e =
     let a = operand_ok (keyword_in keyword) items one.0 one.1 in
     let b = operand_ok label_in one.0.1 x one.2 in
     let c = checked_ok is_label b.word x.0 b.value in
-    let same = same_is a.word keyword (test_passed (same_bytes a.word keyword) tt fault.BadOperand one.0.0 a.value).0 in
+    let same = (bytes_eq-Decides a.word keyword).0 (test_passed (bytes_eq a.word keyword) tt fault.BadOperand one.0.0 a.value).0 in
     (cc (a.parts, same, b.parts, c.1), c.0)
 
 row_ok : (items : List Item) (x : Catch) → catch_from items ≡ Ok x → IsRow (Word (codes ".catch") ∷ items) (CatchRow x.class x.from x.to x.handler ∷ [])
@@ -214,13 +215,13 @@ unfolding end_from
 end_words [] rest e = absurd cc
 end_words (t ∷ after) rest e =
     let one = bind_ok (first_word fault.LeftOut t) _ rest e in
-    ap (λ (i : Item). i ∷ after) (first_is fault.LeftOut t one.0 one.1) ∙ by one.0 after (same_bytes one.0.0 (codes "method")) refl one.2
+    ap (λ (i : Item). i ∷ after) (first_is fault.LeftOut t one.0 one.1) ∙ by one.0 after (bytes_eq one.0.0 (codes "method")) refl one.2
   where
-    by : (w : List ℕ × Bool) (others : List Item) (t : Bool) → same_bytes w.0 (codes "method") ≡ t → end_by t w others ≡ Ok rest → item_of w ∷ others ≡ Word (codes "method") ∷ rest
+    by : (w : List ℕ × Bool) (others : List Item) (t : Bool) → bytes_eq w.0 (codes "method") ≡ t → end_by t w others ≡ Ok rest → item_of w ∷ others ≡ Word (codes "method") ∷ rest
     by w others false p h = absurd cc
     by w others true p h =
         let one = bind_ok (within_limit w.1) _ rest h in
-        cc (short_word w (within_ok w.1 one.0 one.1), same_is w.0 (codes "method") p, one.2)
+        cc (short_word w (within_ok w.1 one.0 one.1), (bytes_eq-Decides w.0 (codes "method")).0 p, one.2)
 
 nothing_left : (r s : Reader) (rest : List Item) (o : Option Body) → ended_by r rest o ≡ Ok s → rest ≡ []
 nothing_left r s rest None e = absurd cc

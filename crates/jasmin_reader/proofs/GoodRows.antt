@@ -3,11 +3,12 @@ use Rattle.std.proofs.Common.{◌≡◌, ℕ, ◌+◌, Bool, true, false, not, �
 use Rattle.std.specs.Prelude.{int_lt}
 use Rattle.std.specs.List.{list_all}
 use Rattle.std.proofs.lemmas.Bool.{and_from, and_parts}
+use Rattle.std.specs.Str.{bytes_eq}
 use Rattle.descriptors.specs.Signature.{Signature}
 use Rattle.descriptors.specs.Spelling.{method_spelling}
 use Rattle.descriptors.specs.declared.field.FieldType.{FieldType}
 use Rattle.jasmin_words.specs.Lexing.{Item, Word, fits}
-use Rattle.jasmin_words.specs.Names.{same_bytes, is_member_name}
+use Rattle.jasmin_words.specs.Names.{is_member_name}
 use Rattle.jasmin_words.specs.Spelling.{AreLexed}
 use Rattle.jasmin_text.specs.Forms.{forms, form_at}
 use Rattle.jasmin_text.specs.Grammar.{IsMemberWord, IsMethodWord, IsDescriptor, IsOperands, number, byte, short, int, text, local, local_at, increment, field, call, interface, counted, new, class, array, IsInstructionLine, simple, table, table_to, lookup, IsValue, none, signature, IsCaught, all, IsRow, super, implements, method, stack, locals, catch, labelled, operation, case, Row, ClassRow, SuperRow, ImplementsRow, FieldRow, MethodRow, StackRow, LocalsRow, CatchRow, InstructionRow, TableRow, CaseRow, Cases}
@@ -73,7 +74,7 @@ sizes_push (j ∷ is) i = let ih = sizes_push is i in omega (arith, ih)
 
 -- JVMS SE 8 2.9 and 4.6: what no method's head has
 abbrev pub fits_head : Access → List ℕ → Signature → Bool
-fits_head a name type = not (a.is_abstract && a.is_static) && not (same_bytes name (codes "<clinit>") && not (may_initialize a type))
+fits_head a name type = not (a.is_abstract && a.is_static) && not (bytes_eq name (codes "<clinit>") && not (may_initialize a type))
 
 -- the head of a method that a file can spell
 unfoldable pub is_head : Access → List ℕ → Signature → Bool
@@ -111,7 +112,7 @@ is_form other = true
 
 pub find_good : {T : Type 0} (p : T → Bool) (w : List ℕ) (rows : List (List ℕ × T)) (x : T) → list_all (λ r. p r.1) rows ≡ true → find_row w rows ≡ Some x → p x ≡ true
 find_good p w [] x h e = absurd cc
-find_good {T} p w (r ∷ rs) x h e = let parts = and_parts (p r.1) (list_all (λ r. p r.1) rs) h in by (same_bytes w r.0) (λ found. find_good p w rs x parts.1 found) parts.0 e
+find_good {T} p w (r ∷ rs) x h e = let parts = and_parts (p r.1) (list_all (λ r. p r.1) rs) h in by (bytes_eq w r.0) (λ found. find_good p w rs x parts.1 found) parts.0 e
   where
     by : (t : Bool) → (find_row w rs ≡ Some x → p x ≡ true) → p r.1 ≡ true → cond t (Some r.1) (find_row w rs) ≡ Some x → p x ≡ true
     by true later first e = cc (e, first)

@@ -1,6 +1,8 @@
 -- Lines that name a class, a field or a method, both ways: those that are read are lines of the grammar, and those are read.
 use Rattle.std.proofs.Common.{◌≡◌, ℕ, Bool, true, false, not, ◌&&◌, cond, eqb, List, [], ◌∷◌, ◌++◌, map, Option, Some, Result, Ok, Err, refl, sym, ap, ◌∙◌, codes}
 use Rattle.std.proofs.lemmas.Bool.{and_from, and_right, not_from_false, false_from_ne_true, and_parts, not-true}
+use Rattle.std.proofs.lemmas.Slice.Eq.{bytes_eq-Decides}
+use Rattle.std.specs.Str.{bytes_eq}
 use Rattle.descriptors.specs.ClassName.{is_class_name, IsClassName}
 use Rattle.descriptors.specs.Reading.{field_of_text, array_at, element_at}
 use Rattle.descriptors.specs.Signature.{Signature}
@@ -12,7 +14,7 @@ use Rattle.jasmin_words.specs.declared.fault.FaultKind.TheVariants as fault
 use Rattle.sequence.specs.Gives.{◌>>=◌}
 use Rattle.sequence.proofs.Results.{not_refused, bind_ok, given}
 use Rattle.jasmin_words.specs.Lexing.{Item, Word, Equals, Text}
-use Rattle.jasmin_words.specs.Names.{same_bytes, is_member_name, IsMemberName}
+use Rattle.jasmin_words.specs.Names.{is_member_name, IsMemberName}
 use Rattle.jasmin_text.specs.Tables.{access_of, member_access_of, is_member_word, is_access_word}
 use Rattle.jasmin_text.specs.Spellable.{is_int_type, is_string_type, is_taken}
 use Rattle.jasmin_text.specs.Grammar.{no_access, IsAccess, IsMemberAccess, IsClassAccess, IsDescriptor, IsValue, begins_with_word as grammar_word, none, int, text, signature, IsRow, class, interface, field, method, Row, ClassRow, FieldRow, MethodRow}
@@ -29,7 +31,6 @@ use Rattle.jasmin_reader.specs.Places.{within_limit, operand, string_from, ended
 use Rattle.jasmin_reader.specs.Operands.{class_name_in, member_name_in, integer_in, type_in, typed_in}
 use Rattle.jasmin_reader.specs.Heads.{start, no_access_in, named_from, begins_with_part, is_before_name, kind_at, class_from, constant_for, value_at, value_from, is_signature, described_from, field_from, may_initialize, fits_initializer, method_from}
 use Rattle.jasmin_reader.proofs.AccessWords.{short_word, within_ok, no_access_word, passed_over, knows, is_access_at, Words, class_access, class_words, simple_access, simple_words, Found, Named, named_ok, named_read, word_behind}
-use Rattle.jasmin_text.proofs.WordBytes.{same_is}
 use Rattle.jasmin_reader.proofs.GoodRows.{fits_head, is_typed, is_headed}
 use Rattle.jasmin_reader.proofs.OperandForms.{ended_ok, operand_ok}
 use Rattle.jasmin_reader.proofs.Words.{access_lacks, lacks, type_read, typed_read, member_lacks, checked_ok, integer_ok, type_ok, typed_ok}
@@ -65,7 +66,7 @@ class_ok p items r e =
 pub class_taken : (items : List Item) (r : HeadWords × List ℕ) → class_from place.Class items ≡ Ok r → IsHeadedRow (Word (codes ".class") ∷ items) (ClassRow r.0.kind r.0.access r.1)
 class_taken items r e =
     let (before, words, parts, is_name, free) = class_ok place.Class items r e in
-    let none_of = neither (same_bytes r.1 (codes "interface")) (is_access_word r.1) free in
+    let none_of = neither (bytes_eq r.1 (codes "interface")) (is_access_word r.1) free in
     (class (map Word before) parts (class_access words) is_name none_of.0, elim r.0.kind as (λ k. not (is_taken k r.1) ≡ true) [ kind.Class ↦ ap not free | kind.Interface ↦ ap not none_of.1 ])
   where
     neither : (s t : Bool) → cond s true t ≡ false → (s ≡ false) × (t ≡ false)
@@ -130,15 +131,15 @@ value_at_ok type items v e = absurd cc
 
 value_ok : (type : FieldType) (items : List Item) (v : Option Constant) → value_from type items ≡ Ok v → IsTypedValue type items v
 unfolding value_from
-value_ok type (Word w ∷ rest) v e = by (same_bytes w (codes "signature")) refl e
+value_ok type (Word w ∷ rest) v e = by (bytes_eq w (codes "signature")) refl e
   where
-    by : (t : Bool) → same_bytes w (codes "signature") ≡ t → (cond t (string_from rest >>= λ t. Ok t.1) (Ok (Word w ∷ rest)) >>= value_at type) ≡ Ok v → IsTypedValue type (Word w ∷ rest) v
+    by : (t : Bool) → bytes_eq w (codes "signature") ≡ t → (cond t (string_from rest >>= λ t. Ok t.1) (Ok (Word w ∷ rest)) >>= value_at type) ≡ Ok v → IsTypedValue type (Word w ∷ rest) v
     by true p h =
         let one = bind_ok (string_from rest >>= λ t. Ok t.1) _ v h in
         let two = bind_ok (string_from rest) _ one.0 one.1 in
         let behind = value_at_ok type one.0 v one.2 in
         let parts : rest ≡ Text two.0.0 ∷ one.0 = cc (string_ok rest two.0 two.1, two.2) in
-        rw (same_is w (codes "signature") p, parts) (signature behind.0.0 behind.1, behind.0.1)
+        rw ((bytes_eq-Decides w (codes "signature")).0 p, parts) (signature behind.0.0 behind.1, behind.0.1)
     by false p h = absurd cc
 value_ok type items v e = (value_at_ok type items v e).0
 
@@ -173,16 +174,16 @@ field_taken items f e =
     given (λ g. IsHeadedRow (Word (codes ".field") ∷ items) (FieldRow g)) four.2
     (field (map Word n.0) three.0.1 t.word parts are c.0 (type_ok t.word three.0.0 t.value) v.0, and_from _ _ (not_from_false _ free) v.1)
 
-descriptor_no_signature : (w : List ℕ) (t : FieldType) → IsDescriptor w t → same_bytes w (codes "signature") ≡ false
+descriptor_no_signature : (w : List ℕ) (t : FieldType) → IsDescriptor w t → bytes_eq w (codes "signature") ≡ false
 unfolding type_in field_of_text array_at element_at
 descriptor_no_signature w t d = false_from_ne_true _ (λ e.
-    let read : type_in (codes "signature") ≡ Ok t = ap type_in (sym (same_is w (codes "signature") e)) ∙ type_read w t d in
+    let read : type_in (codes "signature") ≡ Ok t = ap type_in (sym ((bytes_eq-Decides w (codes "signature")).0 e)) ∙ type_read w t d in
     let unread : type_in (codes "signature") ≡ Err fault.BadDescriptor = refl in
     absurd cc)
 
 -- a word before a word is a part
 part : (w v : List ℕ) (items : List Item) → begins_with_part (Word w ∷ Word v ∷ items) ≡ true
-part w v items = rw (and_right (same_bytes w (codes "signature")) false refl) refl
+part w v items = rw (and_right (bytes_eq w (codes "signature")) false refl) refl
 
 field_before : (name w : List ℕ) (rest : List Item) → begins_with_part (Word w ∷ rest) ≡ true → (ws : List (List ℕ)) → is_before_name place.Field (map Word ws ++ Word name ∷ Word w ∷ rest) ≡ true
 field_before name w rest last [] = rw (part name w rest) last
@@ -217,7 +218,7 @@ method_taken items r e =
     let item = short_word x.1.0 (within_ok x.1.0.1 two.0 two.1) in
     let parts : items ≡ map Word n.0 ++ Word x.1.0.0 ∷ [] = cc (n.2, item, ended_ok x.1.1 four.0 four.1) in
     let spelled : x.1.0.0 ≡ one.0.0 ++ method_spelling one.0.1 = cc (t.parts, c.1) in
-    let starts = not_refused (same_bytes one.0.0 (codes "<clinit>") && not (may_initialize x.0.access one.0.1)) fault.BadInitializer (Ok tt) three.0 three.1 in
+    let starts = not_refused (bytes_eq one.0.0 (codes "<clinit>") && not (may_initialize x.0.access one.0.1)) fault.BadInitializer (Ok tt) three.0 three.1 in
     let are = simple_access place.Method member_access_of knows.2 n.1 in
     let head : fits_head x.0.access one.0.0 one.0.1 ≡ true = and_from _ _ (are.2 refl) (not_from_false _ starts.0) in
     given (λ m. IsHeadedRow (Word (codes ".method") ∷ items) (MethodRow m.0 m.1.0 m.1.1)) four.2 (method (map Word n.0) x.1.0.0 parts spelled are.0 c.0 t.type, head)
@@ -230,7 +231,7 @@ pub method_head : (items before : List Item) (w : List ℕ) (a : Access) (name :
     → IsMemberAccess before a → IsMemberName name → IsMethodType type → fits_head a name type ≡ true → method_from items ≡ Ok (a, (name, type))
 unfolding method_from
 method_head items before w a name type e spelled is h m fits =
-    let p = and_parts (not (a.is_abstract && a.is_static)) (not (same_bytes name (codes "<clinit>") && not (may_initialize a type))) fits in
+    let p = and_parts (not (a.is_abstract && a.is_static)) (not (bytes_eq name (codes "<clinit>") && not (may_initialize a type))) fits in
     let bare = member_lacks 40 refl refl refl name h in
     let name_read : member_name_in name ≡ Ok name = rw h refl in
     let typed : typed_in member_name_in w ≡ Ok (name, type) = rw spelled (typed_read member_name_in name type name bare name_read m) in

@@ -1,18 +1,11 @@
 -- Labels beside their places, found by their bytes.
-use Rattle.std.proofs.Common.{◌≡◌, ℕ, suc, ◌+◌, Bool, true, false, cond, ◌&&◌, eqb, inl, inr, List, [], ◌∷◌, ◌++◌, Option, Some, None, length, slice_get, refl, sym, ap, ◌∙◌, arith, append_assoc, length-append}
+use Rattle.std.proofs.Common.{◌≡◌, ℕ, suc, ◌+◌, Bool, true, false, cond, inl, inr, List, [], ◌∷◌, ◌++◌, Option, Some, None, length, slice_get, refl, sym, ap, ◌∙◌, arith, append_assoc, length-append}
 use Rattle.std.proofs.lemmas.Bool.{cases_Bool}
 use Rattle.std.proofs.lemmas.Iterator.Adapters.{position_from-zero}
 use Rattle.std.specs.List.{position_from, zip}
 use Rattle.std.specs.Str.{bytes_eq}
-use Rattle.jasmin_words.specs.Names.{same_bytes}
 use Rattle.jasmin_text.specs.Tables.{find_row}
 use Rattle.texts.specs.Texts.{has_text, note_text, place_of_text}
-
-bytes-same : (xs ys : List ℕ) → bytes_eq xs ys ≡ same_bytes xs ys
-bytes-same [] [] = refl
-bytes-same [] (y ∷ ys) = refl
-bytes-same (x ∷ xs) [] = refl
-bytes-same (x ∷ xs) (y ∷ ys) = ap (λ b. eqb x y && b) (bytes-same xs ys)
 
 abbrev at_place : List ℕ → Option ℕ → Option ℕ
 at_place places None = None
@@ -54,9 +47,9 @@ new_name : (w : List ℕ) (names : List (List ℕ)) (places : List ℕ) → leng
 new_name w [] places l h = refl
 new_name w (t ∷ names) [] l h = absurd (omega (arith, l))
 new_name w (t ∷ names) (n ∷ places) l h =
-    let off = skipped (same_bytes w t) n (find_row w (zip names places)) h in
+    let off = skipped (bytes_eq w t) n (find_row w (zip names places)) h in
     let fewer : length names ≡ length places = omega (arith, l) in
-    rw (bytes-same w t ∙ off.0) (new_name w names places fewer off.1)
+    rw off.0 (new_name w names places fewer off.1)
 
 -- a new label's name is noted at the end
 pub new_noted : (w : List ℕ) (names : List (List ℕ)) (places : List ℕ) → length names ≡ length places → find_row w (zip names places) ≡ None → note_text names w ≡ names ++ w ∷ []

@@ -4,10 +4,10 @@ use Rattle.std.specs.List.{list_all}
 use Rattle.std.proofs.lemmas.Bool.{eqb-true, leb-true, le-leb, and_parts, not-true}
 use Rattle.std.proofs.lemmas.List.{nil_from_length, length_push}
 use Rattle.std.proofs.lemmas.List.Folds.{list_all-append, list_all-map}
+use Rattle.std.specs.Str.{bytes_eq}
 use Rattle.sequence.proofs.Results.{bind_ok, done, given, some_ok}
 use Rattle.jasmin_words.specs.declared.fault.FaultKind.{FaultKind}
 use Rattle.jasmin_words.specs.declared.fault.FaultKind.TheVariants as fault
-use Rattle.jasmin_words.specs.Names.{same_bytes}
 use Rattle.jasmin_text.specs.Grammar.{Row, TargetRow, DefaultRow, case_row, Cases, Catch, with_case, with_instruction as and_instruction, AreSorted, IsBody, stack, locals, catch, label, operation, Body as Added, Each, none, more, place_of, IsPlaceOf, IsPlacedCase, IsPlaced, plain, pushes, local, increment, jump, table, lookup, field, call, interface, new, new_array, type_use, IsPlacedRow, IsCodeOf, IsNoBody, IsCodeOrNone}
 use Rattle.jasmin_text.specs.Spellable.{is_int, is_caught, is_instruction, instruction_size, have_room, is_handler, is_code, is_optional_code, is_initializer, is_method}
 use Rattle.jasmin_text.specs.declared.class_text.Code.{Code}
@@ -151,7 +151,7 @@ starts false f = refl
 pub method_facts : (m : Method) → is_method m ≡ true → (fits_head m.access m.name m.method_type ≡ true) × (is_optional_code m.access.is_abstract m.code ≡ true)
 unfolding is_method
 method_facts m h =
-    let begins = same_bytes m.name (codes "<clinit>") in
+    let begins = bytes_eq m.name (codes "<clinit>") in
     let p = four _ (not (m.access.is_abstract && m.access.is_static)) (cond begins (is_initializer m) true) (is_optional_code m.access.is_abstract m.code) h in
     (rw (p.1, starts begins (is_initializer m), p.2) refl, p.3)
 
@@ -324,6 +324,6 @@ unfolding is_method is_head
 closed_good b m head g room e =
     let c = closed_ok b m e in
     let p = and_parts _ (fits_head b.access b.name b.method_type) head in
-    let begins = same_bytes b.name (codes "<clinit>") in
+    let begins = bytes_eq b.name (codes "<clinit>") in
     let q = and_parts (not (b.access.is_abstract && b.access.is_static)) (not (begins && not (may_initialize b.access b.method_type))) p.1 in
     subst (λ (m : Method). is_method m ≡ true) c.2 (rw (p.0, q.0, sym (starts begins (may_initialize b.access b.method_type)) ∙ q.1, code_good b m.code g room c.0 c.1) refl)

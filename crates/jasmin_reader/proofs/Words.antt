@@ -8,6 +8,8 @@ use Rattle.std.proofs.lemmas.Option.{cond_some}
 use Rattle.std.proofs.Math.Seq.{drop-append-add}
 use Rattle.std.proofs.Math.Nat.{pow-le-pow_right}
 use Rattle.std.proofs.lemmas.List.Folds.{list_all-append}
+use Rattle.std.proofs.lemmas.Slice.Eq.{bytes_eq-Decides}
+use Rattle.std.specs.Str.{bytes_eq}
 use Rattle.descriptors.specs.ClassName.{is_name_byte, with_byte, segments, is_class_name, IsClassName}
 use Rattle.descriptors.specs.Signature.{Signature}
 use Rattle.descriptors.specs.Spelling.{method_spelling, IsElementType, IsFieldType, IsMethodType}
@@ -21,7 +23,7 @@ use Rattle.jasmin_words.specs.declared.fault.FaultKind.{FaultKind}
 use Rattle.jasmin_words.specs.declared.fault.FaultKind.TheVariants as fault
 use Rattle.jasmin_words.specs.Integers.{magnitude_of, of_bits, integer_of, IsInteger, decimal, minus, bits}
 use Rattle.jasmin_words.specs.Lexing.{fits}
-use Rattle.jasmin_words.specs.Names.{same_bytes, is_name_byte as is_member_byte, is_member_name, IsMemberName, is_label}
+use Rattle.jasmin_words.specs.Names.{is_name_byte as is_member_byte, is_member_name, IsMemberName, is_label}
 use Rattle.jasmin_words.proofs.Numbers.{integer_is}
 use Rattle.sequence.proofs.Results.{in_at, bind_ok, some_ok, given, test_passed, not_refused}
 use Rattle.jasmin_text.specs.Forms.{form_at, forms, directive_at, directives}
@@ -30,7 +32,7 @@ use Rattle.jasmin_text.specs.Spellable.{is_int, is_short, is_type, is_element_ty
 use Rattle.jasmin_text.specs.Tables.{find_row, access_of, access_words, member_access_of}
 use Rattle.jasmin_text.specs.declared.form.Form.{Form}
 use Rattle.jasmin_text.specs.declared.instruction.MethodReference.{MethodReference}
-use Rattle.jasmin_text.proofs.WordBytes.{in_segments, split_byte, one_of, same_is}
+use Rattle.jasmin_text.proofs.WordBytes.{in_segments, split_byte, one_of}
 use Rattle.jasmin_reader.specs.Places.{both}
 use Rattle.jasmin_reader.specs.Operands.{checked, class_name_in, member_name_in, integer_in, int_in, number_between, number_in, by_descriptor, type_in, signature_in, slash_in, member_at, member_in, name_len, typed_in, method_in, begins_with}
 
@@ -164,8 +166,8 @@ class_lacks c slash none_here name h = segments_lack c slash none_here name (in_
 pub member_lacks : (c : ℕ) → lacks c (codes "<init>") ≡ true → lacks c (codes "<clinit>") ≡ true → is_member_byte c ≡ false → (name : List ℕ) → IsMemberName name → lacks c name ≡ true
 unfolding is_member_name
 member_lacks c i j none_here name h =
-    one_of (same_bytes name (codes "<init>")) (same_bytes name (codes "<clinit>")) _ (lacks c name ≡ true) h
-    (λ e. ap (lacks c) (same_is name _ e) ∙ i) (λ e. ap (lacks c) (same_is name _ e) ∙ j) (λ e. all_lack c is_member_byte none_here name (and_parts _ _ e).1)
+    one_of (bytes_eq name (codes "<init>")) (bytes_eq name (codes "<clinit>")) _ (lacks c name ≡ true) h
+    (λ e. ap (lacks c) ((bytes_eq-Decides name (codes "<init>")).0 e) ∙ i) (λ e. ap (lacks c) ((bytes_eq-Decides name (codes "<clinit>")).0 e) ∙ j) (λ e. all_lack c is_member_byte none_here name (and_parts _ _ e).1)
 
 -- ---- members: the last slash
 
@@ -264,17 +266,17 @@ AllRows P (r ∷ rows) = P r.0 r.1 × AllRows P rows
 -- what holds of each row holds of the word that was found and of what stands beside it
 pub find_ok : {X : Type 0} (P : List ℕ → X → Type 0) (w : List ℕ) (rows : List (List ℕ × X)) (x : X) → AllRows P rows → find_row w rows ≡ Some x → P w x
 find_ok P w [] x all e = absurd cc
-find_ok {X} P w (r ∷ rows) x all e = by (same_bytes w r.0) refl (find_ok P w rows x all.1) e
+find_ok {X} P w (r ∷ rows) x all e = by (bytes_eq w r.0) refl (find_ok P w rows x all.1) e
   where
-    by : (t : Bool) → same_bytes w r.0 ≡ t → (find_row w rows ≡ Some x → P w x) → cond t (Some r.1) (find_row w rows) ≡ Some x → P w x
-    by true p rest h = let value : r.1 ≡ x = cc in rw (same_is w r.0 p, ← value) all.0
+    by : (t : Bool) → bytes_eq w r.0 ≡ t → (find_row w rows ≡ Some x → P w x) → cond t (Some r.1) (find_row w rows) ≡ Some x → P w x
+    by true p rest h = let value : r.1 ≡ x = cc in rw ((bytes_eq-Decides w r.0).0 p, ← value) all.0
     by false p rest h = rest h
 
 find_none : {X : Type 0} (test : List ℕ → Bool) (w : List ℕ) → test w ≡ false → (rows : List (List ℕ × X)) → list_all (λ (r : List ℕ × X). test r.0) rows ≡ true → find_row w rows ≡ None
 find_none test w h [] k = refl
 find_none test w h (r ∷ rows) k =
     let p = and_parts (test r.0) _ k in
-    cond-false (same_bytes w r.0) _ _ (false_from_ne_true _ (λ s. cc (ap test (same_is w r.0 s), h, p.0))) ∙ find_none test w h rows p.1
+    cond-false (bytes_eq w r.0) _ _ (false_from_ne_true _ (λ s. cc (ap test ((bytes_eq-Decides w r.0).0 s), h, p.0))) ∙ find_none test w h rows p.1
 
 -- ---- words that a table lacks
 
@@ -305,6 +307,6 @@ integer_has_no_dot (b ∷ bs) n e = false_from_ne_true (eqb b 46) (λ h. cc (non
     none [] = refl
     none (c ∷ cs) = refl
 
-pub integer_not_default : (w : List ℕ) (n : ℤ) → integer_of w ≡ Some n → same_bytes w (codes "default") ≡ false
+pub integer_not_default : (w : List ℕ) (n : ℤ) → integer_of w ≡ Some n → bytes_eq w (codes "default") ≡ false
 unfolding integer_of magnitude_of
-integer_not_default w n e = false_from_ne_true _ (λ h. let none : integer_of (codes "default") ≡ None = refl in cc (none, ap integer_of (same_is w (codes "default") h), e))
+integer_not_default w n e = false_from_ne_true _ (λ h. let none : integer_of (codes "default") ≡ None = refl in cc (none, ap integer_of ((bytes_eq-Decides w (codes "default")).0 h), e))

@@ -1,11 +1,12 @@
 -- What the lines in a method add to it.
 use Rattle.std.specs.Prelude.{ℕ, Bool, true, false, not, ◌&&◌, List, [], ◌∷◌, ◌++◌, length, Option, Some, None, is_some, Result, Ok, Err, ◌==◌, if◌then◌else◌, ℤ, codes}
 use Rattle.std.specs.Option.{ok_or}
+use Rattle.std.specs.Str.{bytes_eq}
 use Rattle.jasmin_words.specs.declared.fault.FaultKind.{FaultKind}
 use Rattle.jasmin_words.specs.declared.fault.FaultKind.TheVariants as fault
 use Rattle.sequence.specs.Gives.{◌>>=◌}
 use Rattle.jasmin_words.specs.Lexing.{Item}
-use Rattle.jasmin_words.specs.Names.{is_label, same_bytes}
+use Rattle.jasmin_words.specs.Names.{is_label}
 use Rattle.jasmin_text.specs.Forms.{directive_at}
 use Rattle.jasmin_text.specs.Grammar.{place_of}
 use Rattle.jasmin_text.specs.declared.class_text.Code.{Code}
@@ -48,7 +49,7 @@ end_by false w rest = Err fault.LeftOut
 -- what stands behind .end; whatever else than the word method stands there is left out
 unfoldable pub end_from : List Item → Result (List Item) FaultKind
 end_from [] = Err fault.BadOperand
-end_from (t ∷ rest) = first_word fault.LeftOut t >>= λ w. end_by (same_bytes w.0 (codes "method")) w rest
+end_from (t ∷ rest) = first_word fault.LeftOut t >>= λ w. end_by (bytes_eq w.0 (codes "method")) w rest
 
 -- a directive where none may stand; of .end the next word is looked at
 unfoldable pub no_directive : Directive → List Item → FaultKind
@@ -89,7 +90,7 @@ limit_by b false true rest = last_operand limit_in rest >>= λ n. Ok (record b {
 limit_by b false false rest = Err fault.BadOperand
 
 abbrev pub limit_word : Body → List ℕ × Bool → List Item → Result Body FaultKind
-limit_word b w rest = limit_by b (same_bytes w.0 (codes "stack") && not w.1) (same_bytes w.0 (codes "locals") && not w.1) rest
+limit_word b w rest = limit_by b (bytes_eq w.0 (codes "stack") && not w.1) (bytes_eq w.0 (codes "locals") && not w.1) rest
 
 -- the limit of the stack, or of the locals
 abbrev pub with_limit : Body → Bool → ℕ → Body
@@ -104,11 +105,11 @@ unfoldable pub limit_at : Body → List Item → Result Body FaultKind
 limit_at b items = outside_switch b >>= λ _. limit_from b items
 
 abbrev pub caught_in : List ℕ → Result (Option (List ℕ)) FaultKind
-caught_in w = if same_bytes w (codes "all") then Ok None else class_name_in w >>= λ name. Ok (Some name)
+caught_in w = if bytes_eq w (codes "all") then Ok None else class_name_in w >>= λ name. Ok (Some name)
 
 -- this word
 abbrev pub keyword_in : List ℕ → List ℕ → Result (Unit {0}) FaultKind
-keyword_in keyword w = if same_bytes w keyword then Ok tt else Err fault.BadOperand
+keyword_in keyword w = if bytes_eq w keyword then Ok tt else Err fault.BadOperand
 
 -- a label behind this word
 abbrev pub label_behind : List ℕ → List Item → Result (List ℕ × List Item) FaultKind

@@ -2,13 +2,13 @@
 use Rattle.std.specs.Prelude.{ℕ, Bool, true, false, not, ◌&&◌, List, [], ◌∷◌, Option, Some, None, is_some, Result, Ok, Err, ◌==◌, if◌then◌else◌, length, codes}
 use Rattle.std.specs.List.{list_any}
 use Rattle.std.specs.Option.{option_map, ok_or}
+use Rattle.std.specs.Str.{bytes_eq}
 use Rattle.descriptors.specs.Signature.{Signature}
 use Rattle.descriptors.specs.declared.field.FieldType.{FieldType}
 use Rattle.jasmin_words.specs.declared.fault.FaultKind.{FaultKind}
 use Rattle.jasmin_words.specs.declared.fault.FaultKind.TheVariants as fault
 use Rattle.sequence.specs.Gives.{◌>>=◌}
 use Rattle.jasmin_words.specs.Lexing.{Item, Word, LongWord, BadWord, Equals}
-use Rattle.jasmin_words.specs.Names.{same_bytes}
 use Rattle.jasmin_text.specs.Spellable.{is_int_type, is_string_type}
 use Rattle.jasmin_text.specs.Tables.{access_of, member_access_of}
 use Rattle.jasmin_text.specs.Grammar.{no_access, with_word as more_access, is_taken_in}
@@ -52,7 +52,7 @@ with_class_word p words (class_word.Access a) = with_access words.access a >>= �
 
 -- what the word says behind .class, if it is an access word there
 unfoldable pub class_word_at : List ℕ → Option ClassWord
-class_word_at w = if same_bytes w (codes "interface") then Some class_word.Interface else option_map class_word.Access (access_of w)
+class_word_at w = if bytes_eq w (codes "interface") then Some class_word.Interface else option_map class_word.Access (access_of w)
 
 -- what a word says before a name: the word interface is one more access word, but not behind .interface
 unfoldable pub head_word_at : Place → List ℕ → Option ClassWord
@@ -79,7 +79,7 @@ begins_with_word (t ∷ rest) = is_word t
 
 -- signature ends the words of a field unless a word follows
 abbrev pub is_signature : List Item → Bool
-is_signature (Word w ∷ rest) = same_bytes w (codes "signature") && not (begins_with_word rest)
+is_signature (Word w ∷ rest) = bytes_eq w (codes "signature") && not (begins_with_word rest)
 is_signature other = false
 
 -- a word that belongs to the access words, the name and the descriptor of a field
@@ -127,7 +127,7 @@ class_from p items = named_from p (start (kind_at p)) items >>= λ n.
 
 -- one signature may stand behind the descriptor; it is skipped
 abbrev pub behind_signature : List Item → Result (List Item) FaultKind
-behind_signature (Word w ∷ rest) = if same_bytes w (codes "signature") then (string_from rest >>= λ t. Ok t.1) else Ok (Word w ∷ rest)
+behind_signature (Word w ∷ rest) = if bytes_eq w (codes "signature") then (string_from rest >>= λ t. Ok t.1) else Ok (Word w ∷ rest)
 behind_signature items = Ok items
 
 -- a value of a type
@@ -167,7 +167,7 @@ abbrev pub may_initialize : Access → Signature → Bool
 may_initialize a m = a.is_static && length m.parameters == 0 && not (is_some m.result)
 
 abbrev pub fits_initializer : Access → List ℕ × Signature → Result (Unit {0}) FaultKind
-fits_initializer a m = if same_bytes m.0 (codes "<clinit>") && not (may_initialize a m.1) then Err fault.BadInitializer else Ok tt
+fits_initializer a m = if bytes_eq m.0 (codes "<clinit>") && not (may_initialize a m.1) then Err fault.BadInitializer else Ok tt
 
 -- the method with this name and type, at the line's end
 abbrev pub method_there : Access → List ℕ × Signature → Bool → List Item → Result (Access × (List ℕ × Signature)) FaultKind

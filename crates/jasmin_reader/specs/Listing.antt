@@ -3,11 +3,11 @@ use Rattle.std.specs.Prelude.{ℕ, ◌+◌, ◌-◌, ◌≤◌, Bool, not, ◌&&
 use Rattle.std.specs.BTreeMap.{insert_entry, is_at}
 use Rattle.std.specs.Map.{lookup}
 use Rattle.std.specs.Ordering.{int_cmp}
+use Rattle.std.specs.Str.{bytes_eq}
 use Rattle.jasmin_words.specs.declared.fault.FaultKind.{FaultKind}
 use Rattle.jasmin_words.specs.declared.fault.FaultKind.TheVariants as fault
 use Rattle.sequence.specs.Gives.{◌>>=◌}
 use Rattle.jasmin_words.specs.Lexing.{Item, Colon}
-use Rattle.jasmin_words.specs.Names.{same_bytes}
 use Rattle.jasmin_text.specs.Forms.{form_at, is_left_out}
 use Rattle.jasmin_text.specs.declared.form.Form.{Form}
 use Rattle.jasmin_text.specs.declared.instruction.Instruction.{Instruction}
@@ -81,7 +81,7 @@ colon_from (Colon ∷ rest) = Ok rest
 colon_from (other ∷ rest) = Err (misplaced other)
 
 abbrev pub is_default : List ℕ × Bool → Bool
-is_default w = same_bytes w.0 (codes "default") && not w.1
+is_default w = bytes_eq w.0 (codes "default") && not w.1
 
 -- where a last key is given, each key has one label
 abbrev pub less_room : Option ℕ → Result (Option ℕ) FaultKind

@@ -4,13 +4,14 @@ use Rattle.std.specs.Prelude.{pos, negsuc, ℤ, codes, nat_le, FitsSigned}
 use Rattle.std.specs.Int.{w32}
 use Rattle.std.specs.List.{list_all}
 use Rattle.std.specs.Fmt.{signed_decimal}
-use Rattle.std.specs.Str.{is_utf8}
+use Rattle.std.specs.Str.{is_utf8, bytes_eq}
 use Rattle.std.proofs.lemmas.Bool.{and_parts, leb-true, ltb-true, not-true, false_from_ne_true}
+use Rattle.std.proofs.lemmas.Slice.Eq.{bytes_eq-Decides}
 use Rattle.descriptors.specs.ClassName.{is_class_name}
 use Rattle.descriptors.specs.Spelling.{field_spelling, method_spelling}
 use Rattle.descriptors.specs.declared.field.FieldType.{FieldType}
 use Rattle.jasmin_words.specs.Lexing.{Item, Word, Equals, Text, fits}
-use Rattle.jasmin_words.specs.Names.{same_bytes, is_name_byte, is_some_byte, is_member_name}
+use Rattle.jasmin_words.specs.Names.{is_name_byte, is_some_byte, is_member_name}
 use Rattle.jasmin_words.specs.Spelling.{Ends, is_word_byte, IsWord}
 use Rattle.jasmin_words.proofs.Numbers.{written_again}
 use Rattle.jasmin_text.specs.Keywords.{spelled}
@@ -31,7 +32,7 @@ use Rattle.jasmin_text.specs.declared.class_text.Field.{Field}
 use Rattle.jasmin_text.specs.declared.class_text.Method.{Method}
 use Rattle.jasmin_text.proofs.Conditions.{five, nine}
 use Rattle.jasmin_text.proofs.Written.{IsWritten, IsLine, said, last_word, last_text, ends, blank, equals, word as a_word}
-use Rattle.jasmin_text.proofs.WordBytes.{IsWordText, joined_words, member_name_word, method_word, one_of, same_is}
+use Rattle.jasmin_text.proofs.WordBytes.{IsWordText, joined_words, member_name_word, method_word, one_of}
 use Rattle.jasmin_text.proofs.Rows.{IsFixed, class_is_word}
 use Rattle.jasmin_text.proofs.Operands.{int_fixed, descriptor_is_word, is_type_of, class_first, is_signature}
 
@@ -79,10 +80,10 @@ class_access : (a b : Access) (items : List Item) → IsAccessBy access_of a ite
 class_access a b items none = none
 class_access a b items (more {k} {rest} e t h) = more e t (class_access (with_word k a) b rest h)
 
-pub access_not_interface : (w : List ℕ) (a : AccessWord) → access_of w ≡ Some a → same_bytes w (codes "interface") ≡ false
+pub access_not_interface : (w : List ℕ) (a : AccessWord) → access_of w ≡ Some a → bytes_eq w (codes "interface") ≡ false
 unfolding access_of access_words
-access_not_interface w a e = false_from_ne_true (same_bytes w (codes "interface")) (λ h.
-    let is : access_of w ≡ access_of (codes "interface") = ap access_of (same_is w (codes "interface") h) in
+access_not_interface w a e = false_from_ne_true (bytes_eq w (codes "interface")) (λ h.
+    let is : access_of w ≡ access_of (codes "interface") = ap access_of ((bytes_eq-Decides w (codes "interface")).0 h) in
     let none : access_of (codes "interface") ≡ None = refl in
     cc)
 
@@ -138,8 +139,8 @@ access_tail a rest items t =
 class_tail : (a : Access) (name : List ℕ) → is_class_name name ≡ true → fits name ≡ true → IsTail (access_text a ++ 32 ∷ name) (access_items a ++ Word name ∷ [])
 class_tail a name h f = access_tail a (32 ∷ name) (Word name ∷ []) (record { parts = refl; written = blank refl (last_word true name (class_is_word true name h) f) })
 
-not_interface : (name : List ℕ) → is_taken kind.Class name ≡ false → same_bytes name (codes "interface") ≡ false
-not_interface name h = false_from_ne_true (same_bytes name (codes "interface")) (λ e. let taken : is_taken kind.Class name ≡ true = rw e refl in cc)
+not_interface : (name : List ℕ) → is_taken kind.Class name ≡ false → bytes_eq name (codes "interface") ≡ false
+not_interface name h = false_from_ne_true (bytes_eq name (codes "interface")) (λ e. let taken : is_taken kind.Class name ≡ true = rw e refl in cc)
 
 pub class_row : (k : ClassKind) (a : Access) (name : List ℕ) → is_class_name name ≡ true → fits name ≡ true → is_taken k name ≡ false → IsLine (class_line k a name) (ClassRow k a name ∷ [])
 unfolding class_line spelled
@@ -170,9 +171,9 @@ plain_name fresh (b ∷ bs) h w = (rw (name_start b (and_parts (is_name_byte b) 
 pub member_is_word : (fresh : Bool) (name : List ℕ) → is_member_name name ≡ true → IsWord fresh name
 unfolding is_member_name
 member_is_word fresh name h =
-    one_of (same_bytes name (codes "<init>")) (same_bytes name (codes "<clinit>")) (is_some_byte name && list_all is_name_byte name) (IsWord fresh name) h
-    (λ e. subst (IsWord fresh) (sym (same_is name (codes "<init>") e)) (refl, refl))
-    (λ e. subst (IsWord fresh) (sym (same_is name (codes "<clinit>") e)) (refl, refl))
+    one_of (bytes_eq name (codes "<init>")) (bytes_eq name (codes "<clinit>")) (is_some_byte name && list_all is_name_byte name) (IsWord fresh name) h
+    (λ e. subst (IsWord fresh) (sym ((bytes_eq-Decides name (codes "<init>")).0 e)) (refl, refl))
+    (λ e. subst (IsWord fresh) (sym ((bytes_eq-Decides name (codes "<clinit>")).0 e)) (refl, refl))
     (λ e. plain_name fresh name e (member_name_word name h))
 
 abbrev value_items : Option Constant → List Item

@@ -3,10 +3,11 @@ use Rattle.std.proofs.Common.{◌≡◌, ℕ, ◌-◌, Bool, true, not, ◌&&◌
 use Rattle.std.specs.Prelude.{nat_le, codes}
 use Rattle.std.specs.List.{list_all, flat_map}
 use Rattle.std.proofs.lemmas.Bool.{and_parts, not-true}
+use Rattle.std.specs.Str.{bytes_eq}
 use Rattle.descriptors.specs.ClassName.{is_class_name}
 use Rattle.descriptors.specs.Spelling.{method_spelling}
 use Rattle.jasmin_words.specs.Lexing.{fits}
-use Rattle.jasmin_words.specs.Names.{same_bytes, is_member_name}
+use Rattle.jasmin_words.specs.Names.{is_member_name}
 use Rattle.jasmin_text.specs.Keywords.{spelled}
 use Rattle.jasmin_text.specs.Lines.{lines_of}
 use Rattle.jasmin_text.specs.Canonical.{class_line, super_line, implements_line, field_line, method_line, optional_code_lines, method_lines, class_lines, canonical_text}
@@ -63,7 +64,7 @@ good_method : (m : Method) → is_method m ≡ true → IsGoodMethod m
 unfolding is_method
 good_method m h =
     let p = six (is_member_name m.name) (is_method_type m.method_type) (fits (m.name ++ method_spelling m.method_type)) (not (m.access.is_abstract && m.access.is_static))
-    (cond (same_bytes m.name (codes "<clinit>")) (is_initializer m) true) (is_optional_code m.access.is_abstract m.code) h in
+    (cond (bytes_eq m.name (codes "<clinit>")) (is_initializer m) true) (is_optional_code m.access.is_abstract m.code) h in
     record { name = p.0; type = p.1; fit = p.2; code = p.5 }
 
 method_are : (m : Method) → is_method m ≡ true → AreLines (method_lines m) (method_rows m)

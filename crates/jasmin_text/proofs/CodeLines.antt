@@ -4,10 +4,11 @@ use Rattle.std.specs.Prelude.{pos, negsuc, ℤ, codes, FitsSigned}
 use Rattle.std.specs.Int.{w32}
 use Rattle.std.specs.Fmt.{decimal, signed_decimal}
 use Rattle.std.proofs.lemmas.Bool.{and_parts, le-leb, ltb-true, not-true}
+use Rattle.std.specs.Str.{bytes_eq}
 use Rattle.descriptors.specs.ClassName.{is_class_name}
 use Rattle.descriptors.specs.Spelling.{method_spelling}
 use Rattle.jasmin_words.specs.Lexing.{Word, Colon, fits}
-use Rattle.jasmin_words.specs.Names.{same_bytes, is_member_name}
+use Rattle.jasmin_words.specs.Names.{is_member_name}
 use Rattle.jasmin_words.proofs.Numbers.{written_again}
 use Rattle.jasmin_text.specs.Forms.{form_at, forms, word_of}
 use Rattle.jasmin_text.specs.Keywords.{spelled}
@@ -29,7 +30,7 @@ caught_fixed : (class : Option (List ℕ)) → is_caught class ≡ true → IsFi
 unfolding spelled
 caught_fixed None h = ((refl, refl), refl)
 caught_fixed (Some name) h =
-    let p = and_parts (is_class_word name) (not (same_bytes name (codes "all"))) h in
+    let p = and_parts (is_class_word name) (not (bytes_eq name (codes "all"))) h in
     let q = and_parts (is_class_name name) (fits name) p.0 in
     (class_is_word true name q.0, q.1)
 
@@ -37,8 +38,8 @@ caught_is : (class : Option (List ℕ)) → is_caught class ≡ true → IsCaugh
 unfolding spelled
 caught_is None h = all
 caught_is (Some name) h =
-    let p = and_parts (is_class_word name) (not (same_bytes name (codes "all"))) h in
-    class (not-true (same_bytes name (codes "all")) p.1) (and_parts (is_class_name name) (fits name) p.0).0
+    let p = and_parts (is_class_word name) (not (bytes_eq name (codes "all"))) h in
+    class (not-true (bytes_eq name (codes "all")) p.1) (and_parts (is_class_name name) (fits name) p.0).0
 
 handler_spaced : (h : Handler) → handler_line h
     ≡ codes ".catch " ++ (caught_text h.class ++ (codes " from " ++ (label_text h.from ++ (codes " to " ++ (label_text h.to ++ (codes " using " ++ label_text h.handler))))))

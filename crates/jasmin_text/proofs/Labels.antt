@@ -1,15 +1,15 @@
 -- The labels of places: each place has its own, and a place that is named is found by its label.
-use Rattle.std.proofs.Common.{◌≡◌, ℕ, ◌+◌, ◌<◌, ◌≤◌, Bool, true, false, cond, eqb, List, [], ◌∷◌, ◌++◌, length, Some, None, inl, inr, refl, sym, subst, ap, ◌∙◌, arith}
+use Rattle.std.proofs.Common.{◌≡◌, ℕ, ◌+◌, ◌<◌, ◌≤◌, Bool, true, false, cond, List, [], ◌∷◌, ◌++◌, length, Some, None, inl, inr, refl, sym, subst, ap, ◌∙◌, arith}
 use Rattle.std.specs.Fmt.{decimal}
 use Rattle.std.specs.Str.Parse.{digits_value}
-use Rattle.std.proofs.lemmas.Bool.{and_from, eq-eqb, cases_eq, false_from_ne_true}
+use Rattle.std.proofs.lemmas.Bool.{cases_eq, false_from_ne_true}
 use Rattle.std.proofs.lemmas.List.{append-nil}
 use Rattle.std.proofs.lemmas.Fmt.{decimal_is_IsNumeral}
-use Rattle.jasmin_words.specs.Names.{same_bytes}
+use Rattle.std.proofs.lemmas.Slice.Eq.{bytes_eq-Decides}
+use Rattle.std.specs.Str.{bytes_eq}
 use Rattle.jasmin_text.specs.Canonical.{label_text, is_named}
 use Rattle.jasmin_text.specs.Grammar.{place_of}
 use Rattle.jasmin_text.specs.declared.instruction.Instruction.{Instruction}
-use Rattle.jasmin_text.proofs.WordBytes.{same_is}
 
 -- ---- a label for each place
 
@@ -19,12 +19,8 @@ own_label p q h k e =
     let d : decimal p ≡ decimal q = cc in
     sym (decimal_is_IsNumeral p (omega arith)).1 ∙ ap (digits_value 10) d ∙ (decimal_is_IsNumeral q (omega arith)).1
 
-same_self : (w : List ℕ) → same_bytes w w ≡ true
-same_self [] = refl
-same_self (b ∷ w) = and_from (eqb b b) (same_bytes w w) (eq-eqb b b refl) (same_self w)
-
-other_label : (p q : ℕ) → p < 65536 → q < 65536 → (p ≡ q → ⊥) → same_bytes (label_text p) (label_text q) ≡ false
-other_label p q h k n = false_from_ne_true (same_bytes (label_text p) (label_text q)) (λ e. n (own_label p q h k (same_is (label_text p) (label_text q) e)))
+other_label : (p q : ℕ) → p < 65536 → q < 65536 → (p ≡ q → ⊥) → bytes_eq (label_text p) (label_text q) ≡ false
+other_label p q h k n = false_from_ne_true (bytes_eq (label_text p) (label_text q)) (λ e. n (own_label p q h k ((bytes_eq-Decides (label_text p) (label_text q)).0 e)))
 
 -- ---- the labels of a body
 
@@ -42,7 +38,7 @@ passed true place p rest h k n = rw (other_label p place h k n) refl
 passed false place p rest h k n = refl
 
 here : (b : Bool) (place : ℕ) (rest : List (List ℕ × ℕ)) → b ≡ true → place_of (labels_if b place ++ rest) (label_text place) ≡ Some place
-here true place rest e = rw (same_self (label_text place)) refl
+here true place rest e = rw ((bytes_eq-Decides (label_text place) (label_text place)).1 refl) refl
 here false place rest e = absurd cc
 
 abbrev Finds : List ℕ → ℕ → List (Instruction ℕ) → ℕ → Type 0
@@ -65,7 +61,7 @@ IsNewFrom place labels = (p : ℕ) → place ≤ p → p < 65536 → place_of la
 
 behind : (labels : List (List ℕ × ℕ)) (place p : ℕ) → p < 65536 → place < 65536 → (p ≡ place → ⊥) → place_of labels (label_text p) ≡ None → place_of (labels ++ (label_text place, place) ∷ []) (label_text p) ≡ None
 behind [] place p h k n e = rw (other_label p place h k n) refl
-behind (l ∷ labels) place p h k n e = by (same_bytes (label_text p) l.0) (behind labels place p h k n) e
+behind (l ∷ labels) place p h k n e = by (bytes_eq (label_text p) l.0) (behind labels place p h k n) e
   where
     by : (t : Bool) → (place_of labels (label_text p) ≡ None → place_of (labels ++ (label_text place, place) ∷ []) (label_text p) ≡ None)
         → cond t (Some l.1) (place_of labels (label_text p)) ≡ None → cond t (Some l.1) (place_of (labels ++ (label_text place, place) ∷ []) (label_text p)) ≡ None

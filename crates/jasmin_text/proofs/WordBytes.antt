@@ -8,6 +8,8 @@ use Rattle.std.specs.Str.Parse.{AllDigits}
 use Rattle.std.proofs.lemmas.Bool.{and_from, and_parts, eqb-true}
 use Rattle.std.proofs.lemmas.Fmt.{decimal_is_IsNumeral}
 use Rattle.std.proofs.lemmas.List.Folds.{list_all-append}
+use Rattle.std.proofs.lemmas.Slice.Eq.{bytes_eq-Decides}
+use Rattle.std.specs.Str.{bytes_eq}
 use Rattle.descriptors.specs.ClassName.{is_name_byte, with_byte, segments, is_some_byte, is_segment, is_class_name}
 use Rattle.descriptors.specs.Letters.{letter_of}
 use Rattle.descriptors.specs.Signature.{Signature}
@@ -18,7 +20,7 @@ use Rattle.descriptors.specs.declared.field.ElementType.{ElementType}
 use Rattle.descriptors.specs.declared.field.ElementType.TheVariants.{Base, Class}
 use Rattle.descriptors.specs.declared.field.FieldType.{FieldType}
 use Rattle.jasmin_words.specs.Spelling.{is_word_byte}
-use Rattle.jasmin_words.specs.Names.{same_bytes, is_name_byte as is_member_byte, is_some_byte as is_some_name, is_member_name}
+use Rattle.jasmin_words.specs.Names.{is_name_byte as is_member_byte, is_some_byte as is_some_name, is_member_name}
 use Rattle.jasmin_text.specs.Canonical.{label_text}
 use Rattle.jasmin_text.specs.Spellable.{is_element_type, is_type, is_result_type, is_method_type}
 use Rattle.jasmin_text.proofs.Conditions.{nine, all_weaker}
@@ -62,12 +64,6 @@ class_name_word name h = segments_word name (in_segments (segments name) h)
 
 -- ---- names of members
 
-pub same_is : (xs ys : List ℕ) → same_bytes xs ys ≡ true → xs ≡ ys
-same_is [] [] h = refl
-same_is [] (y ∷ ys) h = absurd cc
-same_is (x ∷ xs) [] h = absurd cc
-same_is (x ∷ xs) (y ∷ ys) h = let p = and_parts (eqb x y) (same_bytes xs ys) h in let e : x ≡ y = eqb-true x y p.0 in let f : xs ≡ ys = same_is xs ys p.1 in cc
-
 member_byte : (b : ℕ) → is_member_byte b ≡ true → is_word_byte b ≡ true
 member_byte b h = (nine (is_word_byte b) (not (eqb b 46)) (not (eqb b 59)) (not (eqb b 91)) (not (eqb b 47)) (not (eqb b 40)) (not (eqb b 41)) (not (eqb b 60)) (not (eqb b 62)) h).0
 
@@ -80,9 +76,9 @@ one_of false false false P h x y z = absurd cc
 pub member_name_word : (name : List ℕ) → is_member_name name ≡ true → IsWordText name
 unfolding is_member_name
 member_name_word name h =
-    one_of (same_bytes name (codes "<init>")) (same_bytes name (codes "<clinit>")) (is_some_name name && list_all is_member_byte name) (IsWordText name) h
-    (λ e. subst IsWordText (sym (same_is name (codes "<init>") e)) refl)
-    (λ e. subst IsWordText (sym (same_is name (codes "<clinit>") e)) refl)
+    one_of (bytes_eq name (codes "<init>")) (bytes_eq name (codes "<clinit>")) (is_some_name name && list_all is_member_byte name) (IsWordText name) h
+    (λ e. subst IsWordText (sym ((bytes_eq-Decides name (codes "<init>")).0 e)) refl)
+    (λ e. subst IsWordText (sym ((bytes_eq-Decides name (codes "<clinit>")).0 e)) refl)
     (λ e. all_weaker is_member_byte is_word_byte name member_byte (and_parts (is_some_name name) (list_all is_member_byte name) e).1)
 
 -- ---- descriptors

@@ -1,6 +1,7 @@
 -- Which lines spell which class: the file form of the Jasmin user guide. "Own choice" marks this project's own
 -- choice (docs/JASMIN.md), where the form is told in words.
 use Rattle.std.specs.Prelude.{◌≡◌, ℕ, Bool, true, false, ◌&&◌, ◌||◌, ◌==◌, List, [], ◌∷◌, ◌++◌, length, map, Option, Some, None, unwrap_or, ℤ, pos, ◌+ℤ◌, int_lt, int_le, neg_ℤ, if◌then◌else◌, codes}
+use Rattle.std.specs.Str.{bytes_eq}
 use Rattle.descriptors.specs.ClassName.{IsClassName}
 use Rattle.descriptors.specs.Signature.{Signature}
 use Rattle.descriptors.specs.Spelling.{field_spelling, method_spelling, IsFieldType, IsMethodType}
@@ -8,7 +9,7 @@ use Rattle.descriptors.specs.declared.base.BaseType.{BaseType}
 use Rattle.descriptors.specs.declared.field.FieldType.{FieldType}
 use Rattle.jasmin_words.specs.Lexing.{Item, Word, Equals, Colon, Text, words_of}
 use Rattle.jasmin_words.specs.Integers.{integer_of}
-use Rattle.jasmin_words.specs.Names.{same_bytes, is_label, IsMemberName}
+use Rattle.jasmin_words.specs.Names.{is_label, IsMemberName}
 use Rattle.jasmin_text.specs.BaseWords.{base_word}
 use Rattle.jasmin_text.specs.Tables.{find_row, access_of, member_access_of}
 use Rattle.jasmin_text.specs.Forms.{form_at, directive_at}
@@ -168,7 +169,7 @@ pub data IsValue : List Item → Option Constant → Type 0 where
 -- the class that a row of a handler table catches; the word all always stands for every class
 pub data IsCaught : List ℕ → Option (List ℕ) → Type 0 where
   all : IsCaught (codes "all") None
-  class : {name : List ℕ} → same_bytes name (codes "all") ≡ false → IsClassName name → IsCaught name (Some name)
+  class : {name : List ℕ} → bytes_eq name (codes "all") ≡ false → IsClassName name → IsCaught name (Some name)
 
 -- an instruction's line
 pub data IsInstructionLine : List Item → Row → Type 0 where
@@ -184,7 +185,7 @@ pub data IsRow : List Item → List Row → Type 0 where
   skipped : {w : List ℕ} {rest : List Item} → directive_at w ≡ Some directive.Skipped → IsRow (Word w ∷ rest) []
   -- behind .class the word interface is an access word and no name
   class : {items : List Item} {k : ClassKind} {a : Access} {name : List ℕ} → (access : List Item) → items ≡ access ++ Word name ∷ [] → IsClassAccess kind.Class no_access access k a → IsClassName name
-      → same_bytes name (codes "interface") ≡ false → IsRow (Word (codes ".class") ∷ items) (ClassRow k a name ∷ [])
+      → bytes_eq name (codes "interface") ≡ false → IsRow (Word (codes ".class") ∷ items) (ClassRow k a name ∷ [])
   interface : {items : List Item} {a : Access} {name : List ℕ} → (access : List Item) → items ≡ access ++ Word name ∷ [] → IsAccess access a → IsClassName name
       → IsRow (Word (codes ".interface") ∷ items) (ClassRow kind.Interface a name ∷ [])
   super : {name : List ℕ} → IsClassName name → IsRow (Word (codes ".super") ∷ Word name ∷ []) (SuperRow name ∷ [])

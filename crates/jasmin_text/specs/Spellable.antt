@@ -1,7 +1,7 @@
 -- What a file can spell.
 use Rattle.std.specs.Prelude.{◌≡◌, ℕ, ◌+◌, ◌-◌, Bool, true, false, not, ◌&&◌, ◌==◌, List, [], ◌∷◌, ◌++◌, length, Option, Some, None, is_some, ℤ, pos, negsuc, int_lt, nat_lt, nat_le, if◌then◌else◌, codes}
 use Rattle.std.specs.List.{list_all}
-use Rattle.std.specs.Str.{is_utf8}
+use Rattle.std.specs.Str.{is_utf8, bytes_eq}
 use Rattle.descriptors.specs.ClassName.{is_class_name}
 use Rattle.descriptors.specs.Signature.{Signature}
 use Rattle.descriptors.specs.Spelling.{field_spelling, method_spelling}
@@ -9,7 +9,7 @@ use Rattle.descriptors.specs.declared.field.ElementType.{ElementType}
 use Rattle.descriptors.specs.declared.field.ElementType.TheVariants as element
 use Rattle.descriptors.specs.declared.field.FieldType.{FieldType}
 use Rattle.jasmin_words.specs.Lexing.{fits}
-use Rattle.jasmin_words.specs.Names.{same_bytes, is_member_name}
+use Rattle.jasmin_words.specs.Names.{is_member_name}
 use Rattle.jasmin_text.specs.Tables.{is_access_word, is_member_word}
 use Rattle.jasmin_text.specs.declared.class_text.ClassKind.{ClassKind}
 use Rattle.jasmin_text.specs.declared.class_text.ClassKind.TheVariants as kind
@@ -73,7 +73,7 @@ is_int_type t = elim t.element [ element.Base b ↦ t.dimensions == 0 | element.
 
 -- Ljava/lang/String;
 abbrev pub is_string_type : FieldType → Bool
-is_string_type t = elim t.element [ element.Base b ↦ false | element.Class name ↦ t.dimensions == 0 && same_bytes name (codes "java/lang/String") ]
+is_string_type t = elim t.element [ element.Base b ↦ false | element.Class name ↦ t.dimensions == 0 && bytes_eq name (codes "java/lang/String") ]
 
 -- an int for a field of a base type, a string for one of type String
 abbrev pub is_value_of : FieldType → Option Constant → Bool
@@ -139,7 +139,7 @@ have_room room (i ∷ is) = nat_le (instruction_size i) room && have_room (room 
 -- the word all isn't read as the name of a class that is caught
 abbrev pub is_caught : Option (List ℕ) → Bool
 is_caught None = true
-is_caught (Some name) = is_class_word name && not (same_bytes name (codes "all"))
+is_caught (Some name) = is_class_word name && not (bytes_eq name (codes "all"))
 
 -- a row of the handler table of a body of so many instructions
 unfoldable pub is_handler : ℕ → Handler → Bool
@@ -163,12 +163,12 @@ is_initializer m = m.access.is_static && length m.method_type.parameters == 0 &&
 unfoldable pub is_method : Method → Bool
 is_method m =
     is_member_name m.name && is_method_type m.method_type && fits (m.name ++ method_spelling m.method_type)
-    && not (m.access.is_abstract && m.access.is_static) && (if same_bytes m.name (codes "<clinit>") then is_initializer m else true)
+    && not (m.access.is_abstract && m.access.is_static) && (if bytes_eq m.name (codes "<clinit>") then is_initializer m else true)
     && is_optional_code m.access.is_abstract m.code
 
 -- behind .class the word interface is an access word
 abbrev pub is_taken : ClassKind → List ℕ → Bool
-is_taken kind.Class name = if same_bytes name (codes "interface") then true else is_access_word name
+is_taken kind.Class name = if bytes_eq name (codes "interface") then true else is_access_word name
 is_taken kind.Interface name = is_access_word name
 
 -- the parts that a file can spell

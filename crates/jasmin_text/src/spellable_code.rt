@@ -1,8 +1,8 @@
 //! Whether a file can spell a body, a method, and the whole class.
 
 ghost use Rattle.std.specs.Prelude.{◌≡◌, ◌≤◌, ◌-◌, ◌&&◌, ℕ, ℤ, true, length, nat_le, codes, if◌then◌else◌, IfOk};
-ghost use Rattle.jasmin_words.specs.Names.{same_bytes};
 ghost use Rattle.std.specs.List.{list_all};
+ghost use Rattle.std.specs.Str.{bytes_eq};
 ghost use Rattle.jasmin_text.specs.declared.instruction.Instruction.TheVariants as instructions;
 ghost use Rattle.jasmin_text.specs.Spellable.{is_int, is_class_word, rises_from, rises, is_instruction, instruction_size, have_room, is_caught, is_handler, is_code, is_optional_code, is_initializer, is_field, is_method, is_taken, is_spellable};
 
@@ -209,7 +209,7 @@ fn initializer(method: &Method) -> bool
 }
 
 fn initializer_if(method: &Method) -> bool
-    ensures { result ≡ (if same_bytes method.now.name (codes "<clinit>") then is_initializer method.now else true) }
+    ensures { result ≡ (if bytes_eq method.now.name (codes "<clinit>") then is_initializer method.now else true) }
 {
     if same(method.name.as_slice(), b"<clinit>") {
         initializer(method)

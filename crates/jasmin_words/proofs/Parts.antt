@@ -8,9 +8,9 @@ use Rattle.sequence.specs.declared.refusal.Refusal.{Refusal}
 use Rattle.sequence.specs.declared.refusal.Refusal.TheVariants as refusal
 use Rattle.jasmin_words.specs.declared.escape.EscapeFault.{EscapeFault}
 use Rattle.jasmin_words.specs.declared.escape.Part.{Part}
-use Rattle.sequence.specs.Gives.{◌>>=◌, Fails}
+use Rattle.sequence.specs.Gives.{Fails}
 use Rattle.jasmin_words.specs.Escapes.{encoded, hex_at, unit_at, low_at, unicode_at, escape, byte_or_wrong, escape_at, part_at, before, unescaped_in, unescaped}
-use Rattle.sequence.proofs.Results.{Holds, bind_holds, guard_holds, refuse_holds, cond_holds, holds_at, weaker}
+use Rattle.sequence.proofs.Results.{Holds, bind_holds, guard_holds, refuse_holds, cond_holds, holds_at, weaker, bind_same}
 
 -- at most so many bytes are left
 abbrev Leaves : {A : Type 0} → ℕ → A × List ℕ → Type 0
@@ -66,16 +66,14 @@ part_at-shrinks (b ∷ s) part rest e = let less = holds_at (Leaves (length s)) 
 
 -- ---- all parts
 
-same_after : (r : Result (Part × List ℕ) EscapeFault) (f g : List ℕ → Result (List ℕ) EscapeFault) → ((p : Part) (t : List ℕ) → r ≡ Ok (p, t) → f t ≡ g t) → (r >>= λ part. before (encoded part.0) (f part.1)) ≡ (r >>= λ part. before (encoded part.0) (g part.1))
-same_after (Ok x) f g h = ap (before (encoded x.0)) (h x.0 x.1 refl)
-same_after (Err e) f g h = refl
-
 enough : (n m : ℕ) (s : List ℕ) → length s ≤ n → length s ≤ m → unescaped_in n s ≡ unescaped_in m s
 unfolding unescaped_in
 enough n m [] p q = refl
 enough zero m (b ∷ s) p q = absurd (omega arith)
 enough (suc n) zero (b ∷ s) p q = absurd (omega arith)
-enough (suc n) (suc m) (b ∷ s) p q = same_after (part_at (b ∷ s)) (unescaped_in n) (unescaped_in m) (λ part t e. let less = part_at-shrinks (b ∷ s) part t e in enough n m t (omega arith) (omega arith))
+enough (suc n) (suc m) (b ∷ s) p q =
+    let after : ℕ → Part × List ℕ → Result (List ℕ) EscapeFault = λ k x. before (encoded x.0) (unescaped_in k x.1) in
+    bind_same (part_at (b ∷ s)) (after n) (after m) (λ x e. let less = part_at-shrinks (b ∷ s) x.0 x.1 e in ap (before (encoded x.0)) (enough n m x.1 (omega arith) (omega arith)))
 
 -- the first part
 pub unescaped-part : (s : List ℕ) (part : Part) (rest : List ℕ) → part_at s ≡ Ok (part, rest) → unescaped s ≡ before (encoded part) (unescaped rest)

@@ -1,6 +1,6 @@
 -- A string that was written is read again.
-use Rattle.std.proofs.Common.{◌≡◌, ℕ, ◌+◌, ◌*◌, ◌/◌, ◌%◌, ◌<◌, Bool, true, false, ◌||◌, cond, eqb, List, [], ◌∷◌, ◌++◌, Some, refl, sym, ap, subst, append_assoc, arith, nat_lt}
-use Rattle.std.proofs.lemmas.Bool.{eqb-true}
+use Rattle.std.proofs.Common.{◌≡◌, ℕ, ◌+◌, ◌*◌, ◌/◌, ◌%◌, ◌<◌, Bool, true, false, ◌||◌, eqb, List, [], ◌∷◌, ◌++◌, Some, refl, sym, ap, subst, append_assoc, arith, nat_lt}
+use Rattle.std.proofs.lemmas.Bool.{eqb-true, cond_both}
 use Rattle.std.proofs.lemmas.Str.{IsUtf8-nil, IsUtf8-append, encode_ascii, is_utf8-from_IsUtf8, IsUtf8-from_is_utf8}
 use Rattle.std.specs.Char.{digit_value, digit_char}
 use Rattle.std.specs.Char.Utf16.{is_high_surrogate, is_low_surrogate}
@@ -11,10 +11,6 @@ use Rattle.jasmin_words.specs.Quoting.{quoted_byte, quoted_bytes, quoted}
 use Rattle.jasmin_words.specs.Spelling.{IsQuoted, nothing, plain, escaped, unicode, IsSpelled, ends, string}
 use Rattle.jasmin_words.proofs.Utf8.{cut, byte_utf8}
 use Rattle.jasmin_words.proofs.Spelled.{spelled_again}
-
-cond_at : (P : List ℕ → Type 0) (b : Bool) (x y : List ℕ) → (b ≡ true → P x) → (b ≡ false → P y) → P (cond b x y)
-cond_at P true x y p q = p refl
-cond_at P false x y p q = q refl
 
 -- ---- as bytes
 
@@ -44,12 +40,12 @@ byte_quoted : (b : ℕ) (t bs : List ℕ) → IsQuoted t bs → IsQuoted (quoted
 byte_quoted b t bs q =
     let P : List ℕ → Type 0 = λ x. IsQuoted (x ++ t) (b ∷ bs) in
     let letter : (n e : ℕ) → eqb e 117 ≡ false → escape e ≡ Some n → eqb b n ≡ true → P (92 ∷ e ∷ []) = λ n e no_u h same. subst (λ (z : ℕ). IsQuoted (92 ∷ e ∷ t) (z ∷ bs)) (sym (eqb-true b n same)) (escaped no_u h q) in
-    cond_at P (eqb b 34) _ _ (letter 34 34 refl refl) (λ x.
-    cond_at P (eqb b 92) _ _ (letter 92 92 refl refl) (λ y.
-    cond_at P (eqb b 10) _ _ (letter 10 110 refl refl) (λ _.
-    cond_at P (eqb b 9) _ _ (letter 9 116 refl refl) (λ _.
-    cond_at P (eqb b 13) _ _ (letter 13 114 refl refl) (λ _.
-    cond_at P (nat_lt b 32 || eqb b 127) _ _ (λ h. coded b t bs (low_byte b h) q) (λ _. plain x y q))))))
+    cond_both (eqb b 34) _ _ P (letter 34 34 refl refl) (λ x.
+    cond_both (eqb b 92) _ _ P (letter 92 92 refl refl) (λ y.
+    cond_both (eqb b 10) _ _ P (letter 10 110 refl refl) (λ _.
+    cond_both (eqb b 9) _ _ P (letter 9 116 refl refl) (λ _.
+    cond_both (eqb b 13) _ _ P (letter 13 114 refl refl) (λ _.
+    cond_both (nat_lt b 32 || eqb b 127) _ _ P (λ h. coded b t bs (low_byte b h) q) (λ _. plain x y q))))))
 
 pub quoted_is : (bs : List ℕ) → IsQuoted (quoted_bytes bs) bs
 quoted_is [] = nothing
@@ -76,12 +72,12 @@ byte_utf8_again : (p bs qs : List ℕ) (b : ℕ) → IsUtf8 (p ++ b ∷ bs) → 
 byte_utf8_again p bs qs b u ih same =
     let P : List ℕ → Type 0 = λ x. IsUtf8 (p ++ (x ++ qs)) in
     let letter : (n e : ℕ) → n < 128 → e < 128 → eqb b n ≡ true → P (92 ∷ e ∷ []) = λ n e small low h. let is : b ≡ n = eqb-true b n h in replaced p (92 ∷ e ∷ []) bs qs b (omega arith) (omega arith, (low, tt)) u ih in
-    cond_at P (eqb b 34) _ _ (letter 34 34 (omega arith) (omega arith)) (λ x.
-    cond_at P (eqb b 92) _ _ (letter 92 92 (omega arith) (omega arith)) (λ y.
-    cond_at P (eqb b 10) _ _ (letter 10 110 (omega arith) (omega arith)) (λ _.
-    cond_at P (eqb b 9) _ _ (letter 9 116 (omega arith) (omega arith)) (λ _.
-    cond_at P (eqb b 13) _ _ (letter 13 114 (omega arith) (omega arith)) (λ _.
-    cond_at P (nat_lt b 32 || eqb b 127) _ _ (λ h. let low = low_byte b h in replaced p (92 ∷ 117 ∷ 48 ∷ 48 ∷ digit_char (b / 16) ∷ digit_char (b % 16) ∷ []) bs qs b low (omega arith, (omega arith, (omega arith, (omega arith, (glyph_ascii (b / 16) (omega arith), (glyph_ascii (b % 16) (omega arith), tt)))))) u ih) (λ _. same))))))
+    cond_both (eqb b 34) _ _ P (letter 34 34 (omega arith) (omega arith)) (λ x.
+    cond_both (eqb b 92) _ _ P (letter 92 92 (omega arith) (omega arith)) (λ y.
+    cond_both (eqb b 10) _ _ P (letter 10 110 (omega arith) (omega arith)) (λ _.
+    cond_both (eqb b 9) _ _ P (letter 9 116 (omega arith) (omega arith)) (λ _.
+    cond_both (eqb b 13) _ _ P (letter 13 114 (omega arith) (omega arith)) (λ _.
+    cond_both (nat_lt b 32 || eqb b 127) _ _ P (λ h. let low = low_byte b h in replaced p (92 ∷ 117 ∷ 48 ∷ 48 ∷ digit_char (b / 16) ∷ digit_char (b % 16) ∷ []) bs qs b low (omega arith, (omega arith, (omega arith, (omega arith, (glyph_ascii (b / 16) (omega arith), (glyph_ascii (b % 16) (omega arith), tt)))))) u ih) (λ _. same))))))
 
 bytes_utf8 : (p bs : List ℕ) → IsUtf8 (p ++ bs) → IsUtf8 (p ++ quoted_bytes bs)
 bytes_utf8 p [] u = u

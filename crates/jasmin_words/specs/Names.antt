@@ -1,14 +1,8 @@
 -- Names of members, and labels: this project's own choice (docs/JASMIN.md), within JVMS SE 8 4.2.2.
 use Rattle.std.specs.Prelude.{◌≡◌, ℕ, Bool, true, false, not, ◌&&◌, ◌||◌, List, [], ◌∷◌, nat_lt, ◌==◌, codes}
 use Rattle.std.specs.List.{list_all}
+use Rattle.std.specs.Str.{bytes_eq}
 use Rattle.jasmin_words.specs.Spelling.{is_word_byte}
-
--- the same bytes
-abbrev pub same_bytes : List ℕ → List ℕ → Bool
-same_bytes [] [] = true
-same_bytes [] (y ∷ ys) = false
-same_bytes (x ∷ xs) [] = false
-same_bytes (x ∷ xs) (y ∷ ys) = x == y && same_bytes xs ys
 
 -- a byte of a word, and none of . ; [ / ( ) < >
 abbrev pub is_name_byte : ℕ → Bool
@@ -20,7 +14,7 @@ is_some_byte (b ∷ bs) = true
 
 -- JVMS SE 8 4.2.2: <init>, <clinit>, or one byte or more that may stand in a name
 unfoldable pub is_member_name : List ℕ → Bool
-is_member_name name = same_bytes name (codes "<init>") || same_bytes name (codes "<clinit>") || (is_some_byte name && list_all is_name_byte name)
+is_member_name name = bytes_eq name (codes "<init>") || bytes_eq name (codes "<clinit>") || (is_some_byte name && list_all is_name_byte name)
 
 abbrev pub IsMemberName : List ℕ → Type 0
 IsMemberName name = is_member_name name ≡ true

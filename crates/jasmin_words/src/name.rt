@@ -3,7 +3,8 @@
 ghost use Rattle.std.specs.Prelude.{◌≡◌, IfOk};
 ghost use Rattle.std.specs.Option.{SomeIff};
 ghost use Rattle.std.specs.List.{list_all};
-ghost use Rattle.jasmin_words.specs.Names.{same_bytes, is_name_byte, is_member_name, IsMemberName};
+ghost use Rattle.std.specs.Str.{bytes_eq};
+ghost use Rattle.jasmin_words.specs.Names.{is_name_byte, is_member_name, IsMemberName};
 ghost use Rattle.jasmin_words.specs.Names.{is_label as may_be_label};
 
 use sequence::Text;
@@ -87,7 +88,7 @@ impl Eq for MemberName {
 
 /// Whether two texts have the same bytes. Takes no memory.
 pub fn same(bytes: &[u8], other: &[u8]) -> bool
-    ensures { result ≡ same_bytes bytes.now other.now }
+    ensures { result ≡ bytes_eq bytes.now other.now }
 {
     bytes == other
 }

@@ -12,6 +12,11 @@ bind_ok (Err k) f y e = absurd cc
 pub then : {A B F : Type 0} (x : Result A F) (f : A → Result B F) (a : A) (z : B) → x ≡ Ok a → f a ≡ Ok z → (x >>= f) ≡ Ok z
 then x f a z h e = ap (λ r. r >>= f) h ∙ e
 
+-- one step, and two that go on alike from what it gave
+pub bind_same : {A B F : Type 0} (r : Result A F) (f g : A → Result B F) → ((x : A) → r ≡ Ok x → f x ≡ g x) → (r >>= f) ≡ (r >>= g)
+bind_same (Ok x) f g h = h x refl
+bind_same (Err e) f g h = refl
+
 -- two steps, of which the second gives what the first gives
 pub carried : {A B F : Type 0} (x y : Result A F) (f : A → Result B F) (z : B) → ((a : A) → x ≡ Ok a → y ≡ Ok a) → (x >>= f) ≡ Ok z → (y >>= f) ≡ Ok z
 carried x y f z h e = let first = bind_ok x f z e in then y f first.0 z (h first.0 first.1) first.2

@@ -5,6 +5,8 @@ use Rattle.std.proofs.lemmas.Option.{slice_get_within}
 use Rattle.std.proofs.lemmas.List.{length-map, length-append}
 use Rattle.std.specs.List.{list_all, list_any}
 use Rattle.std.specs.Prelude.{nat_le, filter}
+use Rattle.std.proofs.lemmas.Slice.Eq.{bytes_eq-Decides}
+use Rattle.std.specs.Str.{bytes_eq}
 use Rattle.descriptors.specs.Reading.{field_of_text}
 use Rattle.descriptors.specs.Spelling.{field_spelling, IsElementType, IsFieldType}
 use Rattle.descriptors.specs.declared.base.BaseType.{BaseType}
@@ -15,9 +17,9 @@ use Rattle.descriptors.proofs.FieldLaws.{field_only}
 use Rattle.jasmin_text.specs.declared.class_text.Field.{Field}
 use Rattle.jasmin_text.specs.Spellable.{is_element_type, is_type, is_field_type, is_value_of, is_field}
 use Rattle.jasmin_text.specs.Tables.{is_member_word}
-use Rattle.jasmin_text.proofs.WordBytes.{same_is, member_name_word, field_word}
+use Rattle.jasmin_text.proofs.WordBytes.{member_name_word, field_word}
 use Rattle.jasmin_words.specs.Lexing.{fits}
-use Rattle.jasmin_words.specs.Names.{same_bytes, is_member_name}
+use Rattle.jasmin_words.specs.Names.{is_member_name}
 use Rattle.jasmin_words.specs.Spelling.{is_word_byte}
 use Rattle.sequence.proofs.Results.{Holds, cond_holds, HoldsIn, cond_in, map_in, in_at, weaker}
 use Rattle.hierarchy.specs.declared.class.Class.{Class}
@@ -33,7 +35,6 @@ use Rattle.init_core.proofs.States.{few_statics}
 use Rattle.trace.specs.TraceText.{field_in_trace}
 use Rattle.trace_reader.specs.Fields.{field_from, known_field, field_at}
 use Rattle.trace_reader.proofs.ClassWords.{words_at, at_place}
-use Rattle.trace_reader.proofs.LineNumbers.{same_self}
 use Rattle.trace_reader.proofs.LineWords.{IsLineWord, unbroken_word, unbroken_joined}
 
 -- ---- the field that a word names
@@ -50,8 +51,8 @@ pub record IsFieldAt (fs : List Field) (word : List ℕ) (x : ℕ × Option Base
 from_found : (before : ℕ) (fs : List Field) (word : List ℕ) → HoldsIn (λ x. IsFieldAt fs word x before) (field_from before fs word)
 from_found before [] word = tt
 from_found before (f ∷ fs) word =
-    cond_in (λ x. IsFieldAt (f ∷ fs) word x before) (same_bytes (field_in_trace (Some f)) word) _ _
-    (λ e. record { place = 0; field = f; counted = omega arith; there = refl; spelled = sym (same_is (field_in_trace (Some f)) word e); base = refl })
+    cond_in (λ x. IsFieldAt (f ∷ fs) word x before) (bytes_eq (field_in_trace (Some f)) word) _ _
+    (λ e. record { place = 0; field = f; counted = omega arith; there = refl; spelled = sym ((bytes_eq-Decides (field_in_trace (Some f)) word).0 e); base = refl })
     (λ _. map_in (λ x. IsFieldAt fs word x (before + 1)) (λ x. IsFieldAt (f ∷ fs) word x before) (field_from (before + 1) fs word) (λ x h. later x h) (from_found (before + 1) fs word))
   where
     later : (x : ℕ × Option BaseType) → IsFieldAt fs word x (before + 1) → IsFieldAt (f ∷ fs) word x before
@@ -60,9 +61,9 @@ from_found before (f ∷ fs) word =
 from_some : (before : ℕ) (fs : List Field) (word : List ℕ) (place : ℕ) (f : Field) → slice_get fs place ≡ Some f → word ≡ field_in_trace (Some f) → (x : ℕ × Option BaseType) × (field_from before fs word ≡ Some x)
 from_some before [] word place f e is = absurd cc
 from_some before (g ∷ fs) word zero f e is =
-    let same : same_bytes (field_in_trace (Some g)) word ≡ true = let k : g ≡ f = cc in rw (k, is) (same_self (field_in_trace (Some f))) in
+    let same : bytes_eq (field_in_trace (Some g)) word ≡ true = let k : g ≡ f = cc in rw (k, is) ((bytes_eq-Decides (field_in_trace (Some f)) (field_in_trace (Some f))).1 refl) in
     ((before, base_in g.field_type), rw same refl)
-from_some before (g ∷ fs) word (suc place) f e is = elim (cases_Bool (same_bytes (field_in_trace (Some g)) word)) [
+from_some before (g ∷ fs) word (suc place) f e is = elim (cases_Bool (bytes_eq (field_in_trace (Some g)) word)) [
   | inl same ↦ ((before, base_in g.field_type), rw same refl)
   | inr other ↦ let later = from_some (before + 1) fs word place f e is in (later.0, rw other later.1)
 ]

@@ -1,6 +1,6 @@
 -- A line ends with its first LF, so that it lies within the limit where its trace does.
 use Rattle.std.proofs.Common.{◌≡◌, ℕ, ◌+◌, ◌/◌, ◌%◌, ◌<◌, ◌≤◌, ◌^◌, Bool, true, false, not, ◌||◌, cond, eqb, nat_lt, List, [], ◌∷◌, ◌++◌, length, Some, slice_get, refl, sym, ap, subst, ◌∙◌, append_assoc, arith}
-use Rattle.std.proofs.lemmas.Bool.{and_parts}
+use Rattle.std.proofs.lemmas.Bool.{and_parts, not-true}
 use Rattle.std.proofs.lemmas.List.{length-append}
 use Rattle.std.specs.Char.{digit_char}
 use Rattle.std.specs.Fmt.{decimal}
@@ -56,13 +56,9 @@ ends_at : (s t : List ℕ) → has_no_end s ≡ true → line_end (s ++ 10 ∷ t
 ends_at [] t h = refl
 ends_at (b ∷ s) t h =
     let p = and_parts (not (eqb b 10)) (has_no_end s) h in
-    let n : eqb b 10 ≡ false = no (eqb b 10) p.0 in
+    let n : eqb b 10 ≡ false = not-true (eqb b 10) p.0 in
     let k = ends_at s t p.1 in
     rw n (omega (arith, k))
-  where
-    no : (x : Bool) → not x ≡ true → x ≡ false
-    no true e = absurd cc
-    no false e = refl
 
 -- ---- texts
 

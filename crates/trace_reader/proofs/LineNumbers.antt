@@ -8,30 +8,27 @@ use Rattle.std.specs.Str.Parse.{digits_value}
 use Rattle.std.specs.Fmt.{decimal, signed_decimal}
 use Rattle.std.specs.Int.{w32}
 use Rattle.std.specs.Prelude.{ℤ, pos, negsuc, neg_ℤ, FitsSigned, slice_index_or}
+use Rattle.std.proofs.lemmas.Slice.Eq.{bytes_eq-Decides}
+use Rattle.std.specs.Str.{bytes_eq}
 use Rattle.jasmin_words.specs.Integers.{integer_of, of_bits, IsInteger, decimal as in_decimal, minus, bits}
-use Rattle.jasmin_words.specs.Names.{same_bytes}
 use Rattle.jasmin_words.proofs.Numbers.{written_again, integer_is}
 use Rattle.sequence.proofs.Results.{Holds, guard_holds, cond_holds, HoldsIn, guard_in}
-use Rattle.jasmin_text.proofs.WordBytes.{same_is, decimal_word}
+use Rattle.jasmin_text.proofs.WordBytes.{decimal_word}
 use Rattle.jasmin_text.specs.Spellable.{is_int}
 use Rattle.jasmin_text.proofs.AccessLines.{int_of}
 use Rattle.trace_reader.specs.Numbers.{spelled_so, int_in, from_zero, number_in, is_digit, is_number, number_at, known_thread, thread_at}
 use Rattle.trace_reader.proofs.LineWords.{IsLineWord, unbroken_word}
-
-pub same_self : (xs : List ℕ) → same_bytes xs xs ≡ true
-same_self [] = refl
-same_self (x ∷ xs) = let e : eqb x x ≡ true = grind arith in rw e (same_self xs)
 
 pub decimal_line : (n : ℕ) → n < 2 ^ 64 → IsLineWord (decimal n)
 decimal_line n h = record { some = decimal_nonempty n h; whole = unbroken_word (decimal n) (decimal_word n h) }
 
 pub number_found : (n : ℕ) (word : List ℕ) → Holds (λ _. word ≡ decimal n) (number_at n word)
 unfolding number_at
-number_found n word = cond_holds (λ _. word ≡ decimal n) (same_bytes word (decimal n)) _ _ (same_is word (decimal n)) (λ _. cond_holds (λ _. word ≡ decimal n) (is_number word) _ _ (λ _. tt) (λ _. tt))
+number_found n word = cond_holds (λ _. word ≡ decimal n) (bytes_eq word (decimal n)) _ _ (bytes_eq-Decides word (decimal n)).0 (λ _. cond_holds (λ _. word ≡ decimal n) (is_number word) _ _ (λ _. tt) (λ _. tt))
 
 pub number_again : (n : ℕ) → number_at n (decimal n) ≡ Ok tt
 unfolding number_at
-number_again n = rw (same_self (decimal n)) refl
+number_again n = rw ((bytes_eq-Decides (decimal n) (decimal n)).1 refl) refl
 
 pub int_found : (word : List ℕ) → HoldsIn (λ n. word ≡ signed_decimal n) (int_in word)
 unfolding int_in
@@ -39,11 +36,11 @@ int_found word = at (integer_of word)
   where
     at : (o : Option ℤ) → HoldsIn (λ n. word ≡ signed_decimal n) (spelled_so word o)
     at None = tt
-    at (Some n) = guard_in (λ n. word ≡ signed_decimal n) (same_bytes word (signed_decimal n)) _ (same_is word (signed_decimal n))
+    at (Some n) = guard_in (λ n. word ≡ signed_decimal n) (bytes_eq word (signed_decimal n)) _ (bytes_eq-Decides word (signed_decimal n)).0
 
 pub int_again : (n : ℤ) → FitsSigned w32 n → int_in (signed_decimal n) ≡ Some n
 unfolding int_in
-int_again n h = rw (written_again n h, same_self (signed_decimal n)) refl
+int_again n h = rw (written_again n h, (bytes_eq-Decides (signed_decimal n) (signed_decimal n)).1 refl) refl
 
 pub natural_found : (word : List ℕ) → HoldsIn (λ n. word ≡ decimal n) (number_in word)
 natural_found word = at (int_in word) (int_found word)
@@ -104,4 +101,4 @@ int_word_fits word = at (integer_of word) (integer_is word)
   where
     at : (o : Option ℤ) → HoldsIn (IsInteger word) o → HoldsIn (λ n. FitsSigned w32 n) (spelled_so word o)
     at None h = tt
-    at (Some n) h = guard_in (λ n. FitsSigned w32 n) (same_bytes word (signed_decimal n)) _ (λ _. int_of n (integer_fits word n h))
+    at (Some n) h = guard_in (λ n. FitsSigned w32 n) (bytes_eq word (signed_decimal n)) _ (λ _. int_of n (integer_fits word n h))

@@ -4,10 +4,10 @@ use Rattle.std.proofs.lemmas.Bool.{cases_Bool}
 use Rattle.std.proofs.lemmas.Fmt.{decimal_digit, decimal_step}
 use Rattle.std.specs.Fmt.{decimal}
 use Rattle.std.specs.Prelude.{codes}
+use Rattle.std.proofs.lemmas.Slice.Eq.{bytes_eq-Decides}
+use Rattle.std.specs.Str.{bytes_eq}
 use Rattle.sequence.specs.Gives.{◌>>=◌}
-use Rattle.jasmin_words.specs.Names.{same_bytes}
 use Rattle.sequence.proofs.Results.{Holds, bind_holds, cond_holds}
-use Rattle.jasmin_text.proofs.WordBytes.{same_is}
 use Rattle.hierarchy.specs.declared.class.ClassId.{ClassId}
 use Rattle.hierarchy.specs.declared.value.Value.{Value}
 use Rattle.hierarchy.specs.LinkedProgram.{LinkedProgram}
@@ -51,13 +51,13 @@ deed_found word =
     at deed.Waits _ (λ _. at deed.Recurs _ (λ _. at deed.FindsInitialized _ (λ _. at deed.FindsErroneous _ (λ _. at deed.Begins _ (λ _. at deed.SuperFails _ (λ _.
     at deed.Runs _ (λ _. at deed.Completes _ (λ _. at deed.Fails _ (λ _. at deed.Gets _ (λ _. at deed.Puts _ (λ _. tt)))))))))))
   where
-    at : (d : Deed) (other : Option Deed) → (same_bytes word (deed_word d) ≡ false → Holds (λ v. word ≡ verb_word v) (known_deed other))
-        → Holds (λ v. word ≡ verb_word v) (known_deed (cond (same_bytes word (deed_word d)) (Some d) other))
-    at d other next = elim (cases_Bool (same_bytes word (deed_word d))) [ inl e ↦ rw e (same_is word (deed_word d) e) | inr e ↦ rw e (next e) ]
+    at : (d : Deed) (other : Option Deed) → (bytes_eq word (deed_word d) ≡ false → Holds (λ v. word ≡ verb_word v) (known_deed other))
+        → Holds (λ v. word ≡ verb_word v) (known_deed (cond (bytes_eq word (deed_word d)) (Some d) other))
+    at d other next = elim (cases_Bool (bytes_eq word (deed_word d))) [ inl e ↦ rw e ((bytes_eq-Decides word (deed_word d)).0 e) | inr e ↦ rw e (next e) ]
 
 pub verb_found : (word : List ℕ) → Holds (λ v. word ≡ verb_word v) (verb_at word)
 unfolding verb_at
-verb_found word = cond_holds (λ v. word ≡ verb_word v) (same_bytes word (codes "print")) _ _ (same_is word (codes "print")) (λ _. deed_found word)
+verb_found word = cond_holds (λ v. word ≡ verb_word v) (bytes_eq word (codes "print")) _ _ (bytes_eq-Decides word (codes "print")).0 (λ _. deed_found word)
 
 pub verb_again : (v : Verb) → verb_at (verb_word v) ≡ Ok v
 unfolding verb_at

@@ -1,6 +1,6 @@
 -- Texts that are written are read again, and what is read as a text is its spelling.
-use Rattle.std.proofs.Common.{◌≡◌, ℕ, zero, suc, inl, inr, ◌+◌, ◌-◌, ◌*◌, ◌/◌, ◌%◌, ◌≤◌, ◌<◌, Bool, true, false, ◌&&◌, ◌||◌, cond, eqb, nat_lt, List, [], ◌∷◌, ◌++◌, length, Option, Some, None, Result, Ok, Err, refl, sym, ap, subst, ◌∙◌, append_assoc, arith}
-use Rattle.std.proofs.lemmas.Bool.{eqb-true, cases_Bool, and_parts}
+use Rattle.std.proofs.Common.{◌≡◌, ℕ, zero, suc, inl, inr, ◌+◌, ◌-◌, ◌*◌, ◌/◌, ◌%◌, ◌≤◌, ◌<◌, true, false, ◌&&◌, ◌||◌, cond, eqb, nat_lt, List, [], ◌∷◌, ◌++◌, length, Option, Some, None, Result, Ok, Err, refl, sym, ap, subst, ◌∙◌, append_assoc, arith}
+use Rattle.std.proofs.lemmas.Bool.{eqb-true, cases_Bool, and_parts, cond_both, not-true}
 use Rattle.std.proofs.lemmas.List.{append-nil, length-drop}
 use Rattle.std.specs.Prelude.{nat_le, codes, not, take, drop}
 use Rattle.std.specs.Char.{digit_char}
@@ -10,19 +10,15 @@ use Rattle.std.specs.List.{list_all}
 use Rattle.std.specs.Str.{is_utf8, IsAscii}
 use Rattle.sequence.specs.declared.refusal.Refusal.{Refusal}
 use Rattle.sequence.specs.declared.refusal.Refusal.TheVariants as refusal
-use Rattle.sequence.specs.Gives.{◌>>=◌, Fails}
+use Rattle.sequence.specs.Gives.{Fails}
 use Rattle.jasmin_words.specs.Quoting.{quoted_byte, quoted_bytes, quoted}
-use Rattle.sequence.proofs.Results.{Holds, bind_holds, guard_holds, cond_holds, holds_at, HoldsIn, cond_in, guard_in}
+use Rattle.sequence.proofs.Results.{Holds, bind_holds, guard_holds, cond_holds, holds_at, HoldsIn, cond_in, guard_in, bind_same}
 use Rattle.trace_reader.specs.Words.{ends_word}
 use Rattle.trace_reader.specs.Strings.{low_hex, has_code, coded, letter, byte_or_bad, code_at, escape_at, is_plain, plain_len, byte_at, before, closing, bytes_in, bytes_at, quote_at, closed_at, utf8_at, text_at}
 use Rattle.trace_reader.specs.declared.fault.TraceFaultKind.{TraceFaultKind}
 use Rattle.trace_reader.specs.declared.fault.TraceFaultKind.TheVariants.{BadValue}
 
 -- ---- one byte
-
-cond_at : (P : List ℕ → Type 0) (b : Bool) (x y : List ℕ) → (b ≡ true → P x) → (b ≡ false → P y) → P (cond b x y)
-cond_at P true x y p q = p refl
-cond_at P false x y p q = q refl
 
 abbrev Spelled : List ℕ → ℕ × List ℕ → Type 0
 Spelled s x = s ≡ quoted_byte x.0 ++ x.1
@@ -108,12 +104,12 @@ unfolding byte_at escape_at
 byte_again c rest =
     let P : List ℕ → Type 0 = λ x. byte_at (x ++ rest) ≡ Ok (c, rest) in
     let is : (n : ℕ) → eqb c n ≡ true → n ≡ c = λ n e. sym (eqb-true c n e) in
-    cond_at P (eqb c 34) _ _ (λ e. rw (is 34 e) refl) (λ q.
-    cond_at P (eqb c 92) _ _ (λ e. rw (is 92 e) refl) (λ s.
-    cond_at P (eqb c 10) _ _ (λ e. rw (is 10 e) refl) (λ n.
-    cond_at P (eqb c 9) _ _ (λ e. rw (is 9 e) refl) (λ t.
-    cond_at P (eqb c 13) _ _ (λ e. rw (is 13 e) refl) (λ r.
-    cond_at P (nat_lt c 32 || eqb c 127) _ _ (λ h. coded_again c rest (unusual c h n t r)) (λ h. rw (s, usual c h q) refl))))))
+    cond_both (eqb c 34) _ _ P (λ e. rw (is 34 e) refl) (λ q.
+    cond_both (eqb c 92) _ _ P (λ e. rw (is 92 e) refl) (λ s.
+    cond_both (eqb c 10) _ _ P (λ e. rw (is 10 e) refl) (λ n.
+    cond_both (eqb c 9) _ _ P (λ e. rw (is 9 e) refl) (λ t.
+    cond_both (eqb c 13) _ _ P (λ e. rw (is 13 e) refl) (λ r.
+    cond_both (nat_lt c 32 || eqb c 127) _ _ P (λ h. coded_again c rest (unusual c h n t r)) (λ h. rw (s, usual c h q) refl))))))
 
 -- ---- all bytes
 
@@ -123,27 +119,26 @@ shrinks s rest c e = let same : s ≡ quoted_byte c ++ rest = holds_at (Spelled 
     longer : (c : ℕ) (rest : List ℕ) → length rest < length (quoted_byte c ++ rest)
     longer c rest =
         let P : List ℕ → Type 0 = λ x. length rest < length (x ++ rest) in
-        cond_at P (eqb c 34) _ _ (λ _. omega arith) (λ _.
-        cond_at P (eqb c 92) _ _ (λ _. omega arith) (λ _.
-        cond_at P (eqb c 10) _ _ (λ _. omega arith) (λ _.
-        cond_at P (eqb c 9) _ _ (λ _. omega arith) (λ _.
-        cond_at P (eqb c 13) _ _ (λ _. omega arith) (λ _.
-        cond_at P (nat_lt c 32 || eqb c 127) _ _ (λ _. omega arith) (λ _. omega arith))))))
+        cond_both (eqb c 34) _ _ P (λ _. omega arith) (λ _.
+        cond_both (eqb c 92) _ _ P (λ _. omega arith) (λ _.
+        cond_both (eqb c 10) _ _ P (λ _. omega arith) (λ _.
+        cond_both (eqb c 9) _ _ P (λ _. omega arith) (λ _.
+        cond_both (eqb c 13) _ _ P (λ _. omega arith) (λ _.
+        cond_both (nat_lt c 32 || eqb c 127) _ _ P (λ _. omega arith) (λ _. omega arith))))))
 
 no_quote : (b : ℕ) (bs rest : List ℕ) (c : ℕ) → byte_at (b ∷ bs) ≡ Ok (c, rest) → eqb b 34 ≡ false
 unfolding byte_at
 no_quote b bs rest c e = elim (cases_Bool (eqb b 34)) [ inl h ↦ absurd (let same = eqb-true b 34 h in let wrong = rw same at e in cc) | inr h ↦ h ]
-
-same_after : (r : Result (ℕ × List ℕ) TraceFaultKind) (f g : List ℕ → Result (List ℕ × List ℕ) TraceFaultKind) → ((c : ℕ) (t : List ℕ) → r ≡ Ok (c, t) → f t ≡ g t) → (r >>= λ x. before (x.0 ∷ []) (f x.1)) ≡ (r >>= λ x. before (x.0 ∷ []) (g x.1))
-same_after (Ok x) f g h = ap (before (x.0 ∷ [])) (h x.0 x.1 refl)
-same_after (Err e) f g h = refl
 
 enough : (n m : ℕ) (s : List ℕ) → length s ≤ n → length s ≤ m → bytes_in n s ≡ bytes_in m s
 unfolding bytes_in
 enough n m [] p q = refl
 enough zero m (b ∷ s) p q = absurd (omega arith)
 enough (suc n) zero (b ∷ s) p q = absurd (omega arith)
-enough (suc n) (suc m) (b ∷ s) p q = ap (cond (eqb b 34) (Ok ([], s))) (same_after (byte_at (b ∷ s)) (bytes_in n) (bytes_in m) (λ c t e. let less = shrinks (b ∷ s) t c e in enough n m t (omega arith) (omega arith)))
+enough (suc n) (suc m) (b ∷ s) p q =
+    let after : ℕ → ℕ × List ℕ → Result (List ℕ × List ℕ) TraceFaultKind = λ k x. before (x.0 ∷ []) (bytes_in k x.1) in
+    ap (cond (eqb b 34) (Ok ([], s)))
+    (bind_same (byte_at (b ∷ s)) (after n) (after m) (λ x e. let less = shrinks (b ∷ s) x.1 x.0 e in ap (before (x.0 ∷ [])) (enough n m x.1 (omega arith) (omega arith))))
 
 nothing : byte_at [] ≡ Err BadValue
 unfolding byte_at
@@ -191,10 +186,6 @@ before-before xs ys (Err k) = refl
 before-none : (r : Result (List ℕ × List ℕ) TraceFaultKind) → before [] r ≡ r
 before-none (Ok x) = refl
 before-none (Err k) = refl
-
-not-true : (a : Bool) → not a ≡ true → a ≡ false
-not-true true e = absurd cc
-not-true false e = refl
 
 plain_byte : (b : ℕ) (s : List ℕ) → (is_plain b && not (eqb b 92)) ≡ true → byte_at (b ∷ s) ≡ Ok (b, s)
 unfolding byte_at

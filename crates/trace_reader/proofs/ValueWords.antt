@@ -8,10 +8,10 @@ use Rattle.std.specs.Int.{w32}
 use Rattle.std.specs.Option.{option_map}
 use Rattle.std.specs.Ordering.{int_eq}
 use Rattle.std.specs.Prelude.{ℤ, pos, negsuc, FitsSigned, codes}
+use Rattle.std.proofs.lemmas.Slice.Eq.{bytes_eq-Decides}
+use Rattle.std.specs.Str.{bytes_eq}
 use Rattle.descriptors.specs.declared.base.BaseType.{BaseType}
 use Rattle.jasmin_text.specs.declared.class_text.Field.{Field}
-use Rattle.jasmin_text.proofs.WordBytes.{same_is}
-use Rattle.jasmin_words.specs.Names.{same_bytes}
 use Rattle.sequence.proofs.Results.{Holds, bind_holds, HoldsIn, cond_in, guard_in}
 use Rattle.hierarchy.specs.declared.class.ClassId.{ClassId}
 use Rattle.hierarchy.specs.declared.value.Value.{Value}
@@ -40,7 +40,7 @@ value_is (Some base) word = at (int_in word) (int_found word) (int_word_fits wor
     at : (o : Option ℤ) → HoldsIn (λ n. word ≡ signed_decimal n) o → HoldsIn (λ n. FitsSigned w32 n) o → HoldsIn (IsSaid (Some base) word) (kept base o)
     at None h k = tt
     at (Some n) h k = guard_in (IsSaid (Some base) word) (int_eq (narrowed_int base n) n) _ (λ e. (h, (Decides-int_eq (narrowed_int base n) n).0 e, k))
-value_is None word = cond_in (IsSaid None word) (same_bytes word (codes "null")) _ _ (λ e. (same_is word (codes "null") e, tt, tt)) (λ _. by word)
+value_is None word = cond_in (IsSaid None word) (bytes_eq word (codes "null")) _ _ (λ e. ((bytes_eq-Decides word (codes "null")).0 e, tt, tt)) (λ _. by word)
   where
     referred_is : (digits : List ℕ) (o : Option ℕ) → HoldsIn (λ n. digits ≡ decimal n) o → HoldsIn (IsSaid None (35 ∷ digits)) (referred o)
     referred_is digits None h = tt

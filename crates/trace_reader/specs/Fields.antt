@@ -2,9 +2,9 @@
 use Rattle.std.specs.Prelude.{ℕ, ℤ, ◌+◌, List, [], ◌∷◌, ◌==◌, nat_lt, codes, Option, Some, None, Result, Ok, Err, if◌then◌else◌}
 use Rattle.std.specs.Ordering.{int_eq}
 use Rattle.std.specs.List.{list_any}
+use Rattle.std.specs.Str.{bytes_eq}
 use Rattle.descriptors.specs.declared.base.BaseType.{BaseType}
 use Rattle.jasmin_text.specs.declared.class_text.Field.{Field}
-use Rattle.jasmin_words.specs.Names.{same_bytes}
 use Rattle.hierarchy.specs.declared.class.ClassId.{ClassId}
 use Rattle.hierarchy.specs.declared.value.Value.{Value}
 use Rattle.hierarchy.specs.declared.value.Value.TheVariants as value
@@ -18,7 +18,7 @@ use Rattle.trace_reader.specs.Numbers.{int_in, number_in}
 -- the place of the field that is spelled so among these, counted on, and its base type
 abbrev pub field_from : ℕ → List Field → List ℕ → Option (ℕ × Option BaseType)
 field_from place [] word = None
-field_from place (f ∷ fs) word = if same_bytes (field_in_trace (Some f)) word then Some (place, base_in f.field_type) else field_from (place + 1) fs word
+field_from place (f ∷ fs) word = if bytes_eq (field_in_trace (Some f)) word then Some (place, base_in f.field_type) else field_from (place + 1) fs word
 
 abbrev pub known_field : Option (ℕ × Option BaseType) → List ℕ → Result (ℕ × Option BaseType) TraceFaultKind
 known_field (Some f) word = Ok f
@@ -48,7 +48,7 @@ reference_in (b ∷ digits) = if b == 35 then referred (number_in digits) else N
 
 abbrev pub value_in : Option BaseType → List ℕ → Option Value
 value_in (Some base) word = kept base (int_in word)
-value_in None word = if same_bytes word (codes "null") then Some value.Null else reference_in word
+value_in None word = if bytes_eq word (codes "null") then Some value.Null else reference_in word
 
 abbrev pub value_or_bad : Option Value → Result Value TraceFaultKind
 value_or_bad (Some v) = Ok v

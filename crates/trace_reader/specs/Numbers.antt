@@ -2,8 +2,8 @@
 use Rattle.std.specs.Prelude.{ℕ, ℤ, pos, List, [], ◌∷◌, Bool, false, not, ◌&&◌, nat_lt, nat_le, ◌==◌, Option, Some, None, Result, Ok, Err, if◌then◌else◌}
 use Rattle.std.specs.Fmt.{decimal, signed_decimal}
 use Rattle.std.specs.List.{list_all}
+use Rattle.std.specs.Str.{bytes_eq}
 use Rattle.jasmin_words.specs.Integers.{integer_of}
-use Rattle.jasmin_words.specs.Names.{same_bytes}
 use Rattle.trace_reader.specs.declared.fault.TraceFaultKind.{TraceFaultKind}
 use Rattle.trace_reader.specs.declared.fault.TraceFaultKind.TheVariants.{BadLine, NumberOutOfTurn, UnknownName}
 
@@ -19,7 +19,7 @@ is_number (d ∷ e ∷ ds) = is_digit d && not (d == 48) && list_all is_digit (e
 -- the word is the decimal of this number
 abbrev pub spelled_so : List ℕ → Option ℤ → Option ℤ
 spelled_so word None = None
-spelled_so word (Some n) = if same_bytes word (signed_decimal n) then Some n else None
+spelled_so word (Some n) = if bytes_eq word (signed_decimal n) then Some n else None
 
 -- the int whose decimal the word is
 unfoldable pub int_in : List ℕ → Option ℤ
@@ -35,7 +35,7 @@ number_in word = from_zero (int_in word)
 
 -- the number of the line
 unfoldable pub number_at : ℕ → List ℕ → Result (Unit {0}) TraceFaultKind
-number_at n word = if same_bytes word (decimal n) then Ok tt else if is_number word then Err NumberOutOfTurn else Err BadLine
+number_at n word = if bytes_eq word (decimal n) then Ok tt else if is_number word then Err NumberOutOfTurn else Err BadLine
 
 abbrev pub known_thread : ℕ → List ℕ → Option ℕ → Result ℕ TraceFaultKind
 known_thread threads digits (Some t) = if nat_lt t threads then Ok t else Err UnknownName

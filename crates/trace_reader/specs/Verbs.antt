@@ -1,6 +1,6 @@
 -- The third word of a line: a step by its number in JLS SE 8 12.4.2, get, put or print.
 use Rattle.std.specs.Prelude.{ℕ, List, codes, Option, Some, None, Result, Ok, Err, if◌then◌else◌}
-use Rattle.jasmin_words.specs.Names.{same_bytes}
+use Rattle.std.specs.Str.{bytes_eq}
 use Rattle.trace_reader.specs.declared.fault.TraceFaultKind.{TraceFaultKind}
 use Rattle.trace_reader.specs.declared.fault.TraceFaultKind.TheVariants.{UnknownStep}
 use Rattle.trace_reader.specs.declared.verbs.Deed.{Deed}
@@ -11,17 +11,17 @@ use Rattle.trace_reader.specs.declared.verbs.Verb.TheVariants as verb
 -- what is done at a class
 abbrev pub deed_at : List ℕ → Option Deed
 deed_at word =
-    if same_bytes word (codes "step2") then Some deed.Waits
-    else if same_bytes word (codes "step3") then Some deed.Recurs
-    else if same_bytes word (codes "step4") then Some deed.FindsInitialized
-    else if same_bytes word (codes "step5") then Some deed.FindsErroneous
-    else if same_bytes word (codes "step6") then Some deed.Begins
-    else if same_bytes word (codes "step7") then Some deed.SuperFails
-    else if same_bytes word (codes "step9") then Some deed.Runs
-    else if same_bytes word (codes "step10") then Some deed.Completes
-    else if same_bytes word (codes "step12") then Some deed.Fails
-    else if same_bytes word (codes "get") then Some deed.Gets
-    else if same_bytes word (codes "put") then Some deed.Puts
+    if bytes_eq word (codes "step2") then Some deed.Waits
+    else if bytes_eq word (codes "step3") then Some deed.Recurs
+    else if bytes_eq word (codes "step4") then Some deed.FindsInitialized
+    else if bytes_eq word (codes "step5") then Some deed.FindsErroneous
+    else if bytes_eq word (codes "step6") then Some deed.Begins
+    else if bytes_eq word (codes "step7") then Some deed.SuperFails
+    else if bytes_eq word (codes "step9") then Some deed.Runs
+    else if bytes_eq word (codes "step10") then Some deed.Completes
+    else if bytes_eq word (codes "step12") then Some deed.Fails
+    else if bytes_eq word (codes "get") then Some deed.Gets
+    else if bytes_eq word (codes "put") then Some deed.Puts
     else None
 
 abbrev pub known_deed : Option Deed → Result Verb TraceFaultKind
@@ -29,4 +29,4 @@ known_deed (Some d) = Ok (verb.AtClass d)
 known_deed None = Err UnknownStep
 
 unfoldable pub verb_at : List ℕ → Result Verb TraceFaultKind
-verb_at word = if same_bytes word (codes "print") then Ok verb.Prints else known_deed (deed_at word)
+verb_at word = if bytes_eq word (codes "print") then Ok verb.Prints else known_deed (deed_at word)

@@ -2,10 +2,10 @@
 
 ghost use Rattle.std.specs.Prelude.{◌≡◌, ◌<◌, ◌≤◌, ◌==◌, ◌++◌, ◌∷◌, filter, length, option_copied, IfOk, IfSome, Some};
 ghost use Rattle.std.specs.List.{list_any};
+ghost use Rattle.std.specs.Str.{bytes_eq};
 ghost use Rattle.descriptors.specs.Spelling.{field_spelling, element_spelling};
 ghost use Rattle.hierarchy.specs.Ops.{is_static_field};
 ghost use Rattle.sequence.specs.Gives.{Gives};
-ghost use Rattle.jasmin_words.specs.Names.{same_bytes};
 ghost use Rattle.statics.specs.Statics.{base_in, static_fields};
 ghost use Rattle.trace.specs.TraceText.{field_in_trace};
 ghost use Rattle.trace_reader.specs.Fields.{field_from, field_at, value_in, value_at, kept, reference_in};
@@ -41,7 +41,7 @@ fn behind_bytes<'a>(front: &[u8], bytes: &'a [u8]) -> Option<&'a [u8]>
 
 /// Whether the bytes are these and then those.
 fn are_joined(front: &[u8], back: &[u8], bytes: &[u8]) -> bool
-    ensures { result ≡ same_bytes (front.now ++ back.now) bytes.now }
+    ensures { result ≡ bytes_eq (front.now ++ back.now) bytes.now }
 {
     match behind_bytes(front, bytes) {
         Some(rest) => same(back, rest),
@@ -51,7 +51,7 @@ fn are_joined(front: &[u8], back: &[u8], bytes: &[u8]) -> bool
 
 /// Whether a word is the descriptor of an element type.
 fn spells_element(element: &ElementType, word: &[u8]) -> bool
-    ensures { result ≡ same_bytes (element_spelling element.now) word.now }
+    ensures { result ≡ bytes_eq (element_spelling element.now) word.now }
 {
     match element {
         ElementType::Base(base) => same(&[base.letter()], word),
@@ -64,7 +64,7 @@ fn spells_element(element: &ElementType, word: &[u8]) -> bool
 
 /// Whether a word is the descriptor of a type.
 fn spells_type(field_type: &FieldType, word: &[u8]) -> bool
-    ensures { result ≡ same_bytes (field_spelling field_type.now) word.now }
+    ensures { result ≡ bytes_eq (field_spelling field_type.now) word.now }
 {
     let mut rest = word;
     'dimensions: for _dimension in 0..field_type.dimensions {
@@ -77,7 +77,7 @@ fn spells_type(field_type: &FieldType, word: &[u8]) -> bool
 }
 
 fn spells_type_behind_colon(field_type: &FieldType, bytes: &[u8]) -> bool
-    ensures { result ≡ same_bytes (58 ∷ field_spelling field_type.now) bytes.now }
+    ensures { result ≡ bytes_eq (58 ∷ field_spelling field_type.now) bytes.now }
 {
     match bytes {
         [b':', rest @ ..] => spells_type(field_type, rest),
@@ -87,7 +87,7 @@ fn spells_type_behind_colon(field_type: &FieldType, bytes: &[u8]) -> bool
 
 /// Whether a word is a field's name, a colon and its descriptor.
 fn spells_field(field: &Field, word: &[u8]) -> bool
-    ensures { result ≡ same_bytes (field_in_trace (Some field.now)) word.now }
+    ensures { result ≡ bytes_eq (field_in_trace (Some field.now)) word.now }
 {
     match behind_bytes(field.name.as_slice(), word) {
         Some(rest) => spells_type_behind_colon(&field.field_type, rest),

@@ -1,8 +1,8 @@
 //! The words of a line.
 
 ghost use Rattle.std.specs.Prelude.{◌≡◌, ◌≤◌, ◌<◌, length, IfOk};
+ghost use Rattle.std.specs.Str.{bytes_eq};
 ghost use Rattle.sequence.specs.Gives.{Gives};
-ghost use Rattle.jasmin_words.specs.Names.{same_bytes};
 ghost use Rattle.trace_reader.specs.Words.{ends_word as is_ending, word_len, word_at, space_at, next_at, end_at};
 
 use crate::fault::TraceFaultKind;
@@ -13,7 +13,7 @@ pub(crate) type Read<T> = Result<T, Refusal<TraceFaultKind>>;
 
 /// Whether two words have the same bytes. Words of a trace are short and mostly differ early, so they are gone over byte by byte.
 pub(crate) fn same(word: &[u8], other: &[u8]) -> bool
-    ensures { result ≡ same_bytes word.now other.now }
+    ensures { result ≡ bytes_eq word.now other.now }
 {
     let mut rest = word;
     let mut wanted = other;
