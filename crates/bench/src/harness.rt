@@ -23,6 +23,9 @@ const SWEEPS: usize = 5;
 // How many rounds come before those that count, in each sweep.
 const WARM_UPS: usize = 1;
 
+// Of how many times a mean is taken, where one is.
+const MEAN_OF: usize = 20;
+
 // How many `fetch_add`s are timed in a round.
 const ADDS: usize = 10_000;
 
@@ -76,6 +79,19 @@ impl Watch {
         let nanos = start.elapsed(rt)?.as_nanos();
         Ok(nanos.saturating_mul(1000) / (parts as u128).max(1))
     }
+}
+
+/// The mean of some times, taken one after another behind one that doesn't count. For what several threads contend for, of which
+/// each time is another: the least of single times is that of a lucky one.
+pub(crate) fn mean_time<F: Fn() -> Result<u128, Failure>>(take: F) -> Result<u128, Failure>
+    requires { F.IsAlwaysCallable take }
+{
+    take()?;
+    let mut sum: u128 = 0;
+    for _ in 0..MEAN_OF {
+        sum = sum.saturating_add(take()?);
+    }
+    Ok(sum / MEAN_OF as u128)
 }
 
 /// A sample of some sizes beside another.

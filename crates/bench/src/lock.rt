@@ -7,7 +7,7 @@ ghost use Rattle.std.specs.Prelude.{◌≡◌, ◌<◌, ◌≤◌, IfOk};
 ghost use Rattle.std.specs.List.{AllByRecursion};
 ghost use Rattle.bench.specs.Ready.{IsReady};
 
-use crate::harness::{Failure, Row, Watch};
+use crate::harness::{Failure, Row, Watch, mean_time};
 use crate::history::{History, four_histories};
 use crate::rounds::in_threads;
 use crate::sample::Sample;
@@ -45,7 +45,7 @@ pub(crate) const ROWS: &[Row] = &[
         most: 1_000_000,
         unit: Sample::Lock(ALONE),
         unit_size: None,
-        repeats: 100,
+        repeats: 20,
     },
     Row {
         what: "rounds of 2 threads on 1 record, beside 1 thread",
@@ -57,7 +57,7 @@ pub(crate) const ROWS: &[Row] = &[
         most: 1_000_000,
         unit: Sample::Lock(ALONE),
         unit_size: None,
-        repeats: 100,
+        repeats: 20,
     },
     Row {
         what: "rounds of 2 threads on 2 records, beside 1 thread",
@@ -69,7 +69,7 @@ pub(crate) const ROWS: &[Row] = &[
         most: 1_000_000,
         unit: Sample::Lock(ALONE),
         unit_size: None,
-        repeats: 100,
+        repeats: 20,
     },
     Row {
         what: "rounds of 4 threads on 1 record, beside 1 thread",
@@ -81,7 +81,7 @@ pub(crate) const ROWS: &[Row] = &[
         most: 1_000_000,
         unit: Sample::Lock(ALONE),
         unit_size: None,
-        repeats: 100,
+        repeats: 20,
     },
     Row {
         what: "rounds of 4 threads on 4 records, beside 1 thread",
@@ -93,7 +93,7 @@ pub(crate) const ROWS: &[Row] = &[
         most: 1_000_000,
         unit: Sample::Lock(ALONE),
         unit_size: None,
-        repeats: 100,
+        repeats: 20,
     },
 ];
 
@@ -128,14 +128,12 @@ fn round_time<R: Clock + Threads + Wait + Sync>(
     watch.share(rt, rounds)
 }
 
-/// The time of a round in a contest with so many rounds in each thread.
+/// The mean time of a round, over contests with so many rounds in each thread.
 pub(crate) fn time<R: Clock + Threads + Wait + Sync>(
     rt: &R,
     alloc: Global,
     contest: Contest,
     rounds: usize,
 ) -> Result<u128, Failure> {
-    // The first contest wakes the processors for the second, which counts.
-    round_time(rt, alloc, contest, rounds)?;
-    round_time(rt, alloc, contest, rounds)
+    mean_time(|| round_time(rt, alloc, contest, rounds))
 }

@@ -9,7 +9,7 @@ ghost use Rattle.std.specs.Prelude.{◌≡◌, ◌<◌, true};
 ghost use Rattle.bodies.specs.Runs.{AreMains};
 
 use crate::files::Files;
-use crate::harness::{Failure, Row, Watch};
+use crate::harness::{Failure, Row, Watch, mean_time};
 use crate::sample::{Sample, Scene};
 use bodies::NoCode;
 use guest_threads::{Gate, NoGate, run_threads};
@@ -48,7 +48,7 @@ pub(crate) const ROWS: &[Row] = &[
         most: 1,
         unit: Sample::With(Scene::Run(Chains::Own)),
         unit_size: Some(1),
-        repeats: 200,
+        repeats: 20,
     },
     Row {
         what: "threads, the same interfaces, an event, beside 1",
@@ -57,7 +57,7 @@ pub(crate) const ROWS: &[Row] = &[
         most: 1,
         unit: Sample::With(Scene::Run(Chains::SameInterfaces)),
         unit_size: Some(1),
-        repeats: 200,
+        repeats: 20,
     },
     Row {
         what: "threads, the same main class, an event, beside 1",
@@ -66,7 +66,7 @@ pub(crate) const ROWS: &[Row] = &[
         most: 1,
         unit: Sample::With(Scene::Run(Chains::Same)),
         unit_size: Some(1),
-        repeats: 200,
+        repeats: 20,
     },
 ];
 
@@ -191,7 +191,7 @@ fn run_time<R: Clock + Threads + Wait + Sync, G: Gate + Sync>(
     }
 }
 
-/// The time of a run of so many threads, an event.
+/// The mean time of runs of so many threads, an event.
 pub(crate) fn time<R: Clock + Threads + Wait + Sync>(
     rt: &R,
     alloc: Global,
@@ -201,9 +201,7 @@ pub(crate) fn time<R: Clock + Threads + Wait + Sync>(
 ) -> Result<u128, Failure> {
     let mains = mains_of(chains);
     let mains = mains.get(..threads).unwrap_or_default();
-    // The first run wakes the processors for the second, which counts.
-    run_time(rt, alloc, program, mains, &NoGate)?;
-    run_time(rt, alloc, program, mains, &NoGate)
+    mean_time(|| run_time(rt, alloc, program, mains, &NoGate))
 }
 
 /// The time of a run of sixteen threads whose one main class is held, an event. How much processor time that takes is the

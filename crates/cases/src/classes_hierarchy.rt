@@ -109,7 +109,11 @@ pub(crate) fn superinterfaces_of(
     let Some(class) = program.class_named(asked.as_bytes()) else {
         return Ok(None);
     };
-    Ok(Some(names(alloc, program, program.superinterfaces(class))?))
+    let mut superinterfaces = Vec::new(alloc);
+    for superinterface in program.superinterfaces(class) {
+        superinterfaces.push(superinterface)?;
+    }
+    Ok(Some(names(alloc, program, &superinterfaces)?))
 }
 
 /// Whether a class is below another one.

@@ -1,6 +1,6 @@
 -- Sets of classes: each once, with a mark at its number.
-use Rattle.std.proofs.Common.{◌≡◌, ℕ, zero, suc, ◌<◌, ◌≤◌, Bool, true, false, inl, inr, Some, None, List, [], ◌∷◌, ◌++◌, length, slice_get, slice_index_or, slice_set, refl, sym, ap, subst, ◌∙◌, arith, append-nil, append_assoc}
-use Rattle.std.specs.Prelude.{◌||◌}
+use Rattle.std.proofs.Common.{◌≡◌, ℕ, zero, suc, ◌<◌, ◌≤◌, Bool, true, false, inl, inr, Option, Some, None, List, [], ◌∷◌, ◌++◌, length, slice_get, slice_index_or, slice_set, refl, sym, ap, subst, ◌∙◌, arith, append-nil, append_assoc}
+use Rattle.std.specs.Prelude.{◌||◌, IfSome}
 use Rattle.std.proofs.lemmas.Bool.{cases_Bool, eqb-true, eq-eqb, true≢false}
 use Rattle.std.proofs.lemmas.List.Folds.{list_any-append}
 use Rattle.std.specs.List.{AllByRecursion, IsDistinct, list_any}
@@ -10,6 +10,7 @@ use Rattle.hierarchy.specs.ClassLists.{Among, first, later, is_among, add_new, a
 use Rattle.hierarchy.specs.LinkedProgram.{id}
 use Rattle.hierarchy.proofs.ClassMembership.{same_class-true, true_from_among}
 use Rattle.hierarchy.proofs.Positions.{Some_same}
+use Rattle.hierarchy.proofs.Searches.{among_get}
 
 none_pushed : (y : ClassId) (xs : List ClassId) (x : ClassId) → AllByRecursion (λ z. same_class y z ≡ false) xs → same_class y x ≡ false → AllByRecursion (λ z. same_class y z ≡ false) (xs ++ x ∷ [])
 none_pushed y [] x a e = (e, tt)
@@ -68,6 +69,11 @@ none_distinct = tt
 
 pub distinct-once : (xs : List ClassId) → IsDistinct same_class (distinct xs)
 distinct-once xs = add_all-distinct [] xs none_distinct
+
+-- the class at a place stands in the list
+pub stands_there : (xs : List ClassId) (k : ℕ) (o : Option ClassId) → o ≡ slice_get xs k → IfSome o (λ c. Among c xs)
+stands_there xs k None e = tt
+stands_there xs k (Some c) e = among_get xs k c e
 
 all_at : (P : ClassId → Type 0) {x : ClassId} {xs : List ClassId} → AllByRecursion P xs → Among x xs → P x
 all_at P a first = a.0

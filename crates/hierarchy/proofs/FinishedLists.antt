@@ -13,7 +13,7 @@ use Rattle.hierarchy.specs.Superinterfaces.{IsTable}
 use Rattle.hierarchy.specs.UpwardOrder.{IsUpwardOrder, Rises}
 use Rattle.hierarchy.proofs.ClassMembership.{among_cases}
 use Rattle.hierarchy.proofs.Positions.{Some_same}
-use Rattle.hierarchy.proofs.Searches.{among_get, among_one, length-get_none}
+use Rattle.hierarchy.proofs.Searches.{among_one, length-get_none}
 use Rattle.hierarchy.proofs.Walks.{none_id}
 
 finished_for : {f : ClassId → List ClassId} {classes : List Class} {P Q : ClassId → Type 0} {all : List (List ClassId)} → ((c : ClassId) → Q c → P c) → AreFinished f classes P all → AreFinished f classes Q all
@@ -40,10 +40,9 @@ pub finished_from : {f : ClassId → List ClassId} {classes : List Class} {all :
 finished_from {classes = classes} {c = c} a m =
     finished_for (λ e s. elim s [ inl same ↦ direct (subst (λ z. Among z (supers classes c)) same m) | inr r ↦ further m r ]) a
 
--- the last class of a list stands in it
-pub last_there : (all : List (List ClassId)) (n : ℕ) (list : List ClassId) (k : ℕ) (o : Option ClassId) → slice_get all n ≡ Some list → o ≡ slice_get list k → IfSome o (λ c. Among c (listed all n))
-last_there all n list k None e h = tt
-last_there all n list k (Some c) e h = rw e (among_get list k c h)
+-- what stands in a list stands in that of its number
+pub last_there : (all : List (List ClassId)) (n : ℕ) (list : List ClassId) (o : Option ClassId) → slice_get all n ≡ Some list → IfSome o (λ c. Among c list) → IfSome o (λ c. Among c (listed all n))
+last_there all n list o e h = rw e h
 
 among_taken : {c : ClassId} (xs : List ClassId) (k : ℕ) → Among c (take k xs) → (n : ℕ) × (n < k) × (slice_get xs n ≡ Some c)
 among_taken xs zero h = elim h [ ]

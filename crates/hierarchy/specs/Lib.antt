@@ -2,6 +2,7 @@ pub mod Ancestry
 pub mod BuiltIn
 pub mod BuiltInMethods
 pub mod ClassLists
+pub mod ClassNumbers
 pub mod Code
 pub mod DeclaredMembers
 pub mod Fields
@@ -9,6 +10,7 @@ pub mod FinishedLists
 pub mod FirstFault
 pub mod Found
 pub mod Hierarchy
+pub mod InheritedLists
 pub mod LinkedProgram
 pub mod LinkedTexts
 pub mod Linking

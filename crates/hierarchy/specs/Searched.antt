@@ -9,4 +9,4 @@ use Rattle.hierarchy.specs.UpwardOrder.{IsUpwardOrder}
 -- the first class that stands on a cycle, or an upward order where each way up ends
 abbrev pub SearchOf : List Class → SearchResult → Type 0
 SearchOf classes (Cycle n) = IsFirstCyclic classes n
-SearchOf classes (Upward order) = IsUpwardOrder classes order × IsAcyclic classes
+SearchOf classes (Upward order) = IsUpwardOrder classes order.items × IsAcyclic classes

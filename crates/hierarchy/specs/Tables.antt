@@ -8,7 +8,7 @@ use Rattle.hierarchy.specs.Code.{code_at}
 use Rattle.hierarchy.specs.LinkedProgram.{linked}
 use Rattle.hierarchy.specs.Superinterfaces.{IsTable, superinterfaces}
 use Rattle.hierarchy.specs.Fields.{field_order}
-use Rattle.hierarchy.specs.Methods.{all_superinterfaces}
+use Rattle.hierarchy.specs.InheritedLists.{inherited}
 use Rattle.hierarchy.specs.MemberPlaces.{HavePlaces}
 use Rattle.hierarchy.specs.Objects.{object_fields}
 use Rattle.hierarchy.specs.Quoted.{quoted_texts, cells_of}
@@ -17,7 +17,7 @@ use Rattle.hierarchy.specs.Quoted.{quoted_texts, cells_of}
 pub record AreTables (classes : List Class) (t : Tables) : Type 0 where
   pub superinterfaces : IsTable (superinterfaces classes) (length classes) t.superinterfaces.items
   pub field_orders : IsTable (λ c. distinct (field_order classes c)) (length classes) t.field_orders.items
-  pub inherited : IsTable (all_superinterfaces classes) (length classes) t.inherited.items
+  pub inherited : IsTable (inherited classes) (length classes) t.inherited.items
   pub quoted : t.quoted ≡ quoted_texts classes
   pub cells : cells_of classes ≤ 1000000
   pub object_cells : IsTable (λ c. length (object_fields (linked classes) c)) (length classes) t.object_cells.items

@@ -1,17 +1,21 @@
 //! Sets of classes in the order in which they were found.
 
-ghost use Rattle.std.specs.Prelude.{◌≡◌, ◌<◌, ◌≤◌, ℕ, [], ◌++◌, true, false, IfOk, OnOk, OnErr, length, slice_get, slice_index_or, option_copied};
+ghost use Rattle.std.specs.Prelude.{◌≡◌, ◌<◌, ◌≤◌, ℕ, [], ◌++◌, true, false, IfOk, IfSome, OnOk, OnErr, length, slice_get, slice_index_or};
 ghost use Rattle.std.specs.List.{list_all, IsDistinct};
-ghost use Rattle.hierarchy.specs.ClassLists.{is_among, add_new, add_all, same_class};
+ghost use Rattle.hierarchy.specs.ClassLists.{Among, is_among, add_new, add_all, same_class};
+ghost use Rattle.hierarchy.specs.ClassNumbers.{classes_in};
 
 use crate::class::ClassId;
+use crate::class_list::ClassList;
 use std::alloc::{AllocError, Global};
 use std::marker::Model;
 
 /// Classes in the order in which they were found, each once.
+///
+/// Each takes three bytes or a few more: a program keeps many long sets, and to fill new memory takes long.
 #[derive(Debug, Drop)]
 pub(crate) struct ClassSet {
-    ids: Vec<ClassId>,
+    numbers: Vec<u16>,
     /// Whether the class of each number is there; those past the end are not.
     marks: Vec<bool>,
 }
@@ -20,16 +24,17 @@ impl Model for ClassSet {
     ghost use Rattle.std.specs.Prelude.{◌≡◌, ℕ, List, false, slice_index_or};
     ghost use Rattle.std.specs.List.{IsDistinct};
     ghost use Rattle.hierarchy.specs.ClassLists.{is_among, same_class};
+    ghost use Rattle.hierarchy.specs.ClassNumbers.{ids};
     ghost use Rattle.hierarchy.specs.LinkedProgram.{id};
     ghost use Rattle.hierarchy.specs.declared.class.ClassId.{ClassId};
 
     ghost Value = { List ClassId };
 
-    ghost view = { λ s. s.ids.items };
+    ghost view = { λ s. ids s.numbers.items };
 
     ghost invariant = { λ s. record {
-      once : IsDistinct same_class s.ids.items;
-      marked : (n : ℕ) → slice_index_or s.marks.items n false ≡ is_among (id n) s.ids.items;
+      once : IsDistinct same_class (ids s.numbers.items);
+      marked : (n : ℕ) → slice_index_or s.marks.items n false ≡ is_among (id n) (ids s.numbers.items);
     } };
 }
 
@@ -39,7 +44,7 @@ impl ClassSet {
         ensures { result ≡ [] }
     {
         ClassSet {
-            ids: Vec::new(alloc),
+            numbers: Vec::new(alloc),
             marks: Vec::new(alloc),
         }
     }
@@ -48,14 +53,23 @@ impl ClassSet {
     pub(crate) fn is_distinct(&self)
         ensures { IsDistinct same_class self.now }
     {
-        let _ = &self.ids;
+        let _ = &self.numbers;
     }
 
     /// The classes in order.
-    pub(crate) fn as_slice(&self) -> &[ClassId]
-        ensures { result.now ≡ self.now }
+    pub(crate) fn list(&self) -> ClassList<'_>
+        ensures { classes_in result ≡ self.now }
     {
-        self.ids.as_slice()
+        ClassList {
+            numbers: self.numbers.as_slice(),
+        }
+    }
+
+    /// How many classes there are.
+    pub(crate) fn len(&self) -> usize
+        ensures { result ≡ length self.now }
+    {
+        self.numbers.len()
     }
 
     /// Whether the class is there.
@@ -86,10 +100,35 @@ impl ClassSet {
     pub(crate) fn at(&self, place: usize) -> Option<ClassId>
         ensures { result ≡ slice_get self.now place }
     {
-        self.ids.get(place).copied()
+        match self.numbers.get(place) {
+            Some(number) => Some(ClassId {
+                number: usize::from(*number),
+            }),
+            None => None,
+        }
     }
 
-    /// Adds a class at the end unless it is there already.
+    /// The last class.
+    pub(crate) fn last(&self) -> Option<ClassId>
+        ensures { IfSome result (λ last. Among last self.now) }
+    {
+        let before = self.len().checked_sub(1)?;
+        self.at(before)
+    }
+
+    /// The classes in order, each with its number alone.
+    pub(crate) fn to_vec(&self, alloc: Global) -> Result<Vec<ClassId>, AllocError>
+        ensures { IfOk result (λ all. all.items ≡ self.now) }
+    {
+        let mut all = Vec::new(alloc);
+        for id in self.list() {
+            all.push(id)?;
+        }
+        Ok(all)
+    }
+
+    /// Adds a class at the end unless it is there already. A number above 65,535, which no class of a program has, is
+    /// refused as if there were no memory for it.
     pub(crate) fn add(&mut self, id: ClassId) -> Result<(), AllocError>
         ensures added { OnOk result (self.new ≡ add_new self.old id) }
         ensures refused { OnErr result (self.new ≡ self.old) }
@@ -97,8 +136,11 @@ impl ClassSet {
         if self.contains(id) {
             return Ok(());
         }
+        let Ok(number) = u16::try_from(id.number) else {
+            return Err(AllocError);
+        };
         make_room(&mut self.marks, id.number)?;
-        self.ids.push(id)?;
+        self.numbers.push(number)?;
         self.marks[id.number] = true;
         Ok(())
     }
@@ -115,6 +157,16 @@ impl ClassSet {
         Ok(())
     }
 
+    /// Adds each class of a list, in order.
+    fn add_list(&mut self, list: ClassList<'_>) -> Result<(), AllocError>
+        ensures { OnOk result (self.new ≡ add_all self.old (classes_in list.entry)) }
+    {
+        for id in list {
+            self.add(id)?;
+        }
+        Ok(())
+    }
+
     /// Whether there is at most one class, and the other set lacks it.
     fn is_short_of(&self, other: &ClassSet) -> bool
         ensures few { result ≡ true → length self.now ≤ 1 }
@@ -122,7 +174,7 @@ impl ClassSet {
     {
         other.is_distinct();
         match self.at(0) {
-            Some(first) => self.as_slice().len() < 2 && !other.contains(first),
+            Some(first) => self.len() < 2 && !other.contains(first),
             None => true,
         }
     }
@@ -133,17 +185,16 @@ impl ClassSet {
         ensures { OnOk result (self.new ≡ add_all self.old other.now) }
     {
         if !self.is_short_of(other) {
-            self.add_each(other.as_slice())?;
-            return Ok(());
+            return self.add_list(other.list());
         }
-        let mut marks = Vec::from_slice(*self.ids.allocator(), other.marks.as_slice())?;
+        let mut marks = Vec::from_slice(*self.numbers.allocator(), other.marks.as_slice())?;
         if let Some(id) = self.at(0) {
             make_room(&mut marks, id.number)?;
             marks[id.number] = true;
         }
         // A few places more than are filled, as a few classes mostly follow.
-        self.ids.reserve(other.ids.len().saturating_add(4))?;
-        self.ids.extend_from_slice(other.ids.as_slice())?;
+        self.numbers.reserve(other.numbers.len().saturating_add(4))?;
+        self.numbers.extend_from_slice(other.numbers.as_slice())?;
         self.marks = marks;
         Ok(())
     }

@@ -98,7 +98,7 @@ fn add_order(
         return Ok(());
     }
     if id.number < classes.len() {
-        if found.as_slice().len() < 2 {
+        if found.len() < 2 {
             // So short a list is made longer by a copy, in which the class itself stands first.
             add_list(finished, id.number, found)?;
             return Ok(());

@@ -3,11 +3,13 @@
 ghost use Rattle.std.specs.Prelude.{◌≡◌, ◌≤◌, filter, length};
 ghost use Rattle.hierarchy.specs.Ops.{is_static_field};
 ghost use Rattle.hierarchy.specs.Ancestry.{first_given, superclasses};
+ghost use Rattle.hierarchy.specs.ClassNumbers.{classes_in};
 ghost use Rattle.hierarchy.specs.MemberOrder.{key_of_field, AreSortedPlaces};
 ghost use Rattle.hierarchy.specs.Fields.{field_order, field_from, is_class_element as is_class_element_of, is_class_type, is_out, built_in_field, declared_field, is_of_kind, resolved_field};
 
 use crate::built_in::BuiltIn;
 use crate::class::ClassId;
+use crate::class_list::ClassList;
 use crate::member_order::compare_field_at;
 use crate::program::Program;
 use descriptors::{ElementType, FieldType};
@@ -166,16 +168,14 @@ impl Program {
         &self,
         name: &[u8],
         field_type: &FieldType,
-        ids: &[ClassId],
+        ids: ClassList<'_>,
     ) -> Option<DeclaredField>
-        ensures { result ≡ first_given (declared_field self.now name.now field_type.now) ids.now }
+        ensures { result ≡ first_given (declared_field self.now name.now field_type.now) (classes_in ids.entry) }
     {
-        let mut rest = ids;
-        while let [id, after @ ..] = rest {
-            if let Some(found) = self.declared_field(name, field_type, *id) {
+        for id in ids {
+            if let Some(found) = self.declared_field(name, field_type, id) {
                 return Some(found);
             }
-            rest = after;
         }
         None
     }

@@ -1,8 +1,9 @@
 //! Lists of classes, each made from the finished lists of the classes above.
 
-ghost use Rattle.std.specs.Prelude.{◌≡◌, [], true, IfOk, IfSome, OnOk};
+ghost use Rattle.std.specs.Prelude.{◌≡◌, ◌<◌, [], true, None, IfOk, IfSome, OnOk, length};
 ghost use Rattle.hierarchy.specs.ClassLists.{Among, add_all};
 ghost use Rattle.hierarchy.specs.FinishedLists.{listed, IsCovered};
+ghost use Rattle.hierarchy.specs.InheritedLists.{or_other};
 ghost use Rattle.hierarchy.specs.Superinterfaces.{IsTable};
 
 use crate::class::ClassId;
@@ -21,12 +22,38 @@ pub(crate) fn empty_sets(alloc: Global, count: usize) -> Result<Vec<ClassSet>, A
     Ok(all)
 }
 
+/// The list at that number, if it has a class.
+fn filled(all: &[ClassSet], number: usize) -> Option<&ClassSet>
+    ensures some { IfSome result (λ list. (list.now ≡ listed all.now number) × (0 < length list.now)) }
+    ensures none { result ≡ None → listed all.now number ≡ [] }
+{
+    match list_at(all, number) {
+        Some(list) => { if list.len() > 0 { Some(list) } else { None } }
+        None => None,
+    }
+}
+
+/// The list at that number, or that of the other table where it is empty, if it has a class.
+pub(crate) fn list_or_other<'a>(
+    all: &'a [ClassSet],
+    others: &'a [ClassSet],
+    number: usize,
+) -> Option<&'a ClassSet>
+    ensures some { IfSome result (λ list. (list.now ≡ or_other (listed others.now number) (listed all.now number)) × (0 < length list.now)) }
+    ensures none { result ≡ None → or_other (listed others.now number) (listed all.now number) ≡ [] }
+{
+    match filled(all, number) {
+        Some(list) => Some(list),
+        None => filled(others, number),
+    }
+}
+
 /// The last class of the list at that number.
 pub(crate) fn last_listed(all: &[ClassSet], number: usize) -> Option<ClassId>
     ensures { IfSome result (λ last. Among last (listed all.now number)) }
 {
     match list_at(all, number) {
-        Some(list) => list.as_slice().last().copied(),
+        Some(list) => list.last(),
         None => None,
     }
 }
@@ -66,7 +93,7 @@ pub(crate) fn is_covered(
     let Some(above) = list_at(all, class.number) else {
         return false;
     };
-    found.contains(class) && above.as_slice().len() + 1 == list.as_slice().len()
+    found.contains(class) && list.len() > 0 && above.len() == list.len() - 1
 }
 
 /// Adds the list at that number, each class once; where all of it is there, nothing is to be done.

@@ -19,9 +19,8 @@ ghost use Rattle.hierarchy.specs.FirstFault.{HasNames, IsNameFault, HasNoCycle, 
 ghost use Rattle.hierarchy.specs.declared.fault.LinkFaultKind.TheVariants as because;
 
 use crate::assembly::linked_classes;
-use crate::class::Class;
+use crate::class::{Class, ClassId};
 use crate::class_code::code_of;
-use crate::class_set::ClassSet;
 use crate::code::ClassCode;
 use crate::fault::{LinkFault, LinkFaultKind};
 use crate::member_places::{MemberPlaces, MemberSearch, search_members};
@@ -114,11 +113,11 @@ fn members_of(alloc: Global, classes: &[Class]) -> Result<Vec<MemberPlaces>, Fau
 }
 
 /// An order in which each class stands after its direct supertypes, where none stands on a cycle.
-fn upward_order_of(alloc: Global, classes: &[Class]) -> Result<ClassSet, FaultAt>
+fn upward_order_of(alloc: Global, classes: &[Class]) -> Result<Vec<ClassId>, FaultAt>
     requires some { 0 < length classes.now }
     requires few { length classes.now ≤ 1024 }
     requires in_range { IsInRange classes.now }
-    ensures upward { IfOk result (IsUpwardOrder classes.now) }
+    ensures upward { IfOk result (λ order. IsUpwardOrder classes.now order.items) }
     ensures acyclic { IfOk result (λ order. IsAcyclic classes.now) }
     ensures within { IfErr result (λ at. at.place < length classes.now) }
     ensures fault { IfErr result (λ at. (at.kind ≡ because.NoMemory) ⊎ IsClassFault classes.now at.kind at.place) }

@@ -3,10 +3,12 @@
 ghost use Rattle.std.specs.Prelude.{◌≡◌};
 ghost use Rattle.std.specs.List.{list_any, filter, filter_map};
 ghost use Rattle.hierarchy.specs.Ancestry.{first_given};
+ghost use Rattle.hierarchy.specs.ClassNumbers.{classes_in};
 ghost use Rattle.hierarchy.specs.Methods.{counted_method, method_of_superclasses, all_superinterfaces, first_superinterface_method, is_overridden, specific_method, is_concrete, concrete_specific};
 ghost use Rattle.hierarchy.specs.Found.{found_of};
 
 use crate::class::ClassId;
+use crate::class_list::ClassList;
 use crate::declared_method::{Counted, DeclaredMethod};
 use crate::program::Program;
 use descriptors::MethodType;
@@ -50,17 +52,15 @@ impl Program {
     ) -> Option<DeclaredMethod>
         ensures { result ≡ first_superinterface_method self.now name.now method_type.now id }
     {
-        let mut rest = self.all_superinterfaces(id);
-        while let [interface, after @ ..] = rest {
+        for interface in self.all_superinterfaces(id) {
             if let Some(method) = self.counted_method(
                 Counted::Inherited,
                 name,
                 method_type,
-                *interface,
+                interface,
             ) {
                 return Some(method);
             }
-            rest = after;
         }
         None
     }
@@ -70,21 +70,19 @@ impl Program {
         &self,
         name: &[u8],
         method_type: &MethodType,
-        interfaces: &[ClassId],
+        interfaces: ClassList<'_>,
         id: ClassId,
     ) -> bool
-        ensures { result ≡ is_overridden self.now name.now method_type.now interfaces.now id }
+        ensures { result ≡ is_overridden self.now name.now method_type.now (classes_in interfaces.entry) id }
     {
-        let mut rest = interfaces;
-        while let [interface, after @ ..] = rest {
-            if self.is_subinterface(*interface, id)
+        for interface in interfaces {
+            if self.is_subinterface(interface, id)
                 && self
-                    .counted_method(Counted::Inherited, name, method_type, *interface)
+                    .counted_method(Counted::Inherited, name, method_type, interface)
                     .is_some()
             {
                 return true;
             }
-            rest = after;
         }
         false
     }
@@ -94,10 +92,10 @@ impl Program {
         &self,
         name: &[u8],
         method_type: &MethodType,
-        interfaces: &[ClassId],
+        interfaces: ClassList<'_>,
         id: ClassId,
     ) -> Option<DeclaredMethod>
-        ensures { result ≡ specific_method self.now name.now method_type.now interfaces.now id }
+        ensures { result ≡ specific_method self.now name.now method_type.now (classes_in interfaces.entry) id }
     {
         match self.counted_method(Counted::Inherited, name, method_type, id) {
             Some(method) => {
@@ -122,9 +120,8 @@ impl Program {
     {
         let interfaces = self.all_superinterfaces(id);
         let mut only = None;
-        let mut rest = interfaces;
-        while let [interface, after @ ..] = rest {
-            if let Some(method) = self.specific_method(name, method_type, interfaces, *interface) {
+        for interface in interfaces {
+            if let Some(method) = self.specific_method(name, method_type, interfaces, interface) {
                 if !method.access.is_abstract {
                     if only.is_some() {
                         return Found::Several;
@@ -132,7 +129,6 @@ impl Program {
                     only = Some(method);
                 }
             }
-            rest = after;
         }
         match only {
             Some(method) => Found::One(method),

@@ -5,13 +5,15 @@ ghost use Rattle.hierarchy.specs.ClassLists.{Among, add_all};
 ghost use Rattle.hierarchy.specs.FinishedLists.{AreFinished, listed};
 ghost use Rattle.hierarchy.specs.Hierarchy.{IsAcyclic, IsSubtype, Reaches, interfaces_of};
 ghost use Rattle.hierarchy.specs.Superinterfaces.{enumeration, superinterfaces as superinterfaces_of, IsClosed, IsTable};
-ghost use Rattle.hierarchy.specs.Methods.{all_superinterfaces as inherited_by};
+ghost use Rattle.hierarchy.specs.InheritedLists.{inherited as inherited_by};
 ghost use Rattle.hierarchy.specs.UpwardOrder.{IsUpwardOrder};
 
 use crate::class::{Class, ClassId};
 use crate::class_set::ClassSet;
 use crate::field_order::superclass;
-use crate::finished_lists::{add_list, add_list_unless, empty_sets, is_covered, last_listed};
+use crate::finished_lists::{
+    add_list, add_list_unless, empty_sets, is_covered, last_listed, list_or_other,
+};
 use std::alloc::{AllocError, Global};
 
 /// The direct superinterfaces, in order.
@@ -100,7 +102,8 @@ pub(crate) fn all_superinterfaces(
     Ok(all)
 }
 
-/// The superinterfaces of a class, direct and indirect, each once, where the list of its superclass is finished.
+/// The superinterfaces of a class, direct and indirect, each once, where the list of its superclass is finished; none where
+/// the superclass has none.
 fn inherited(
     alloc: Global,
     classes: &[Class],
@@ -115,18 +118,21 @@ fn inherited(
     ensures { IfOk result (λ found. found ≡ inherited_by classes.now id) }
 {
     let mut found = ClassSet::new(alloc);
-    add_list(superinterfaces, id.number, &mut found)?;
-    match superclass(classes, id) {
-        Some(superclass) => {
-            add_list(finished, superclass.number, &mut found)?;
+    let Some(superclass) = superclass(classes, id) else {
+        return Ok(found);
+    };
+    match list_or_other(finished, superinterfaces, superclass.number) {
+        Some(above) => {
+            add_list(superinterfaces, id.number, &mut found)?;
+            found.add_set(above)?;
             Ok(found)
         }
         None => Ok(found),
     }
 }
 
-/// The superinterfaces of each class, direct and indirect, in file order, made in an order in which each class
-/// stands after its direct supertypes.
+/// The superinterfaces of each class, direct and indirect, in file order, none where its superclass has none, made in an
+/// order in which each class stands after its direct supertypes.
 pub(crate) fn all_inherited(
     alloc: Global,
     classes: &[Class],

@@ -4,7 +4,7 @@ ghost use Rattle.std.specs.Prelude.{◌≡◌, ◌≤◌, [], IfOk, length};
 ghost use Rattle.hierarchy.specs.ClassLists.{distinct};
 ghost use Rattle.hierarchy.specs.Fields.{field_order};
 ghost use Rattle.hierarchy.specs.Hierarchy.{IsAcyclic};
-ghost use Rattle.hierarchy.specs.Methods.{all_superinterfaces as inherited_of};
+ghost use Rattle.hierarchy.specs.InheritedLists.{inherited as inherited_of};
 ghost use Rattle.hierarchy.specs.Superinterfaces.{IsTable, superinterfaces as superinterfaces_of};
 ghost use Rattle.hierarchy.specs.UpwardOrder.{IsUpwardOrder};
 ghost use Rattle.hierarchy.specs.MemberPlaces.{HavePlaces};
@@ -30,7 +30,8 @@ pub(crate) struct Tables {
     pub(crate) superinterfaces: Vec<ClassSet>,
     /// The classes in which a field is looked up, in order: the class itself and all its supertypes.
     pub(crate) field_orders: Vec<ClassSet>,
-    /// All superinterfaces, direct and indirect, in the order in which methods are looked up.
+    /// All superinterfaces, direct and indirect, in the order in which methods are looked up; none where the superclass has
+    /// none, since they are then those that the class implements by itself.
     pub(crate) inherited: Vec<ClassSet>,
     /// How many cells an object of the class has.
     pub(crate) object_cells: Vec<usize>,

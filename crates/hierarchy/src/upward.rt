@@ -58,7 +58,7 @@ pub(crate) enum SearchResult {
     /// The first class that stands on a cycle, by its place.
     Cycle(usize),
     /// The classes of the files and all that is above them, each after its direct supertypes.
-    Upward(ClassSet),
+    Upward(Vec<ClassId>),
 }
 
 /// The first class in file order that stands on a cycle; else an order in which each class stands after its direct
@@ -77,5 +77,5 @@ pub(crate) fn search(alloc: Global, classes: &[Class]) -> Result<SearchResult, A
         }
     }
     order.is_distinct();
-    Ok(SearchResult::Upward(order))
+    Ok(SearchResult::Upward(order.to_vec(alloc)?))
 }

@@ -11,12 +11,13 @@
 ghost use Rattle.std.specs.Prelude.{◌≡◌, ◌++◌, ◌∷◌, [], OnOk, IfOk, filter};
 ghost use Rattle.std.specs.List.{flat_map};
 ghost use Rattle.hierarchy.specs.ClassLists.{add_all, distinct};
+ghost use Rattle.hierarchy.specs.ClassNumbers.{classes_in};
 ghost use Rattle.hierarchy.specs.Hierarchy.{interfaces_of};
 ghost use Rattle.hierarchy.specs.Superinterfaces.{enumeration};
 ghost use Rattle.init_order.specs.Needs.{needs as needs_of, is_in_file, declares_default, needs_of_class as class_needs};
 ghost use Rattle.jasmin_text.specs.declared.class_text.ClassKind.TheVariants as kind;
 
-use hierarchy::{ClassId, Program};
+use hierarchy::{ClassId, ClassList, Program};
 use indexmap::IndexSet;
 use jasmin_text::ClassKind;
 use std::alloc::{AllocError, Global};
@@ -33,17 +34,15 @@ fn has_default(program: &Program, id: ClassId) -> bool
 /// Adds each of these classes that declares a non-abstract, non-static method, unless it is there already.
 fn add_defaults(
     program: &Program,
-    ids: &[ClassId],
+    ids: ClassList<'_>,
     found: &mut IndexSet<ClassId>,
 ) -> Result<(), AllocError>
-    ensures { OnOk result (found.new.keys ≡ add_all found.old.keys (filter (declares_default program.now) ids.now)) }
+    ensures { OnOk result (found.new.keys ≡ add_all found.old.keys (filter (declares_default program.now) (classes_in ids.entry))) }
 {
-    let mut rest = ids;
-    while let [id, after @ ..] = rest {
-        if has_default(program, *id) {
-            found.insert(*id)?;
+    for id in ids {
+        if has_default(program, id) {
+            found.insert(id)?;
         }
-        rest = after;
     }
     Ok(())
 }

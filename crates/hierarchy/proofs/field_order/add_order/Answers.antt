@@ -13,8 +13,8 @@ returns-then-contains c =
     let classes = c.args.classes.now in
     skipped_order classes (interfaces_first classes) (interfaces_first_upward classes) c.requires.acyclic c.args.found.now c.args.id c.requires.whole (sym c.contains.ensures ∙ c.if-contains.true)
 
-pub returns-then-as_slice-lt2 : goal.returns-then-as_slice-lt2
-returns-then-as_slice-lt2 c =
+pub returns-then-len-lt2 : goal.returns-then-len-lt2
+returns-then-len-lt2 c =
     c.in_ok-add_list.ensures ∙ ap (add_all c.args.found.now) (listed_within c.requires.finished c.args.id (inl refl) c.if-id-classes.true) ∙ add_all-added c.args.found.now [] (field_order c.args.classes.now c.args.id)
 
 pub returns-in_ok-add_list_unless : goal.returns-in_ok-add_list_unless

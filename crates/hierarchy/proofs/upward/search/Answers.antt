@@ -1,4 +1,4 @@
-use Rattle.std.proofs.Common.{◌≡◌, ◌+◌, ◌*◌, length, subst, arith}
+use Rattle.std.proofs.Common.{◌≡◌, ◌+◌, ◌*◌, length, subst, sym, arith}
 use Rattle.hierarchy.specs.declared.built_in.TheConstants.{BUILT_IN_COUNT}
 use Rattle.hierarchy.specs.Hierarchy.{IsWithin, height}
 use Rattle.hierarchy.specs.LinkedProgram.{id}
@@ -20,4 +20,4 @@ returns c =
       whole = λ n h. c.loop-number.invariant.whole n (omega (arith, h, c.loop-number-test.false));
       once = c.is_distinct.ensures;
     } in
-    (upward, rises_acyclic classes c.loop-number.order c.requires.in_range upward)
+    (subst (IsUpwardOrder classes) (sym c.in_ok-to_vec.ensures) upward, rises_acyclic classes c.loop-number.order c.requires.in_range upward)

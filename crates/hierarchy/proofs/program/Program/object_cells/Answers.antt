@@ -1,4 +1,4 @@
-use Rattle.std.proofs.Common.{◌≡◌, length, arith}
+use Rattle.std.proofs.Common.{arith}
 use Rattle.hierarchy.proofs.ObjectCells.{few_cells}
 use Rattle.hierarchy.proofs.program.Program.object_cells.Goals as goal
 

@@ -1,0 +1,51 @@
+//! Lists of classes that a program keeps.
+
+ghost use Rattle.std.specs.Prelude.{◌≡◌, [], length};
+ghost use Rattle.hierarchy.specs.ClassNumbers.{classes_in};
+
+use crate::class::ClassId;
+
+/// Classes that a program keeps in an order, each once: an iterator over them, which takes no memory.
+#[derive(Clone, Copy, Debug)]
+pub struct ClassList<'a> {
+    pub(crate) numbers: &'a [u16],
+}
+
+impl Iterator for ClassList<'_> {
+    type Item = ClassId;
+
+    ghost use Rattle.std.specs.Iterator.{YieldsFirst, item_count};
+    ghost use Rattle.hierarchy.specs.ClassNumbers.{classes_in};
+
+    ghost next_gives = { YieldsFirst classes_in };
+
+    ghost remaining = { item_count classes_in };
+
+    fn next(&mut self) -> Option<ClassId> {
+        match self.numbers {
+            [] => None,
+            [number, after @ ..] => {
+                self.numbers = after;
+                Some(ClassId {
+                    number: usize::from(*number),
+                })
+            }
+        }
+    }
+}
+
+impl ClassList<'_> {
+    /// No class.
+    pub(crate) fn empty() -> Self
+        ensures { classes_in result ≡ [] }
+    {
+        ClassList { numbers: &[] }
+    }
+
+    /// How many classes there are.
+    pub(crate) fn len(&self) -> usize
+        ensures { result ≡ length (classes_in self.now) }
+    {
+        self.numbers.len()
+    }
+}
