@@ -9,6 +9,7 @@
 use crate::descriptor_words::{class_name_answer, field_answer, method_answer};
 use jasmin_words::integer::parse_integer;
 use jasmin_words::name::{is_label, is_name};
+use jasmin_words::token::MOST_BYTES;
 use jasmin_words::{Token, words};
 use std::alloc::{AllocError, Global};
 
@@ -23,8 +24,8 @@ fn push_row(list: &mut Vec<u8>, name: &str, text: &[u8]) -> Result<(), AllocErro
 /// What a word of a line is, and its text.
 fn row_of<'a>(token: &'a Token<'_>) -> (&'static str, &'a [u8]) {
     match token {
+        Token::Word(word) if word.len() > MOST_BYTES => ("long word", b""),
         Token::Word(word) => ("word ", word),
-        Token::LongWord(_) => ("long word", b""),
         Token::BadWord => ("bad word", b""),
         Token::Equals => ("=", b""),
         Token::Colon => (":", b""),

@@ -7,7 +7,8 @@ use Rattle.jasmin_words.specs.declared.fault.FaultKind.{FaultKind}
 use Rattle.jasmin_words.specs.declared.fault.FaultKind.TheVariants as fault
 use Rattle.sequence.specs.Gives.{◌>>=◌}
 use Rattle.sequence.proofs.Results.{bind_ok, back, test_passed, some_ok}
-use Rattle.jasmin_words.specs.Lexing.{Item, Word, LongWord}
+use Rattle.jasmin_words.specs.Lexing.{Item, Word, fits}
+use Rattle.jasmin_words.specs.Spelling.{AreWords}
 use Rattle.jasmin_text.specs.Tables.{access_of, member_access_of, is_member_word}
 use Rattle.jasmin_text.specs.Spellable.{is_taken}
 use Rattle.jasmin_text.specs.Grammar.{with_word as more_access, is_taken_in, IsAccessBy, IsClassAccess, none, more, interface}
@@ -27,21 +28,16 @@ use Rattle.jasmin_reader.specs.Heads.{with_access, stand_together, fits_place, c
 
 -- ---- words
 
--- a word, and whether it is too long
-abbrev pub item_of : List ℕ × Bool → Item
-item_of w = cond w.1 (LongWord w.0) (Word w.0)
-
-pub first_is : (other : FaultKind) (t : Item) (w : List ℕ × Bool) → first_word other t ≡ Ok w → t ≡ item_of w
-first_is other (Word v) w e = let k : (v, false) ≡ w = cc in ap item_of k
-first_is other (LongWord v) w e = let k : (v, true) ≡ w = cc in ap item_of k
+pub first_is : (other : FaultKind) (t : Item) (w : List ℕ) → first_word other t ≡ Ok w → t ≡ Word w
+first_is other (Word v) w e = let k : v ≡ w = cc in ap Word k
 first_is other t w e = absurd cc
 
-pub short_word : (w : List ℕ × Bool) → w.1 ≡ false → item_of w ≡ Word w.0
-short_word w e = rw e refl
+pub within_ok : (w : List ℕ) (u : Unit {0}) → within_limit w ≡ Ok u → fits w ≡ true
+within_ok w u e = (test_passed (fits w) tt fault.LimitExceeded u e).0
 
-pub within_ok : (long : Bool) (u : Unit {0}) → within_limit long ≡ Ok u → long ≡ false
-within_ok true u e = absurd cc
-within_ok false u e = refl
+pub words_behind : (xs ys : List Item) → AreWords (xs ++ ys) → AreWords ys
+words_behind [] ys h = h
+words_behind (x ∷ xs) ys h = words_behind xs ys h.1
 
 -- ---- what a word says
 
@@ -129,10 +125,10 @@ class_access (access {w} a is t s words) = more (class_says w (class_word.Access
 class_access (to_interface {w} is words) = rw (class_says w class_word.Interface is) (interface (class_access words))
 
 -- the words that some items are, with this of them
-abbrev pub AreWords : List Item → (List (List ℕ) → Type 0) → Type 0
-AreWords items P = (ws : List (List ℕ)) × (items ≡ map Word ws) × P ws
+abbrev pub AreJust : List Item → (List (List ℕ) → Type 0) → Type 0
+AreJust items P = (ws : List (List ℕ)) × (items ≡ map Word ws) × P ws
 
-pub class_words : {k l : ClassKind} {a b : Access} {items : List Item} → IsClassAccess k a items l b → AreWords items (λ ws. Words place.Class (record { kind = k; access = a }) ws (record { kind = l; access = b }))
+pub class_words : {k l : ClassKind} {a b : Access} {items : List Item} → IsClassAccess k a items l b → AreJust items (λ ws. Words place.Class (record { kind = k; access = a }) ws (record { kind = l; access = b }))
 unfolding head_word_at class_word_at
 class_words none = ([], refl, nothing)
 class_words (more {w} {word = x} e t is) = let (ws, parts, words) = class_words is in (w ∷ ws, ap (λ l. Word w ∷ l) parts, access x (rw (access_not_interface w x e, e) refl) t refl words)
@@ -154,7 +150,7 @@ fits_before place.Method x a h = h
 fits_before p x a h = refl
 
 pub simple_words : (p : Place) (says : List ℕ → Option AccessWord) → Knows p says → (k : ClassKind) {a b : Access} {items : List Item} → IsAccessBy says a items b → stand_together p b ≡ true
-    → AreWords items (λ ws. Words p (record { kind = k; access = a }) ws (record { kind = k; access = b }) × (stand_together p a ≡ true))
+    → AreJust items (λ ws. Words p (record { kind = k; access = a }) ws (record { kind = k; access = b }) × (stand_together p a ≡ true))
 simple_words p says known k none s = ([], refl, (nothing, s))
 simple_words p says known k {a = a} (more {w} {k = x} e t is) s =
     let (ws, parts, (words, fits)) = simple_words p says known k is s in
@@ -163,11 +159,11 @@ simple_words p says known k {a = a} (more {w} {k = x} e t is) s =
 -- ---- names behind them
 
 abbrev pub Found : Type 0
-Found = HeadWords × ((List ℕ × Bool) × List Item)
+Found = HeadWords × (List ℕ × List Item)
 
--- the words, the name and what follows
+-- the words, the name and what follows; the words before the name are within their limit
 abbrev pub Named : Place → HeadWords → List Item → Found → Type 0
-Named p h items x = (before : List (List ℕ)) × Words p h before x.0 × (items ≡ map Word before ++ item_of x.1.0 ∷ x.1.1)
+Named p h items x = (before : List (List ℕ)) × Words p h before x.0 × (items ≡ map Word before ++ Word x.1.0 ∷ x.1.1) × (AreWords (Word x.1.0 ∷ x.1.1) → AreWords items)
 
 one_more : (p : Place) (h next k : HeadWords) (w : List ℕ) (ws : List (List ℕ)) → with_word p h w ≡ Ok next → Words p next ws k → Words p h (w ∷ ws) k
 unfolding with_word
@@ -190,22 +186,22 @@ named_ok p h (t ∷ rest) x e =
     let one = bind_ok (word_of t) _ x e in
     by one.0 (first_is fault.BadOperand t one.0 one.1) (is_before_name p rest) one.2 (λ next. named_ok p next rest x)
   where
-    by : (w : List ℕ × Bool) → t ≡ item_of w → (b : Bool) → cond b (with_word p h w.0 >>= λ next. within_limit w.1 >>= λ _. named_from p next rest) (Ok (h, (w, rest))) ≡ Ok x
+    by : (w : List ℕ) → t ≡ Word w → (b : Bool) → cond b (with_word p h w >>= λ next. within_limit w >>= λ _. named_from p next rest) (Ok (h, (w, rest))) ≡ Ok x
         → ((next : HeadWords) → named_from p next rest ≡ Ok x → Named p next rest x) → Named p h (t ∷ rest) x
-    by w is false e others = let k : (h, (w, rest)) ≡ x = cc in rw (← k) ([], nothing, ap (λ (i : Item). i ∷ rest) is)
+    by w is false e others = let k : (h, (w, rest)) ≡ x = cc in rw (← k, is) ([], nothing, refl, λ good. good)
     by w is true e others =
-        let one = bind_ok (with_word p h w.0) _ x e in
-        let two = bind_ok (within_limit w.1) _ x one.2 in
-        let (before, words, parts) = others one.0 two.2 in
-        rw (is, short_word w (within_ok w.1 two.0 two.1)) (w.0 ∷ before, one_more p h one.0 x.0 w.0 before one.1 words, ap (λ (l : List Item). Word w.0 ∷ l) parts)
+        let one = bind_ok (with_word p h w) _ x e in
+        let two = bind_ok (within_limit w) _ x one.2 in
+        let (before, words, parts, fit) = others one.0 two.2 in
+        rw is (w ∷ before, one_more p h one.0 x.0 w before one.1 words, ap (λ (l : List Item). Word w ∷ l) parts, λ good. (within_ok w two.0 two.1, fit good))
 
 -- a name is read where it is looked for behind the words before it
 pub named_read : (p : Place) (name : List ℕ) (rest : List Item) → is_before_name p rest ≡ false → ((ws : List (List ℕ)) → is_before_name p (map Word ws ++ Word name ∷ rest) ≡ true)
-    → {h k : HeadWords} {ws : List (List ℕ)} → Words p h ws k → named_from p h (map Word ws ++ Word name ∷ rest) ≡ Ok (k, ((name, false), rest))
+    → {h k : HeadWords} {ws : List (List ℕ)} → Words p h ws k → AreWords (map Word ws ++ Word name ∷ rest) → named_from p h (map Word ws ++ Word name ∷ rest) ≡ Ok (k, (name, rest))
 unfolding named_from with_word
-named_read p name rest ends follows nothing = rw ends refl
-named_read p name rest ends follows (access {ws} a is t s words) = rw (follows ws, is, t, s) (named_read p name rest ends follows words)
-named_read p name rest ends follows (to_interface {ws} is words) = rw (follows ws, is) (named_read p name rest ends follows words)
+named_read p name rest ends follows nothing fit = rw ends refl
+named_read p name rest ends follows (access {ws} a is t s words) fit = rw (follows ws, is, t, s, fit.0) (named_read p name rest ends follows words fit.1)
+named_read p name rest ends follows (to_interface {ws} is words) fit = rw (follows ws, is, fit.0) (named_read p name rest ends follows words fit.1)
 
 pub word_behind : (name : List ℕ) (ws : List (List ℕ)) → has_word (map Word ws ++ Word name ∷ []) ≡ true
 word_behind name [] = refl

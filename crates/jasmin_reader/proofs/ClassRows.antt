@@ -29,7 +29,7 @@ use Rattle.jasmin_reader.specs.File.{Reads, fault_at, object_name, parts_of, fin
 use Rattle.jasmin_reader.proofs.BodyRows.{added, outside_ok, body_taken, holding, body_read}
 use Rattle.jasmin_reader.proofs.GoodRows.{is_head, is_good_row, is_headed, field_headed, rows_headed}
 use Rattle.jasmin_reader.proofs.MethodEnds.{IsGoodBody, all_push, body_good, closed_good, list_empty, closed_ok, body_fits, closed_read, method_facts}
-use Rattle.jasmin_reader.proofs.ReadFile.{file_tells, row_said}
+use Rattle.jasmin_reader.proofs.ReadFile.{file_tells, rows_said}
 use Rattle.jasmin_reader.proofs.RowSteps.{body_row, body_rows, is_body_row, row_at, rows_at, rows_append, rows_in_method}
 
 -- a class in between: its head, what stands in it, and the method that is open
@@ -324,7 +324,7 @@ lines_read n r s c lines rows none headed done ends = back (λ (x : Reader). fin
 lines_read n r s c lines rows (more {line} {lines = others} first rest is are e) headed done ends =
     let h = and_parts (list_all is_headed first) (list_all is_headed rest) (sym (list_all-append is_headed first rest) ∙ ap (list_all is_headed) (sym e) ∙ headed) in
     let one = bind_ok (rows_at r first) (λ t. rows_at t rest) s (sym (rows_append r first rest) ∙ ap (rows_at r) (sym e) ∙ done) in
-    let read : line_at r (words_of line) ≡ Ok one.0 = row_said r one.0 (words_of line) first is h.0 one.1 in
+    let read : line_at r (words_of line) ≡ Ok one.0 = rows_said r one.0 (words_of line) first is h.0 one.1 in
     rw read (lines_read (n + 1) one.0 s c others rest are h.1 one.2 ends)
 
 -- what the lines spell is what is read

@@ -1,8 +1,8 @@
 -- Lines that begin with a directive, and their rows. Both ways.
-use Rattle.std.proofs.Common.{◌≡◌, ℕ, Bool, true, false, not, ◌&&◌, cond, List, [], ◌∷◌, ◌++◌, length, Option, Some, None, is_none, Result, Ok, Err, refl, sym, ap, subst, ◌∙◌, codes}
+use Rattle.std.proofs.Common.{◌≡◌, ℕ, Bool, true, false, not, cond, List, [], ◌∷◌, ◌++◌, length, Option, Some, None, is_none, Result, Ok, Err, refl, sym, ap, subst, ◌∙◌, codes}
 use Rattle.std.specs.Prelude.{nat_lt}
 use Rattle.std.specs.List.{list_all}
-use Rattle.std.proofs.lemmas.Bool.{and_from, and_parts, not-true}
+use Rattle.std.proofs.lemmas.Bool.{and_from, not-true}
 use Rattle.std.proofs.lemmas.Slice.Eq.{bytes_eq-Decides}
 use Rattle.std.specs.Str.{bytes_eq}
 use Rattle.descriptors.specs.ClassName.{is_class_name}
@@ -10,10 +10,11 @@ use Rattle.jasmin_words.specs.declared.fault.FaultKind.{FaultKind}
 use Rattle.jasmin_words.specs.declared.fault.FaultKind.TheVariants as fault
 use Rattle.sequence.specs.Gives.{◌>>=◌}
 use Rattle.sequence.proofs.Results.{bind_ok, carried, done, given, test_passed, then}
-use Rattle.jasmin_words.specs.Lexing.{Item, Word}
+use Rattle.jasmin_words.specs.Lexing.{Item, Word, fits}
+use Rattle.jasmin_words.specs.Spelling.{AreWords}
 use Rattle.jasmin_words.specs.Names.{is_label}
 use Rattle.jasmin_text.specs.Forms.{directive_at, directives}
-use Rattle.jasmin_text.specs.Grammar.{IsCaught, all, class as a_class, IsRow, skipped, super, implements, end, stack, locals, catch, Row, ClassRow, SuperRow, ImplementsRow, FieldRow, MethodRow, EndRow, StackRow, LocalsRow, CatchRow}
+use Rattle.jasmin_text.specs.Grammar.{IsCaught, all, class as a_class, AreRowsOf, skipped, of_words, super, implements, end, stack, locals, catch, Row, ClassRow, SuperRow, ImplementsRow, FieldRow, MethodRow, EndRow, StackRow, LocalsRow, CatchRow}
 use Rattle.jasmin_text.specs.Spellable.{is_taken}
 use Rattle.jasmin_text.specs.declared.class_text.ClassKind.{ClassKind}
 use Rattle.jasmin_text.specs.declared.class_text.ClassKind.TheVariants as kind
@@ -25,12 +26,12 @@ use Rattle.jasmin_reader.specs.declared.head.HeadWords.{HeadWords}
 use Rattle.jasmin_reader.specs.declared.head.Place.{Place}
 use Rattle.jasmin_reader.specs.declared.head.Place.TheVariants as place
 use Rattle.jasmin_reader.specs.declared.reader.Reader.{Reader}
-use Rattle.jasmin_reader.specs.Places.{word_of, within_limit, next_word, operand, ended_at, first_word}
+use Rattle.jasmin_reader.specs.Places.{word_of, next_word, operand, ended_at, first_word}
 use Rattle.jasmin_reader.specs.Operands.{label_in, class_name_in, limit_in, last_operand}
 use Rattle.jasmin_reader.specs.Heads.{class_from, field_from, method_from}
-use Rattle.jasmin_reader.specs.Bodies.{outside_switch, limit_by, limit_at, caught_in, keyword_in, label_behind, catch_from, catch_at, end_by, end_from, closed}
+use Rattle.jasmin_reader.specs.Bodies.{outside_switch, limit_by, limit_at, caught_in, keyword_in, label_behind, catch_from, catch_at, end_from, closed}
 use Rattle.jasmin_reader.specs.Reading.{allowed, has_room_for, is_in_class, is_in_header, member_room, class_line, super_line, implements_line, field_line, empty_body, method_line, in_body, ended_by, end_line, directive_line}
-use Rattle.jasmin_reader.proofs.AccessWords.{item_of, short_word, within_ok, first_is}
+use Rattle.jasmin_reader.proofs.AccessWords.{first_is}
 use Rattle.jasmin_reader.proofs.GoodRows.{is_headed, rows_headed}
 use Rattle.jasmin_reader.proofs.Heads.{IsHeadedRow, class_taken, interface_taken, field_taken, method_taken}
 use Rattle.jasmin_reader.proofs.OperandForms.{ended_ok, operand_ok, last_ok, checked_last}
@@ -42,7 +43,7 @@ use Rattle.jasmin_reader.proofs.Words.{checked_ok, number_ok, AllRows, find_ok}
 -- the rows of a line, and what they do
 pub record Says (r : Reader) (items : List Item) (s : Reader) : Type 0 where
   pub rows : List Row
-  pub is_row : IsRow items rows
+  pub is_row : AreRowsOf items rows
   pub does : rows_at r rows ≡ Ok s
   pub headed : list_all is_headed rows ≡ true
 
@@ -52,14 +53,14 @@ said r s items row is e = record { rows = row ∷ []; is_row = is.0; does = one_
 -- the rows of a line in a method, and what they add
 pub record BodySays (b : Body) (items : List Item) (c : Body) : Type 0 where
   pub rows : List Row
-  pub is_row : IsRow items rows
+  pub is_row : AreRowsOf items rows
   pub does : body_rows b rows ≡ Ok c
   pub are : list_all is_body_row rows ≡ true
 
 pub single_row : (b c : Body) (row : Row) → body_row b row ≡ Ok c → body_rows b (row ∷ []) ≡ Ok c
 single_row b c row e = rw e refl
 
-pub one_said : (b c : Body) {items : List Item} (row : Row) → IsRow items (row ∷ []) → is_body_row row ≡ true → body_row b row ≡ Ok c → BodySays b items c
+pub one_said : (b c : Body) {items : List Item} (row : Row) → AreRowsOf items (row ∷ []) → is_body_row row ≡ true → body_row b row ≡ Ok c → BodySays b items c
 one_said b c row is are e = record { rows = row ∷ []; is_row = is; does = single_row b c row e; are = and_from _ _ are refl }
 
 pub in_body_ok : (r s : Reader) (items : List Item) (add : Body → Result Body FaultKind) → ((b c : Body) → add b ≡ Ok c → BodySays b items c) → (o : Option Body) → r.body ≡ o → in_body r o add ≡ Ok s → Says r items s
@@ -92,14 +93,14 @@ unfolding super_line
 super_ok r s items e =
     let name = passed_two (allowed (is_in_header r)) (allowed (is_none r.superclass)) (last_operand class_name_in items) (λ name. record r { superclass = Some name }) s e in
     let a = checked_last is_class_name items name.0 name.1 in
-    said r s (Word (codes ".super") ∷ items) (SuperRow name.0) (subst (λ (l : List Item). IsRow (Word (codes ".super") ∷ l) (SuperRow name.0 ∷ [])) (sym a.0) (super a.1), refl) name.2
+    said r s (Word (codes ".super") ∷ items) (SuperRow name.0) (subst (λ (l : List Item). AreRowsOf (Word (codes ".super") ∷ l) (SuperRow name.0 ∷ [])) (sym a.0) (of_words (refl, (a.2, tt)) (super a.1)), refl) name.2
 
 implements_ok : (r s : Reader) (items : List Item) → implements_line r items ≡ Ok s → Says r (Word (codes ".implements") ∷ items) s
 unfolding implements_line
 implements_ok r s items e =
     let name = passed_two (allowed (is_in_header r)) (has_room_for (nat_lt (length r.interfaces) 255)) (last_operand class_name_in items) (λ name. record r { interfaces = r.interfaces ++ name ∷ [] }) s e in
     let a = checked_last is_class_name items name.0 name.1 in
-    said r s (Word (codes ".implements") ∷ items) (ImplementsRow name.0) (subst (λ (l : List Item). IsRow (Word (codes ".implements") ∷ l) (ImplementsRow name.0 ∷ [])) (sym a.0) (implements a.1), refl) name.2
+    said r s (Word (codes ".implements") ∷ items) (ImplementsRow name.0) (subst (λ (l : List Item). AreRowsOf (Word (codes ".implements") ∷ l) (ImplementsRow name.0 ∷ [])) (sym a.0) (of_words (refl, (a.2, tt)) (implements a.1)), refl) name.2
 
 field_ok : (r s : Reader) (items : List Item) → field_line r items ≡ Ok s → Says r (Word (codes ".field") ∷ items) s
 unfolding field_line
@@ -124,22 +125,19 @@ untaken kind.Class name h = by (bytes_eq name (codes "interface")) (is_taken kin
 
 -- ---- limits
 
-next_ok : (items : List Item) (w : (List ℕ × Bool) × List Item) → next_word items ≡ Ok w → items ≡ item_of w.0 ∷ w.1
+next_ok : (items : List Item) (w : List ℕ × List Item) → next_word items ≡ Ok w → items ≡ Word w.0 ∷ w.1
 next_ok [] w e = absurd cc
-next_ok (t ∷ rest) w e = let one = bind_ok (word_of t) _ w e in given (λ (w : (List ℕ × Bool) × List Item). t ∷ rest ≡ item_of w.0 ∷ w.1) one.2 (ap (λ (i : Item). i ∷ rest) (first_is fault.BadOperand t one.0 one.1))
+next_ok (t ∷ rest) w e = let one = bind_ok (word_of t) _ w e in given (λ (w : List ℕ × List Item). t ∷ rest ≡ Word w.0 ∷ w.1) one.2 (ap (λ (i : Item). i ∷ rest) (first_is fault.BadOperand t one.0 one.1))
 
-pub short_word_is : (w : List ℕ × Bool) (v : List ℕ) → (bytes_eq w.0 v && not w.1) ≡ true → item_of w ≡ Word v
-short_word_is w v h = let p = and_parts (bytes_eq w.0 v) (not w.1) h in cc (short_word w (not-true w.1 p.1), (bytes_eq-Decides w.0 v).0 p.0)
-
-limit_by_ok : (b c : Body) (w : List ℕ × Bool) (rest : List Item) (s t : Bool) → outside_switch b ≡ Ok tt → (bytes_eq w.0 (codes "stack") && not w.1) ≡ s → (bytes_eq w.0 (codes "locals") && not w.1) ≡ t → limit_by b s t rest ≡ Ok c → BodySays b (Word (codes ".limit") ∷ item_of w ∷ rest) c
+limit_by_ok : (b c : Body) (w : List ℕ) (rest : List Item) (s t : Bool) → outside_switch b ≡ Ok tt → bytes_eq w (codes "stack") ≡ s → bytes_eq w (codes "locals") ≡ t → limit_by b s t rest ≡ Ok c → BodySays b (Word (codes ".limit") ∷ Word w ∷ rest) c
 limit_by_ok b c w rest true t out p q e =
     let n = bind_ok (last_operand limit_in rest) _ c e in
     let a = last_ok limit_in rest n.0 n.1 in
-    rw (short_word_is w (codes "stack") p, a.parts) (one_said b c (StackRow n.0) (stack (number_ok 0 1024 fault.LimitExceeded a.word n.0 a.value)) refl (then (outside_switch b) _ tt c out n.2))
+    rw ((bytes_eq-Decides w (codes "stack")).0 p, a.parts) (one_said b c (StackRow n.0) (of_words (refl, (refl, (a.short, tt))) (stack (number_ok 0 1024 fault.LimitExceeded a.word n.0 a.value))) refl (then (outside_switch b) _ tt c out n.2))
 limit_by_ok b c w rest false true out p q e =
     let n = bind_ok (last_operand limit_in rest) _ c e in
     let a = last_ok limit_in rest n.0 n.1 in
-    rw (short_word_is w (codes "locals") q, a.parts) (one_said b c (LocalsRow n.0) (locals (number_ok 0 1024 fault.LimitExceeded a.word n.0 a.value)) refl (then (outside_switch b) _ tt c out n.2))
+    rw ((bytes_eq-Decides w (codes "locals")).0 q, a.parts) (one_said b c (LocalsRow n.0) (of_words (refl, (refl, (a.short, tt))) (locals (number_ok 0 1024 fault.LimitExceeded a.word n.0 a.value))) refl (then (outside_switch b) _ tt c out n.2))
 limit_by_ok b c w rest false false out p q e = absurd cc
 
 limit_ok : (b c : Body) (items : List Item) → limit_at b items ≡ Ok c → BodySays b (Word (codes ".limit") ∷ items) c
@@ -166,16 +164,16 @@ caught_ok w c e = by (bytes_eq w (codes "all")) refl e
         rw (← k) (a_class p name)
 
 -- a label behind a word
-behind_ok : (keyword : List ℕ) (items : List Item) (x : List ℕ × List Item) → label_behind keyword items ≡ Ok x → (items ≡ Word keyword ∷ Word x.0 ∷ x.1) × (is_label x.0 ≡ true)
+behind_ok : (keyword : List ℕ) (items : List Item) (x : List ℕ × List Item) → label_behind keyword items ≡ Ok x → (items ≡ Word keyword ∷ Word x.0 ∷ x.1) × (is_label x.0 ≡ true) × (fits x.0 ≡ true)
 behind_ok keyword items x e =
     let one = bind_ok (operand (keyword_in keyword) items) _ x e in
     let a = operand_ok (keyword_in keyword) items one.0 one.1 in
     let b = operand_ok label_in one.0.1 x one.2 in
     let c = checked_ok is_label b.word x.0 b.value in
     let same = (bytes_eq-Decides a.word keyword).0 (test_passed (bytes_eq a.word keyword) tt fault.BadOperand one.0.0 a.value).0 in
-    (cc (a.parts, same, b.parts, c.1), c.0)
+    (cc (a.parts, same, b.parts, c.1), c.0, rw (← c.1) b.short)
 
-row_ok : (items : List Item) (x : Catch) → catch_from items ≡ Ok x → IsRow (Word (codes ".catch") ∷ items) (CatchRow x.class x.from x.to x.handler ∷ [])
+row_ok : (items : List Item) (x : Catch) → catch_from items ≡ Ok x → AreRowsOf (Word (codes ".catch") ∷ items) (CatchRow x.class x.from x.to x.handler ∷ [])
 unfolding catch_from
 row_ok items x e =
     let one = bind_ok (operand caught_in items) _ x e in
@@ -189,8 +187,8 @@ row_ok items x e =
     let d = behind_ok (codes "using") three.0.1 four.0 four.1 in
     let ends = ended_ok four.0.1 five.0 five.1 in
     let parts : items ≡ Word a.word ∷ Word (codes "from") ∷ Word two.0.0 ∷ Word (codes "to") ∷ Word three.0.0 ∷ Word (codes "using") ∷ Word four.0.0 ∷ [] = cc (a.parts, b.0, c.0, d.0, ends) in
-    given (λ (y : Catch). IsRow (Word (codes ".catch") ∷ items) (CatchRow y.class y.from y.to y.handler ∷ [])) five.2
-    (subst (λ (l : List Item). IsRow (Word (codes ".catch") ∷ l) (CatchRow one.0.0 two.0.0 three.0.0 four.0.0 ∷ [])) (sym parts) (catch (caught_ok a.word one.0.0 a.value) b.1 c.1 d.1))
+    given (λ (y : Catch). AreRowsOf (Word (codes ".catch") ∷ items) (CatchRow y.class y.from y.to y.handler ∷ [])) five.2
+    (subst (λ (l : List Item). AreRowsOf (Word (codes ".catch") ∷ l) (CatchRow one.0.0 two.0.0 three.0.0 four.0.0 ∷ [])) (sym parts) (of_words (refl, (a.short, (refl, (b.2, (refl, (c.2, (refl, (d.2, tt)))))))) (catch (caught_ok a.word one.0.0 a.value) b.1 c.1 d.1)))
 
 catch_ok : (b c : Body) (items : List Item) → catch_at b items ≡ Ok c → BodySays b (Word (codes ".catch") ∷ items) c
 unfolding catch_at
@@ -204,9 +202,9 @@ caught_read w c all = refl
 caught_read w c (a_class {name} other h) = rw (other, h) refl
 
 pub row_read : (w from to using : List ℕ) (c : Option (List ℕ)) → IsCaught w c → is_label from ≡ true → is_label to ≡ true → is_label using ≡ true
-    → catch_from (Word w ∷ Word (codes "from") ∷ Word from ∷ Word (codes "to") ∷ Word to ∷ Word (codes "using") ∷ Word using ∷ []) ≡ Ok (record { class = c; from = from; to = to; handler = using })
+    → AreWords (Word w ∷ Word from ∷ Word to ∷ Word using ∷ []) → catch_from (Word w ∷ Word (codes "from") ∷ Word from ∷ Word (codes "to") ∷ Word to ∷ Word (codes "using") ∷ Word using ∷ []) ≡ Ok (record { class = c; from = from; to = to; handler = using })
 unfolding catch_from
-row_read w from to using c h i j k = rw (caught_read w c h, i, j, k) refl
+row_read w from to using c h i j k fit = rw (caught_read w c h, fit.0, i, fit.1.0, j, fit.1.1.0, k, fit.1.1.1.0) refl
 
 -- ---- the end of a method
 
@@ -215,13 +213,8 @@ unfolding end_from
 end_words [] rest e = absurd cc
 end_words (t ∷ after) rest e =
     let one = bind_ok (first_word fault.LeftOut t) _ rest e in
-    ap (λ (i : Item). i ∷ after) (first_is fault.LeftOut t one.0 one.1) ∙ by one.0 after (bytes_eq one.0.0 (codes "method")) refl one.2
-  where
-    by : (w : List ℕ × Bool) (others : List Item) (t : Bool) → bytes_eq w.0 (codes "method") ≡ t → end_by t w others ≡ Ok rest → item_of w ∷ others ≡ Word (codes "method") ∷ rest
-    by w others false p h = absurd cc
-    by w others true p h =
-        let one = bind_ok (within_limit w.1) _ rest h in
-        cc (short_word w (within_ok w.1 one.0 one.1), (bytes_eq-Decides w.0 (codes "method")).0 p, one.2)
+    let two = test_passed (bytes_eq one.0 (codes "method")) after fault.LeftOut rest one.2 in
+    cc (first_is fault.LeftOut t one.0 one.1, (bytes_eq-Decides one.0 (codes "method")).0 two.0, two.1)
 
 nothing_left : (r s : Reader) (rest : List Item) (o : Option Body) → ended_by r rest o ≡ Ok s → rest ≡ []
 nothing_left r s rest None e = absurd cc
@@ -237,7 +230,7 @@ end_ok r s items e =
     let one = bind_ok (end_from items) _ s e in
     let none_left = nothing_left r s one.0 r.body one.2 in
     let parts : items ≡ Word (codes "method") ∷ [] = cc (end_words items one.0 one.1, none_left) in
-    said r s (Word (codes ".end") ∷ items) EndRow (subst (λ (l : List Item). IsRow (Word (codes ".end") ∷ l) (EndRow ∷ [])) (sym parts) end, refl) (ap (λ (l : List Item). ended_by r l r.body) (sym none_left) ∙ one.2)
+    said r s (Word (codes ".end") ∷ items) EndRow (subst (λ (l : List Item). AreRowsOf (Word (codes ".end") ∷ l) (EndRow ∷ [])) (sym parts) (of_words (refl, (refl, tt)) end), refl) (ap (λ (l : List Item). ended_by r l r.body) (sym none_left) ∙ one.2)
 
 -- ---- all directives
 

@@ -9,9 +9,9 @@ use Rattle.descriptors.specs.Spelling.{method_spelling}
 use Rattle.descriptors.specs.declared.field.FieldType.{FieldType}
 use Rattle.jasmin_words.specs.Lexing.{Item, Word, fits}
 use Rattle.jasmin_words.specs.Names.{is_member_name}
-use Rattle.jasmin_words.specs.Spelling.{AreLexed}
+use Rattle.jasmin_words.specs.Spelling.{AreWords, AreLexed}
 use Rattle.jasmin_text.specs.Forms.{forms, form_at}
-use Rattle.jasmin_text.specs.Grammar.{IsMemberWord, IsMethodWord, IsDescriptor, IsOperands, number, byte, short, int, text, local, local_at, increment, field, call, interface, counted, new, class, array, IsInstructionLine, simple, table, table_to, lookup, IsValue, none, signature, IsCaught, all, IsRow, super, implements, method, stack, locals, catch, labelled, operation, case, Row, ClassRow, SuperRow, ImplementsRow, FieldRow, MethodRow, StackRow, LocalsRow, CatchRow, InstructionRow, TableRow, CaseRow, Cases}
+use Rattle.jasmin_text.specs.Grammar.{IsMemberWord, IsMethodWord, IsDescriptor, IsOperands, number, byte, short, int, text, local, local_at, increment, field, call, interface, counted, new, class, array, IsInstructionLine, simple, table, table_to, lookup, IsValue, none, signature, IsCaught, all, IsRow, AreRowsOf, skipped, of_words, super, implements, method, stack, locals, catch, labelled, operation, case, Row, ClassRow, SuperRow, ImplementsRow, FieldRow, MethodRow, StackRow, LocalsRow, CatchRow, InstructionRow, TableRow, CaseRow, Cases}
 use Rattle.jasmin_text.specs.Spellable.{is_constant, is_int, is_local, is_short, is_string, is_int_type, is_string_type, is_value_of, is_class_word, is_taken, is_field, is_field_type, is_method_type, is_field_reference, is_method_reference, is_reference_type, is_caught}
 use Rattle.jasmin_text.specs.Tables.{find_row, is_member_word}
 use Rattle.jasmin_text.specs.declared.access.Access.{Access}
@@ -24,6 +24,7 @@ use Rattle.jasmin_text.specs.declared.instruction.Instruction.{Instruction}
 use Rattle.jasmin_text.specs.declared.instruction.Instruction.TheVariants as instruction
 use Rattle.jasmin_text.proofs.Conditions.{five}
 use Rattle.jasmin_reader.specs.Heads.{may_initialize}
+use Rattle.jasmin_reader.proofs.AccessWords.{words_behind}
 use Rattle.jasmin_reader.proofs.RowSteps.{is_body_row}
 use Rattle.jasmin_reader.proofs.Words.{integer_int, short_within, descriptor_good, signature_good}
 
@@ -135,31 +136,31 @@ method_word_good w owner name type m p = and_also (and_also (and_also m.class_na
 abbrev IsOne : Instruction (List ℕ) → Type 0
 IsOne i = (is_listed i && eqb (listed_size i) 1) ≡ true
 
-operands_good : (f : Form) (items : List Item) (i : Instruction (List ℕ)) → IsOperands f items i → is_form f ≡ true → AreLexed items → IsOne i
+operands_good : (f : Form) (items : List Item) (i : Instruction (List ℕ)) → IsOperands f items i → is_form f ≡ true → AreWords items → AreLexed items → IsOne i
 unfolding is_listed
-operands_good f items i number good lexed = and_also good refl
-operands_good f items i (byte {w} {n} h) good lexed = and_also (integer_int w n h.value) refl
-operands_good f items i (short {w} {n} h) good lexed = and_also (integer_int w n h.value) refl
-operands_good f items i (int {w} {n} h) good lexed = and_also (integer_int w n h) refl
-operands_good f items i text good lexed = and_also (and_also lexed.0.0 lexed.0.1) refl
-operands_good f items i (local h) good lexed = and_also h.to refl
-operands_good f items i local_at good lexed = and_also good refl
-operands_good f items i (increment {by} h k) good lexed = and_also (and_also h.to (short_within by k.from k.to)) refl
-operands_good f items i (field {v} {w} {class = owner} {name} {type} m d) good lexed = and_also (field_word_good v w owner name type m d lexed.0.1 lexed.1.0.1) refl
-operands_good f items i (call {w} {class = owner} {name} {type} m) good lexed = and_also (method_word_good w owner name type m lexed.0.1) refl
-operands_good f items i (interface {w} {class = owner} {name} {type} m) good lexed = and_also (method_word_good w owner name type m lexed.0.1) refl
-operands_good f items i (counted {w} {class = owner} {name} {type} m h) good lexed = and_also (method_word_good w owner name type m lexed.0.1) refl
-operands_good f items i (new h) good lexed = and_also (and_also h lexed.0.1) refl
-operands_good f items i (class h) good lexed = and_also (and_also h lexed.0.1) refl
-operands_good f items i (array {w} {type} d h) good lexed = and_also (and_also (ap not h) (descriptor_good w type d lexed.0.1)) refl
-operands_good f items i other good lexed = refl
+operands_good f items i number good fit lexed = and_also good refl
+operands_good f items i (byte {w} {n} h) good fit lexed = and_also (integer_int w n h.value) refl
+operands_good f items i (short {w} {n} h) good fit lexed = and_also (integer_int w n h.value) refl
+operands_good f items i (int {w} {n} h) good fit lexed = and_also (integer_int w n h) refl
+operands_good f items i text good fit lexed = and_also (and_also lexed.0.0 lexed.0.1) refl
+operands_good f items i (local h) good fit lexed = and_also h.to refl
+operands_good f items i local_at good fit lexed = and_also good refl
+operands_good f items i (increment {by} h k) good fit lexed = and_also (and_also h.to (short_within by k.from k.to)) refl
+operands_good f items i (field {v} {w} {class = owner} {name} {type} m d) good fit lexed = and_also (field_word_good v w owner name type m d fit.0 fit.1.0) refl
+operands_good f items i (call {w} {class = owner} {name} {type} m) good fit lexed = and_also (method_word_good w owner name type m fit.0) refl
+operands_good f items i (interface {w} {class = owner} {name} {type} m) good fit lexed = and_also (method_word_good w owner name type m fit.0) refl
+operands_good f items i (counted {w} {class = owner} {name} {type} m h) good fit lexed = and_also (method_word_good w owner name type m fit.0) refl
+operands_good f items i (new h) good fit lexed = and_also (and_also h fit.0) refl
+operands_good f items i (class h) good fit lexed = and_also (and_also h fit.0) refl
+operands_good f items i (array {w} {type} d h) good fit lexed = and_also (and_also (ap not h) (descriptor_good w type d fit.0)) refl
+operands_good f items i other good fit lexed = refl
 
-instruction_good : (items : List Item) (row : Row) → IsInstructionLine items row → AreLexed items → is_good_row row ≡ true
+instruction_good : (items : List Item) (row : Row) → IsInstructionLine items row → AreWords items → AreLexed items → is_good_row row ≡ true
 unfolding is_good_row
-instruction_good items row (simple {w} {f} {operands} {i} e is) lexed = operands_good f operands i is (form_good w f e) lexed.1
-instruction_good items row (table {v} {low} e from) lexed = integer_int v low from
-instruction_good items row (table_to {u} {low} e from to) lexed = integer_int u low from
-instruction_good items row (lookup e) lexed = refl
+instruction_good items row (simple {w} {f} {operands} {i} e is) fit lexed = operands_good f operands i is (form_good w f e) fit.1 lexed.1
+instruction_good items row (table {v} {low} e from) fit lexed = integer_int v low from
+instruction_good items row (table_to {u} {low} e from to) fit lexed = integer_int u low from
+instruction_good items row (lookup e) fit lexed = refl
 
 -- ---- lines
 
@@ -193,12 +194,12 @@ value_good t items v (int {w} {n} e) lexed h = and_also h (integer_int w n e)
 value_good t items v text lexed h = and_also h (and_also lexed.1.0.0 lexed.1.0.1)
 value_good t items v (signature {items = rest} is e) lexed h = value_good t rest v is lexed.1.1 h
 
-field_good : (f : Field) (w : List ℕ) (rest : List Item) → is_member_name f.name ≡ true → IsDescriptor w f.field_type → IsValue rest f.value → fits f.name ≡ true → AreLexed (Word w ∷ rest)
+field_good : (f : Field) (w : List ℕ) (rest : List Item) → is_member_name f.name ≡ true → IsDescriptor w f.field_type → IsValue rest f.value → fits f.name ≡ true → fits w ≡ true → AreLexed rest
     → is_headed (FieldRow f) ≡ true → is_field f ≡ true
 unfolding is_field
-field_good f w rest name d v p lexed h =
+field_good f w rest name d v p q lexed h =
     let tests = and_parts (not (is_member_word f.name)) (is_typed f.field_type f.value) h in
-    and_also (and_also (and_also (and_also name p) tests.0) (descriptor_good w f.field_type d lexed.0.1)) (value_good f.field_type rest f.value v lexed.1 tests.1)
+    and_also (and_also (and_also (and_also name p) tests.0) (descriptor_good w f.field_type d q)) (value_good f.field_type rest f.value v lexed tests.1)
 
 caught_good : (w : List ℕ) (o : Option (List ℕ)) → IsCaught w o → fits w ≡ true → is_caught o ≡ true
 caught_good w o all p = refl
@@ -215,27 +216,32 @@ field_headed f h =
     let p = five (is_member_name f.name) (fits f.name) (not (is_member_word f.name)) (is_field_type f.field_type) (is_value_of f.field_type f.value) h in
     and_also p.2 (typed_of f.field_type f.value p.4)
 
--- the rows of a line
-pub rows_good : (items : List Item) (rows : List Row) → IsRow items rows → AreLexed items → list_all is_headed rows ≡ true → list_all is_good_row rows ≡ true
+row_good : (items : List Item) (rows : List Row) → IsRow items rows → AreWords items → AreLexed items → list_all is_headed rows ≡ true → list_all is_good_row rows ≡ true
 unfolding is_good_row is_head
-rows_good items rows (class {items = words} {k} {name} access e is c other) lexed h =
-    let word = (lexed_behind access (Word name ∷ []) (subst AreLexed e lexed.1)).0 in
-    and_also (and_also (and_also c word.1) (and_parts (not (is_taken k name)) true h).0) refl
-rows_good items rows (interface {items = words} {name} access e is c) lexed h =
-    let word = (lexed_behind access (Word name ∷ []) (subst AreLexed e lexed.1)).0 in
-    and_also (and_also (and_also c word.1) (and_parts _ true h).0) refl
-rows_good items rows (super c) lexed h = and_also (and_also c lexed.1.0.1) refl
-rows_good items rows (implements c) lexed h = and_also (and_also c lexed.1.0.1) refl
-rows_good items rows (field {items = words} {a} {name} {type} {value} access rest w e is c d v) lexed h =
+row_good items rows (class {items = words} {k} {name} access e is c other) fit lexed h =
+    let word = (words_behind access (Word name ∷ []) (subst AreWords e fit.1)).0 in
+    and_also (and_also (and_also c word) (and_parts (not (is_taken k name)) true h).0) refl
+row_good items rows (interface {items = words} {name} access e is c) fit lexed h =
+    let word = (words_behind access (Word name ∷ []) (subst AreWords e fit.1)).0 in
+    and_also (and_also (and_also c word) (and_parts _ true h).0) refl
+row_good items rows (super c) fit lexed h = and_also (and_also c fit.1.0) refl
+row_good items rows (implements c) fit lexed h = and_also (and_also c fit.1.0) refl
+row_good items rows (field {items = words} {a} {name} {type} {value} access rest w e is c d v) fit lexed h =
+    let short = words_behind access (Word name ∷ Word w ∷ rest) (subst AreWords e fit.1) in
     let behind = lexed_behind access (Word name ∷ Word w ∷ rest) (subst AreLexed e lexed.1) in
-    and_also (field_good (record { access = a; name = name; field_type = type; value = value }) w rest c d v behind.0.1 behind.1 (and_parts _ true h).0) refl
-rows_good items rows (method {items = words} {a} {name} {type} access w e spelled is c m) lexed h =
-    let word = (lexed_behind access (Word w ∷ []) (subst AreLexed e lexed.1)).0 in
-    and_also (and_also (and_also (and_also c (signature_good type m)) (ap fits (sym spelled) ∙ word.1)) (and_parts (fits_head a name type) true h).0) refl
-rows_good items rows (stack n) lexed h = and_also n.to refl
-rows_good items rows (locals n) lexed h = and_also n.to refl
-rows_good items rows (catch {w} {class = caught} c i j k) lexed h = and_also (caught_good w caught c lexed.1.0.1) refl
-rows_good items rows (labelled {items = words} {row} i is) lexed h = and_also (instruction_good words row is lexed.1.1) refl
-rows_good items rows (operation {items = words} {row} is) lexed h = and_also (instruction_good words row is lexed) refl
-rows_good items rows (case {w} {key} i l) lexed h = and_also (integer_int w key i) refl
-rows_good items rows other lexed h = refl
+    and_also (field_good (record { access = a; name = name; field_type = type; value = value }) w rest c d v short.0 short.1.0 behind.1.1 (and_parts _ true h).0) refl
+row_good items rows (method {items = words} {a} {name} {type} access w e spelled is c m) fit lexed h =
+    let word = (words_behind access (Word w ∷ []) (subst AreWords e fit.1)).0 in
+    and_also (and_also (and_also (and_also c (signature_good type m)) (ap fits (sym spelled) ∙ word)) (and_parts (fits_head a name type) true h).0) refl
+row_good items rows (stack n) fit lexed h = and_also n.to refl
+row_good items rows (locals n) fit lexed h = and_also n.to refl
+row_good items rows (catch {w} {class = caught} c i j k) fit lexed h = and_also (caught_good w caught c fit.1.0) refl
+row_good items rows (labelled {items = words} {row} i is) fit lexed h = and_also (instruction_good words row is fit.1.1 lexed.1.1) refl
+row_good items rows (operation {items = words} {row} is) fit lexed h = and_also (instruction_good words row is fit lexed) refl
+row_good items rows (case {w} {key} i l) fit lexed h = and_also (integer_int w key i) refl
+row_good items rows other fit lexed h = refl
+
+-- the rows of a line
+pub rows_good : (items : List Item) (rows : List Row) → AreRowsOf items rows → AreLexed items → list_all is_headed rows ≡ true → list_all is_good_row rows ≡ true
+rows_good items rows (skipped e) lexed h = refl
+rows_good items rows (of_words fit is) lexed h = row_good items rows is fit lexed h

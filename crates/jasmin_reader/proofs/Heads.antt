@@ -1,5 +1,5 @@
 -- Lines that name a class, a field or a method, both ways: those that are read are lines of the grammar, and those are read.
-use Rattle.std.proofs.Common.{◌≡◌, ℕ, Bool, true, false, not, ◌&&◌, cond, eqb, List, [], ◌∷◌, ◌++◌, map, Option, Some, Result, Ok, Err, refl, sym, ap, ◌∙◌, codes}
+use Rattle.std.proofs.Common.{◌≡◌, ℕ, Bool, true, false, not, ◌&&◌, cond, eqb, List, [], ◌∷◌, ◌++◌, map, Option, Some, Result, Ok, Err, refl, sym, ap, subst, ◌∙◌, codes}
 use Rattle.std.proofs.lemmas.Bool.{and_from, and_right, not_from_false, false_from_ne_true, and_parts, not-true}
 use Rattle.std.proofs.lemmas.Slice.Eq.{bytes_eq-Decides}
 use Rattle.std.specs.Str.{bytes_eq}
@@ -13,11 +13,12 @@ use Rattle.jasmin_words.specs.declared.fault.FaultKind.{FaultKind}
 use Rattle.jasmin_words.specs.declared.fault.FaultKind.TheVariants as fault
 use Rattle.sequence.specs.Gives.{◌>>=◌}
 use Rattle.sequence.proofs.Results.{not_refused, bind_ok, given}
-use Rattle.jasmin_words.specs.Lexing.{Item, Word, Equals, Text}
+use Rattle.jasmin_words.specs.Lexing.{Item, Word, Equals, Text, fits}
+use Rattle.jasmin_words.specs.Spelling.{AreWords}
 use Rattle.jasmin_words.specs.Names.{is_member_name, IsMemberName}
 use Rattle.jasmin_text.specs.Tables.{access_of, member_access_of, is_member_word, is_access_word}
 use Rattle.jasmin_text.specs.Spellable.{is_int_type, is_string_type, is_taken}
-use Rattle.jasmin_text.specs.Grammar.{no_access, IsAccess, IsMemberAccess, IsClassAccess, IsDescriptor, IsValue, begins_with_word as grammar_word, none, int, text, signature, IsRow, class, interface, field, method, Row, ClassRow, FieldRow, MethodRow}
+use Rattle.jasmin_text.specs.Grammar.{no_access, IsAccess, IsMemberAccess, IsClassAccess, IsDescriptor, IsValue, begins_with_word as grammar_word, none, int, text, signature, class, interface, field, method, AreRowsOf, of_words, Row, ClassRow, FieldRow, MethodRow}
 use Rattle.jasmin_text.specs.declared.access.Access.{Access}
 use Rattle.jasmin_text.specs.declared.class_text.ClassKind.{ClassKind}
 use Rattle.jasmin_text.specs.declared.class_text.ClassKind.TheVariants as kind
@@ -30,44 +31,44 @@ use Rattle.jasmin_reader.specs.declared.head.HeadWords.{HeadWords}
 use Rattle.jasmin_reader.specs.Places.{within_limit, operand, string_from, ended_at}
 use Rattle.jasmin_reader.specs.Operands.{class_name_in, member_name_in, integer_in, type_in, typed_in}
 use Rattle.jasmin_reader.specs.Heads.{start, no_access_in, named_from, begins_with_part, is_before_name, kind_at, class_from, constant_for, value_at, value_from, is_signature, described_from, field_from, may_initialize, fits_initializer, method_from}
-use Rattle.jasmin_reader.proofs.AccessWords.{short_word, within_ok, no_access_word, passed_over, knows, is_access_at, Words, class_access, class_words, simple_access, simple_words, Found, Named, named_ok, named_read, word_behind}
+use Rattle.jasmin_reader.proofs.AccessWords.{within_ok, words_behind, no_access_word, passed_over, knows, is_access_at, Words, class_access, class_words, simple_access, simple_words, Found, Named, named_ok, named_read, word_behind}
 use Rattle.jasmin_reader.proofs.GoodRows.{fits_head, is_typed, is_headed}
-use Rattle.jasmin_reader.proofs.OperandForms.{ended_ok, operand_ok}
+use Rattle.jasmin_reader.proofs.OperandForms.{ended_ok, ended_words, operand_ok}
 use Rattle.jasmin_reader.proofs.Words.{access_lacks, lacks, type_read, typed_read, member_lacks, checked_ok, integer_ok, type_ok, typed_ok}
 
 -- a row of the grammar, with what its words don't say by themselves
 abbrev pub IsHeadedRow : List Item → Row → Type 0
-IsHeadedRow items row = IsRow items (row ∷ []) × (is_headed row ≡ true)
+IsHeadedRow items row = AreRowsOf items (row ∷ []) × (is_headed row ≡ true)
 
 -- a name that is no access word, behind access words
-found_ok : {A : Type 0} (p : Place) (k : ClassKind) (items : List Item) (f : Found → Result A FaultKind) (r : A) → (named_from p (start k) items >>= λ n. no_access_in p n.1.0.0 >>= λ _. f n) ≡ Ok r
-    → (x : Found) × Named p (start k) items x × (is_access_at p x.1.0.0 ≡ false) × (f x ≡ Ok r)
+found_ok : {A : Type 0} (p : Place) (k : ClassKind) (items : List Item) (f : Found → Result A FaultKind) (r : A) → (named_from p (start k) items >>= λ n. no_access_in p n.1.0 >>= λ _. f n) ≡ Ok r
+    → (x : Found) × Named p (start k) items x × (is_access_at p x.1.0 ≡ false) × (f x ≡ Ok r)
 found_ok p k items f r e =
     let one = bind_ok (named_from p (start k) items) _ r e in
-    let two = bind_ok (no_access_in p one.0.1.0.0) _ r one.2 in
-    (one.0, named_ok p (start k) items one.0 one.1, no_access_word p one.0.1.0.0 two.0 two.1, two.2)
+    let two = bind_ok (no_access_in p one.0.1.0) _ r one.2 in
+    (one.0, named_ok p (start k) items one.0 one.1, no_access_word p one.0.1.0 two.0 two.1, two.2)
 
 -- ---- classes
 
 abbrev IsClassHead : Place → List Item → HeadWords × List ℕ → Type 0
-IsClassHead p items r = (before : List (List ℕ)) × Words p (start (kind_at p)) before r.0 × (items ≡ map Word before ++ Word r.1 ∷ []) × IsClassName r.1 × (is_access_at p r.1 ≡ false)
+IsClassHead p items r = (before : List (List ℕ)) × Words p (start (kind_at p)) before r.0 × (items ≡ map Word before ++ Word r.1 ∷ []) × IsClassName r.1 × (is_access_at p r.1 ≡ false) × AreWords items
 
 class_ok : (p : Place) (items : List Item) (r : HeadWords × List ℕ) → class_from p items ≡ Ok r → IsClassHead p items r
 unfolding class_from
 class_ok p items r e =
     let (x, n, free, rest) = found_ok p (kind_at p) items _ r e in
-    let one = bind_ok (class_name_in x.1.0.0) _ r rest in
-    let two = bind_ok (within_limit x.1.0.1) _ r one.2 in
+    let one = bind_ok (class_name_in x.1.0) _ r rest in
+    let two = bind_ok (within_limit x.1.0) _ r one.2 in
     let three = bind_ok (ended_at x.1.1) _ r two.2 in
-    let c = checked_ok is_class_name x.1.0.0 one.0 one.1 in
-    let item = short_word x.1.0 (within_ok x.1.0.1 two.0 two.1) in
-    given (IsClassHead p items) three.2 (n.0, n.1, cc (n.2, item, c.1, ended_ok x.1.1 three.0 three.1), c.0, rw (← c.1) free)
+    let c = checked_ok is_class_name x.1.0 one.0 one.1 in
+    let fit = n.3 (within_ok x.1.0 two.0 two.1, ended_words x.1.1 three.0 three.1) in
+    given (IsClassHead p items) three.2 (n.0, n.1, cc (n.2, c.1, ended_ok x.1.1 three.0 three.1), c.0, rw (← c.1) free, fit)
 
 pub class_taken : (items : List Item) (r : HeadWords × List ℕ) → class_from place.Class items ≡ Ok r → IsHeadedRow (Word (codes ".class") ∷ items) (ClassRow r.0.kind r.0.access r.1)
 class_taken items r e =
-    let (before, words, parts, is_name, free) = class_ok place.Class items r e in
+    let (before, words, parts, is_name, free, fit) = class_ok place.Class items r e in
     let none_of = neither (bytes_eq r.1 (codes "interface")) (is_access_word r.1) free in
-    (class (map Word before) parts (class_access words) is_name none_of.0, elim r.0.kind as (λ k. not (is_taken k r.1) ≡ true) [ kind.Class ↦ ap not free | kind.Interface ↦ ap not none_of.1 ])
+    (of_words (refl, fit) (class (map Word before) parts (class_access words) is_name none_of.0), elim r.0.kind as (λ k. not (is_taken k r.1) ≡ true) [ kind.Class ↦ ap not free | kind.Interface ↦ ap not none_of.1 ])
   where
     neither : (s t : Bool) → cond s true t ≡ false → (s ≡ false) × (t ≡ false)
     neither true t e = absurd cc
@@ -75,23 +76,32 @@ class_taken items r e =
 
 pub interface_taken : (items : List Item) (r : HeadWords × List ℕ) → class_from place.Interface items ≡ Ok r → IsHeadedRow (Word (codes ".interface") ∷ items) (ClassRow r.0.kind r.0.access r.1)
 interface_taken items r e =
-    let (before, words, parts, is_name, free) = class_ok place.Interface items r e in
+    let (before, words, parts, is_name, free, fit) = class_ok place.Interface items r e in
     let are = simple_access place.Interface access_of knows.0 words in
-    rw (are.1, free) (interface (map Word before) parts are.0 is_name, refl)
+    let all : AreWords (Word (codes ".interface") ∷ items) = (refl, fit) in
+    rw (are.1, free) (of_words all (interface (map Word before) parts are.0 is_name), refl)
 
-pub class_head : (items before : List Item) (k : ClassKind) (a : Access) (name : List ℕ) → items ≡ before ++ Word name ∷ [] → IsClassAccess kind.Class no_access before k a → IsClassName name → is_taken kind.Class name ≡ false
+-- the words of a line within their limit, by those before a name, and the name itself
+name_fits : {items : List Item} (before : List Item) (ws : List (List ℕ)) (name : List ℕ) (rest : List Item) → items ≡ before ++ Word name ∷ rest → before ≡ map Word ws → AreWords items → AreWords (map Word ws ++ Word name ∷ rest) × (fits name ≡ true)
+name_fits before ws name rest e parts good =
+    let fit : AreWords (map Word ws ++ Word name ∷ rest) = subst AreWords (e ∙ ap (λ (l : List Item). l ++ Word name ∷ rest) parts) good in
+    (fit, (words_behind (map Word ws) (Word name ∷ rest) fit).0)
+
+pub class_head : (items before : List Item) (k : ClassKind) (a : Access) (name : List ℕ) → items ≡ before ++ Word name ∷ [] → IsClassAccess kind.Class no_access before k a → IsClassName name → is_taken kind.Class name ≡ false → AreWords items
     → class_from place.Class items ≡ Ok (record { kind = k; access = a }, name)
 unfolding class_from
-class_head items before k a name e is h free =
+class_head items before k a name e is h free good =
     let (ws, parts, words) = class_words is in
-    rw (e, parts, named_read place.Class name [] refl (word_behind name) words, passed_over place.Class name free, h) refl
+    let (fit, short) = name_fits before ws name [] e parts good in
+    rw (e, parts, named_read place.Class name [] refl (word_behind name) words fit, passed_over place.Class name free, h, short) refl
 
-pub interface_head : (items before : List Item) (a : Access) (name : List ℕ) → items ≡ before ++ Word name ∷ [] → IsAccess before a → IsClassName name → is_taken kind.Interface name ≡ false
+pub interface_head : (items before : List Item) (a : Access) (name : List ℕ) → items ≡ before ++ Word name ∷ [] → IsAccess before a → IsClassName name → is_taken kind.Interface name ≡ false → AreWords items
     → class_from place.Interface items ≡ Ok (record { kind = kind.Interface; access = a }, name)
 unfolding class_from
-interface_head items before a name e is h free =
-    let (ws, parts, (words, fits)) = simple_words place.Interface access_of knows.0 kind.Interface is refl in
-    rw (e, parts, named_read place.Interface name [] refl (word_behind name) words, passed_over place.Interface name free, h) refl
+interface_head items before a name e is h free good =
+    let (ws, parts, (words, _)) = simple_words place.Interface access_of knows.0 kind.Interface is refl in
+    let (fit, short) = name_fits before ws name [] e parts good in
+    rw (e, parts, named_read place.Interface name [] refl (word_behind name) words fit, passed_over place.Interface name free, h, short) refl
 
 -- ---- the value of a field
 
@@ -101,7 +111,7 @@ string_ok items x e = absurd cc
 
 -- a value of its type behind a descriptor
 abbrev IsTypedValue : FieldType → List Item → Option Constant → Type 0
-IsTypedValue type items v = IsValue items v × (is_typed type v ≡ true)
+IsTypedValue type items v = IsValue items v × (is_typed type v ≡ true) × AreWords items
 
 value_as : (type : FieldType) {items others : List Item} {v : Option Constant} → items ≡ others → IsTypedValue type (Equals ∷ others) v → IsTypedValue type (Equals ∷ items) v
 value_as type e is = rw e is
@@ -115,14 +125,14 @@ constant_ok type items x e n = by (is_int_type type) (is_string_type type) refl 
     by true t p q h =
         let one = bind_ok (operand integer_in items) _ x h in
         let a = operand_ok integer_in items one.0 one.1 in
-        given (λ z. IsTypedValue type (Equals ∷ items) (Some z.0)) one.2 (value_as type (cc (a.parts, one.2, n)) (int (integer_ok a.word one.0.0 a.value), p))
+        given (λ z. IsTypedValue type (Equals ∷ items) (Some z.0)) one.2 (value_as type (cc (a.parts, one.2, n)) (int (integer_ok a.word one.0.0 a.value), p, (tt, (a.short, tt))))
     by false true p q h =
         let one = bind_ok (string_from items) _ x h in
-        given (λ z. IsTypedValue type (Equals ∷ items) (Some z.0)) one.2 (value_as type {others = Text one.0.0 ∷ []} (cc (string_ok items one.0 one.1, one.2, n)) (text, q))
+        given (λ z. IsTypedValue type (Equals ∷ items) (Some z.0)) one.2 (value_as type {others = Text one.0.0 ∷ []} (cc (string_ok items one.0 one.1, one.2, n)) (text, q, (tt, (tt, tt))))
     by false false p q h = let one = bind_ok (ended_at items) _ x h in absurd (cc one.2)
 
 value_at_ok : (type : FieldType) (items : List Item) (v : Option Constant) → value_at type items ≡ Ok v → IsTypedValue type items v × (grammar_word items ≡ false)
-value_at_ok type [] v e = given (λ w. IsTypedValue type [] w × (false ≡ false)) e ((none, refl), refl)
+value_at_ok type [] v e = given (λ w. IsTypedValue type [] w × (false ≡ false)) e ((none, refl, tt), refl)
 value_at_ok type (Equals ∷ rest) v e =
     let one = bind_ok (constant_for type rest) _ v e in
     let two = bind_ok (ended_at one.0.1) _ v one.2 in
@@ -139,20 +149,20 @@ value_ok type (Word w ∷ rest) v e = by (bytes_eq w (codes "signature")) refl e
         let two = bind_ok (string_from rest) _ one.0 one.1 in
         let behind = value_at_ok type one.0 v one.2 in
         let parts : rest ≡ Text two.0.0 ∷ one.0 = cc (string_ok rest two.0 two.1, two.2) in
-        rw ((bytes_eq-Decides w (codes "signature")).0 p, parts) (signature behind.0.0 behind.1, behind.0.1)
+        rw ((bytes_eq-Decides w (codes "signature")).0 p, parts) (signature behind.0.0 behind.1, behind.0.1, (refl, (tt, behind.0.2)))
     by false p h = absurd cc
 value_ok type items v e = (value_at_ok type items v e).0
 
 string_no_int : (t : FieldType) → is_string_type t ≡ true → is_int_type t ≡ false
 string_no_int t h = elim t.element as (λ e. is_string_type (record t { element = e }) ≡ true → is_int_type (record t { element = e }) ≡ false) [ element.Base b ↦ λ h. absurd cc | element.Class name ↦ λ h. refl ] h
 
-value_read : (t : FieldType) (rest : List Item) (v : Option Constant) → IsValue rest v → is_typed t v ≡ true
+value_read : (t : FieldType) (rest : List Item) (v : Option Constant) → IsValue rest v → is_typed t v ≡ true → AreWords rest
     → (begins_with_part rest ≡ false) × (value_from t rest ≡ Ok v) × (grammar_word rest ≡ false → value_at t rest ≡ Ok v)
 unfolding value_from constant_for
-value_read t rest v none ok = (refl, refl, λ h. refl)
-value_read t rest v (int e) ok = rw (ok, e) (refl, refl, λ h. refl)
-value_read t rest v text ok = rw (string_no_int t ok, ok) (refl, refl, λ h. refl)
-value_read t rest v (signature {items} {value} is e) ok = (refl, (value_read t items value is ok).2 e, λ h. absurd cc)
+value_read t rest v none ok good = (refl, refl, λ h. refl)
+value_read t rest v (int e) ok good = rw (ok, e, good.1.0) (refl, refl, λ h. refl)
+value_read t rest v text ok good = rw (string_no_int t ok, ok) (refl, refl, λ h. refl)
+value_read t rest v (signature {items} {value} is e) ok good = (refl, (value_read t items value is ok good.1.1).2 e, λ h. absurd cc)
 
 -- ---- fields
 
@@ -160,19 +170,19 @@ pub field_taken : (items : List Item) (f : Field) → field_from items ≡ Ok f 
 unfolding field_from
 field_taken items f e =
     let (x, n, no_word, rest) = found_ok place.Field kind.Class items _ f e in
-    let one = bind_ok (member_name_in x.1.0.0) _ f rest in
-    let two = bind_ok (within_limit x.1.0.1) _ f one.2 in
+    let one = bind_ok (member_name_in x.1.0) _ f rest in
+    let two = bind_ok (within_limit x.1.0) _ f one.2 in
     let three = bind_ok (described_from x.1.1) _ f two.2 in
     let four = bind_ok (value_from three.0.0 three.0.1) _ f three.2 in
-    let c = checked_ok is_member_name x.1.0.0 one.0 one.1 in
+    let c = checked_ok is_member_name x.1.0 one.0 one.1 in
     let t = operand_ok type_in x.1.1 three.0 (not_refused (is_signature x.1.1) fault.BadOperand (operand type_in x.1.1) three.0 three.1).1 in
-    let item = short_word x.1.0 (within_ok x.1.0.1 two.0 two.1) in
-    let parts : items ≡ map Word n.0 ++ Word one.0 ∷ Word t.word ∷ three.0.1 = cc (n.2, item, c.1, t.parts) in
+    let parts : items ≡ map Word n.0 ++ Word one.0 ∷ Word t.word ∷ three.0.1 = cc (n.2, c.1, t.parts) in
     let free : is_member_word one.0 ≡ false = rw (← c.1) no_word in
     let v = value_ok three.0.0 three.0.1 four.0 four.1 in
     let are = (simple_access place.Field member_access_of knows.1 n.1).0 in
+    let fit = n.3 (within_ok x.1.0 two.0 two.1, subst AreWords (sym t.parts) (t.short, v.2)) in
     given (λ g. IsHeadedRow (Word (codes ".field") ∷ items) (FieldRow g)) four.2
-    (field (map Word n.0) three.0.1 t.word parts are c.0 (type_ok t.word three.0.0 t.value) v.0, and_from _ _ (not_from_false _ free) v.1)
+    (of_words (refl, fit) (field (map Word n.0) three.0.1 t.word parts are c.0 (type_ok t.word three.0.0 t.value) v.0), and_from _ _ (not_from_false _ free) v.1)
 
 descriptor_no_signature : (w : List ℕ) (t : FieldType) → IsDescriptor w t → bytes_eq w (codes "signature") ≡ false
 unfolding type_in field_of_text array_at element_at
@@ -192,16 +202,18 @@ field_before name w rest last (u ∷ v ∷ []) = rw (part u v (Word name ∷ Wor
 field_before name w rest last (u ∷ v ∷ x ∷ ws) = rw (part u v (map Word (x ∷ ws) ++ Word name ∷ Word w ∷ rest)) (part v x (map Word ws ++ Word name ∷ Word w ∷ rest))
 
 pub field_head : (items before rest : List Item) (a : Access) (name w : List ℕ) (type : FieldType) (value : Option Constant) → items ≡ before ++ Word name ∷ Word w ∷ rest
-    → IsMemberAccess before a → IsMemberName name → IsDescriptor w type → IsValue rest value → not (is_member_word name) ≡ true → is_typed type value ≡ true
+    → IsMemberAccess before a → IsMemberName name → IsDescriptor w type → IsValue rest value → not (is_member_word name) ≡ true → is_typed type value ≡ true → AreWords items
     → field_from items ≡ Ok (record { access = a; name = name; field_type = type; value = value })
 unfolding field_from
-field_head items before rest a name w type value e is h d v free ok =
+field_head items before rest a name w type value e is h d v free ok good =
     let other = descriptor_no_signature w type d in
     let part : begins_with_part (Word w ∷ rest) ≡ true = rw other refl in
-    let behind = value_read type rest value v ok in
+    let after = words_behind before (Word name ∷ Word w ∷ rest) (subst AreWords e good) in
+    let behind = value_read type rest value v ok after.1.1 in
     let at : is_before_name place.Field (Word w ∷ rest) ≡ false = rw (other, behind.0) refl in
-    let (ws, parts, (words, fits)) = simple_words place.Field member_access_of knows.1 kind.Class is refl in
-    rw (e, parts, named_read place.Field name (Word w ∷ rest) at (field_before name w rest part) words, passed_over place.Field name (not-true _ free), h, other, type_read w type d, behind.1) refl
+    let (ws, parts, (words, _)) = simple_words place.Field member_access_of knows.1 kind.Class is refl in
+    let (fit, short) = name_fits before ws name (Word w ∷ rest) e parts good in
+    rw (e, parts, named_read place.Field name (Word w ∷ rest) at (field_before name w rest part) words fit, passed_over place.Field name (not-true _ free), h, short, other, type_read w type d, after.1.0, behind.1) refl
 
 -- ---- methods
 
@@ -209,32 +221,33 @@ pub method_taken : (items : List Item) (r : Access × (List ℕ × Signature)) �
 unfolding method_from
 method_taken items r e =
     let (x, n, no_word, rest) = found_ok place.Method kind.Class items _ r e in
-    let one = bind_ok (typed_in member_name_in x.1.0.0) _ r rest in
-    let two = bind_ok (within_limit x.1.0.1) _ r one.2 in
+    let one = bind_ok (typed_in member_name_in x.1.0) _ r rest in
+    let two = bind_ok (within_limit x.1.0) _ r one.2 in
     let three = bind_ok (fits_initializer x.0.access one.0) _ r two.2 in
     let four = bind_ok (ended_at x.1.1) _ r three.2 in
-    let t = typed_ok member_name_in x.1.0.0 one.0 one.1 in
+    let t = typed_ok member_name_in x.1.0 one.0 one.1 in
     let c = checked_ok is_member_name t.front one.0.0 t.value in
-    let item = short_word x.1.0 (within_ok x.1.0.1 two.0 two.1) in
-    let parts : items ≡ map Word n.0 ++ Word x.1.0.0 ∷ [] = cc (n.2, item, ended_ok x.1.1 four.0 four.1) in
-    let spelled : x.1.0.0 ≡ one.0.0 ++ method_spelling one.0.1 = cc (t.parts, c.1) in
+    let parts : items ≡ map Word n.0 ++ Word x.1.0 ∷ [] = cc (n.2, ended_ok x.1.1 four.0 four.1) in
+    let fit = n.3 (within_ok x.1.0 two.0 two.1, ended_words x.1.1 four.0 four.1) in
+    let spelled : x.1.0 ≡ one.0.0 ++ method_spelling one.0.1 = cc (t.parts, c.1) in
     let starts = not_refused (bytes_eq one.0.0 (codes "<clinit>") && not (may_initialize x.0.access one.0.1)) fault.BadInitializer (Ok tt) three.0 three.1 in
     let are = simple_access place.Method member_access_of knows.2 n.1 in
     let head : fits_head x.0.access one.0.0 one.0.1 ≡ true = and_from _ _ (are.2 refl) (not_from_false _ starts.0) in
-    given (λ m. IsHeadedRow (Word (codes ".method") ∷ items) (MethodRow m.0 m.1.0 m.1.1)) four.2 (method (map Word n.0) x.1.0.0 parts spelled are.0 c.0 t.type, head)
+    given (λ m. IsHeadedRow (Word (codes ".method") ∷ items) (MethodRow m.0 m.1.0 m.1.1)) four.2 (of_words (refl, fit) (method (map Word n.0) x.1.0 parts spelled are.0 c.0 t.type), head)
 
 has_parenthesis : (name : List ℕ) (m : Signature) → lacks 40 name ≡ true → lacks 40 (name ++ method_spelling m) ≡ false
 has_parenthesis [] m h = refl
 has_parenthesis (b ∷ bs) m h = let p = and_parts (not (eqb b 40)) (lacks 40 bs) h in rw (p.0) (has_parenthesis bs m p.1)
 
 pub method_head : (items before : List Item) (w : List ℕ) (a : Access) (name : List ℕ) (type : Signature) → items ≡ before ++ Word w ∷ [] → w ≡ name ++ method_spelling type
-    → IsMemberAccess before a → IsMemberName name → IsMethodType type → fits_head a name type ≡ true → method_from items ≡ Ok (a, (name, type))
+    → IsMemberAccess before a → IsMemberName name → IsMethodType type → fits_head a name type ≡ true → AreWords items → method_from items ≡ Ok (a, (name, type))
 unfolding method_from
-method_head items before w a name type e spelled is h m fits =
-    let p = and_parts (not (a.is_abstract && a.is_static)) (not (bytes_eq name (codes "<clinit>") && not (may_initialize a type))) fits in
+method_head items before w a name type e spelled is h m fits_all good =
+    let p = and_parts (not (a.is_abstract && a.is_static)) (not (bytes_eq name (codes "<clinit>") && not (may_initialize a type))) fits_all in
     let bare = member_lacks 40 refl refl refl name h in
     let name_read : member_name_in name ≡ Ok name = rw h refl in
     let typed : typed_in member_name_in w ≡ Ok (name, type) = rw spelled (typed_read member_name_in name type name bare name_read m) in
     let no_word : is_member_word w ≡ false = rw (access_lacks w (ap (lacks 40) spelled ∙ has_parenthesis name type bare)) refl in
     let (ws, parts, (words, none_wrong)) = simple_words place.Method member_access_of knows.2 kind.Class is p.0 in
-    rw (e, parts, named_read place.Method w [] refl (word_behind w) words, passed_over place.Method w no_word, typed, not-true _ p.1) refl
+    let (fit, short) = name_fits before ws w [] e parts good in
+    rw (e, parts, named_read place.Method w [] refl (word_behind w) words fit, passed_over place.Method w no_word, typed, short, not-true _ p.1) refl

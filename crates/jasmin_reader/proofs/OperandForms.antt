@@ -14,8 +14,9 @@ use Rattle.jasmin_words.specs.declared.fault.FaultKind.TheVariants as fault
 use Rattle.sequence.specs.Gives.{◌>>=◌}
 use Rattle.sequence.proofs.Results.{bind_ok, given}
 use Rattle.jasmin_words.specs.Integers.{integer_of}
-use Rattle.jasmin_words.specs.Lexing.{Item, Word, LongWord, Text, BadText}
+use Rattle.jasmin_words.specs.Lexing.{Item, Word, Text, BadText, fits}
 use Rattle.jasmin_words.specs.Names.{is_label}
+use Rattle.jasmin_words.specs.Spelling.{AreWords}
 use Rattle.jasmin_text.specs.Forms.{form_at}
 use Rattle.jasmin_text.specs.BaseWords.{base_word}
 use Rattle.jasmin_text.specs.Grammar.{IsMethodWord, IsOperands, plain, number, byte, short, int, text, local, local_at, increment, jump, field, call, interface, counted, new, new_array, class as class_use, array, IsInstructionLine, simple, table, table_to, lookup, Row, InstructionRow, TableRow, LookupRow, byte_low, short_low}
@@ -32,14 +33,19 @@ use Rattle.jasmin_reader.specs.declared.operands.Begun.{Begun}
 use Rattle.jasmin_reader.specs.declared.operands.Begun.TheVariants as begun
 use Rattle.jasmin_reader.specs.declared.table.BaseWord.{BaseWord}
 use Rattle.jasmin_reader.specs.declared.table.BaseWord.TheVariants as word
-use Rattle.jasmin_reader.specs.Places.{operand, ended_at}
+use Rattle.jasmin_reader.specs.Places.{within_limit, operand, ended_at}
 use Rattle.jasmin_reader.specs.Operands.{checked, label_in, class_name_in, integer_in, int_in, local_in, count_in, type_in, member_in, method_in, base_of, base_in, begins_with, reference_in, last_operand, count_at, labels_between, room_in, room_at, table_of, raw, begun_at}
 use Rattle.jasmin_reader.specs.Table.{base_at, base_words}
 use Rattle.jasmin_reader.specs.Listing.{Listing, has_room, with_begun}
+use Rattle.jasmin_reader.proofs.AccessWords.{within_ok}
 use Rattle.jasmin_reader.proofs.RowSteps.{plain_row}
 use Rattle.jasmin_reader.proofs.Words.{checked_ok, integer_ok, int_ok, int_read, number_ok, number_read, type_ok, type_read, lacks, class_lacks, member_ok, member_read, method_ok, method_read, find_ok}
 
 -- ---- places
+
+pub ended_words : (items : List Item) (u : Unit {0}) → ended_at items ≡ Ok u → AreWords items
+ended_words [] u e = tt
+ended_words (t ∷ rest) u e = absurd cc
 
 pub ended_ok : (items : List Item) (u : Unit {0}) → ended_at items ≡ Ok u → items ≡ []
 ended_ok [] u e = refl
@@ -50,12 +56,13 @@ pub record Taken {A : Type 0} (read : List ℕ → Result A FaultKind) (items : 
   pub word : List ℕ
   pub parts : items ≡ Word word ∷ x.1
   pub value : read word ≡ Ok x.0
+  pub short : fits word ≡ true
 
 pub operand_ok : {A : Type 0} (read : List ℕ → Result A FaultKind) (items : List Item) (x : A × List Item) → operand read items ≡ Ok x → Taken read items x
 operand_ok read (Word w ∷ rest) x e =
     let one = bind_ok (read w) _ x e in
-    given (Taken read (Word w ∷ rest)) one.2 (record { word = w; parts = refl; value = one.1 })
-operand_ok read (LongWord w ∷ rest) x e = let one = bind_ok (read w) _ x e in absurd (cc one.2)
+    let two = bind_ok (within_limit w) _ x one.2 in
+    given (Taken read (Word w ∷ rest)) two.2 (record { word = w; parts = refl; value = one.1; short = within_ok w two.0 two.1 })
 operand_ok read items x e = absurd cc
 
 pub last_ok : {A : Type 0} (read : List ℕ → Result A FaultKind) (items : List Item) (x : A) → last_operand read items ≡ Ok x → Taken read items (x, [])
@@ -63,14 +70,14 @@ last_ok read items x e =
     let one = bind_ok (operand read items) _ x e in
     let two = bind_ok (ended_at one.0.1) _ x one.2 in
     let t = operand_ok read items one.0 one.1 in
-    record { word = t.word; parts = cc (t.parts, ended_ok one.0.1 two.0 two.1); value = cc (t.value, two.2) }
+    record { word = t.word; parts = cc (t.parts, ended_ok one.0.1 two.0 two.1); value = cc (t.value, two.2); short = t.short }
 
 -- a word that passed a test, at the line's end
-pub checked_last : (test : List ℕ → Bool) (items : List Item) (x : List ℕ) → last_operand (λ w. checked (test w) w) items ≡ Ok x → (items ≡ Word x ∷ []) × (test x ≡ true)
+pub checked_last : (test : List ℕ → Bool) (items : List Item) (x : List ℕ) → last_operand (λ w. checked (test w) w) items ≡ Ok x → (items ≡ Word x ∷ []) × (test x ≡ true) × (fits x ≡ true)
 checked_last test items x e =
     let a = last_ok (λ w. checked (test w) w) items x e in
     let c = checked_ok test a.word x a.value in
-    (cc (a.parts, c.1), c.0)
+    (cc (a.parts, c.1), c.0, rw (← c.1) a.short)
 
 -- ---- base types, arrays and classes
 
@@ -139,6 +146,7 @@ labels_counted low high n e =
 -- a row that begins as was read
 pub record Begins (f : Form) (items : List Item) (b : Begun) : Type 0 where
   pub row : Row
+  pub words : AreWords items
   pub line : (w : List ℕ) → form_at w ≡ Some f → IsInstructionLine (Word w ∷ items) row
   pub adds : (l m : Listing) → (has_room l.room >>= λ _. Ok (with_begun l b)) ≡ Ok m → plain_row l row ≡ Ok m
 
@@ -148,24 +156,24 @@ table_ok items b e =
     let one = bind_ok (operand integer_in items) _ b e in
     let two = bind_ok (room_at one.0.0 one.0.1) _ b one.2 in
     let a = operand_ok integer_in items one.0 one.1 in
-    given (Begins form.TableSwitch items) two.2 (by a.word one.0.0 one.0.1 a.parts (integer_ok a.word one.0.0 a.value) two.0 two.1)
+    given (Begins form.TableSwitch items) two.2 (by a.word one.0.0 one.0.1 a.parts (integer_ok a.word one.0.0 a.value) a.short two.0 two.1)
   where
-    by : (v : List ℕ) (low : ℤ) (rest : List Item) → items ≡ Word v ∷ rest → integer_of v ≡ Some low → (room : Option ℕ) → room_at low rest ≡ Ok room → Begins form.TableSwitch items (begun.Opens (table_of low room))
-    by v low [] parts from room h =
-        rw parts (given (λ (r : Option ℕ). Begins form.TableSwitch (Word v ∷ []) (begun.Opens (table_of low r))) h (record { row = TableRow low None; line = λ w at. table at from; adds = λ l m done. done }))
-    by v low (t ∷ rest) parts from room h =
+    by : (v : List ℕ) (low : ℤ) (rest : List Item) → items ≡ Word v ∷ rest → integer_of v ≡ Some low → fits v ≡ true → (room : Option ℕ) → room_at low rest ≡ Ok room → Begins form.TableSwitch items (begun.Opens (table_of low room))
+    by v low [] parts from fit room h =
+        rw parts (given (λ (r : Option ℕ). Begins form.TableSwitch (Word v ∷ []) (begun.Opens (table_of low r))) h (record { row = TableRow low None; words = (fit, tt); line = λ w at. table at from; adds = λ l m done. done }))
+    by v low (t ∷ rest) parts from fit room h =
         let one = bind_ok (last_operand (room_in low) (t ∷ rest)) _ room h in
         let b = last_ok (room_in low) (t ∷ rest) one.0 one.1 in
         let two = bind_ok (integer_in b.word) _ one.0 b.value in
         let far : labels_between low two.0 ≡ Ok one.0 = two.2 in
         let items_are : items ≡ Word v ∷ Word b.word ∷ [] = cc (parts, b.parts) in
         rw items_are (given (λ (r : Option ℕ). Begins form.TableSwitch (Word v ∷ Word b.word ∷ []) (begun.Opens (table_of low r))) one.2
-        (record { row = TableRow low (Some two.0); line = λ w at. table_to at from (integer_ok b.word two.0 two.1); adds = λ l m done. rw far done }))
+        (record { row = TableRow low (Some two.0); words = (fit, (b.short, tt)); line = λ w at. table_to at from (integer_ok b.word two.0 two.1); adds = λ l m done. rw far done }))
 
 -- ---- all forms that are read
 
-whole : {f : Form} {items : List Item} {i : Instruction (List ℕ)} → IsOperands f items i → Begins f items (begun.Whole i)
-whole {i} is = record { row = InstructionRow i; line = λ w h. simple h is; adds = λ l m h. h }
+whole : {f : Form} {items : List Item} {i : Instruction (List ℕ)} → AreWords items → IsOperands f items i → Begins f items (begun.Whole i)
+whole {i} words is = record { row = InstructionRow i; words = words; line = λ w h. simple h is; adds = λ l m h. h }
 
 nothing : {f : Form} (items : List Item) (a b : Begun) → Begins f [] a → (ended_at items >>= λ _. Ok a) ≡ Ok b → Begins f items b
 nothing {f} items a b is e =
@@ -177,7 +185,7 @@ last : {A : Type 0} (f : Form) (items : List Item) (read : List ℕ → Result A
 last f items read build b is e =
     let one = bind_ok (last_operand read items) _ b e in
     let t = last_ok read items one.0 one.1 in
-    rw t.parts (given (Begins f _) one.2 (whole (is t.word one.0 t.value)))
+    rw t.parts (given (Begins f _) one.2 (whole (t.short, tt) (is t.word one.0 t.value)))
 
 two : {A B : Type 0} (f : Form) (items : List Item) (read : List ℕ → Result A FaultKind) (more : List ℕ → Result B FaultKind) (build : A → B → Instruction (List ℕ)) (b : Begun)
     → ((v : List ℕ) (x : A) → read v ≡ Ok x → (w : List ℕ) (y : B) → more w ≡ Ok y → IsOperands f (Word v ∷ Word w ∷ []) (build x y))
@@ -187,7 +195,7 @@ two f items read more build b is e =
     let two = bind_ok (last_operand more one.0.1) _ b one.2 in
     let s = operand_ok read items one.0 one.1 in
     let t = last_ok more one.0.1 two.0 two.1 in
-    rw (s.parts, t.parts) (given (Begins f _) two.2 (whole (is s.word one.0.0 s.value t.word two.0 t.value)))
+    rw (s.parts, t.parts) (given (Begins f _) two.2 (whole (s.short, (t.short, tt)) (is s.word one.0.0 s.value t.word two.0 t.value)))
 
 abbrev int_from : List Item → Result (Constant × List Item) FaultKind
 int_from items = operand integer_in items >>= λ n. Ok (constant.Int n.0, n.1)
@@ -200,61 +208,61 @@ int_constant items b e =
     let t = operand_ok integer_in items two.0 two.1 in
     let parts : items ≡ Word t.word ∷ [] = cc (t.parts, two.2, ended_ok one.0.1 three.0 three.1) in
     let value : raw (instruction.Constant (constant.Int two.0.0)) ≡ raw (instruction.Constant one.0.0) = cc two.2 in
-    rw parts (given (Begins form.Constant _) (value ∙ three.2) (whole (int (integer_ok t.word two.0.0 t.value))))
+    rw parts (given (Begins form.Constant _) (value ∙ three.2) (whole (t.short, tt) (int (integer_ok t.word two.0.0 t.value))))
 
 pub begun_ok : (f : Form) (items : List Item) (b : Begun) → begun_at f items ≡ Ok b → Begins f items b
 unfolding begun_at
-begun_ok (form.Plain p) items b e = nothing items _ b (whole plain) e
-begun_ok (form.Number n) items b e = nothing items _ b (whole number) e
+begun_ok (form.Plain p) items b e = nothing items _ b (whole tt plain) e
+begun_ok (form.Number n) items b e = nothing items _ b (whole tt number) e
 begun_ok form.Byte items b e = last _ items (int_in byte_low (pos 127)) _ b (λ w n h. byte (int_ok byte_low (pos 127) w n h)) e
 begun_ok form.Short items b e = last _ items (int_in short_low (pos 32767)) _ b (λ w n h. short (int_ok short_low (pos 32767) w n h)) e
 begun_ok form.Constant (Text t ∷ rest) b e =
     let one = bind_ok (ended_at rest) _ b e in
-    rw (ended_ok rest one.0 one.1) (given (Begins form.Constant _) one.2 (whole text))
+    rw (ended_ok rest one.0 one.1) (given (Begins form.Constant _) one.2 (whole (tt, tt) text))
 begun_ok form.Constant (BadText k ∷ rest) b e = absurd cc
 begun_ok form.Constant items b e = int_constant items b e
 begun_ok (form.Local l) items b e = last _ items local_in _ b (λ w n h. local (number_ok 0 65535 fault.BadOperand w n h)) e
-begun_ok (form.LocalAt l n) items b e = nothing items _ b (whole local_at) e
+begun_ok (form.LocalAt l n) items b e = nothing items _ b (whole tt local_at) e
 begun_ok form.Increment items b e =
     two _ items local_in (int_in short_low (pos 32767)) _ b (λ v n h w by k. increment (number_ok 0 65535 fault.BadOperand v n h) (int_ok short_low (pos 32767) w by k)) e
 begun_ok (form.Jump j) items b e = last _ items label_in _ b (λ w x h. let is = checked_ok is_label w x h in rw is.1 (jump is.0)) e
 begun_ok form.TableSwitch items b e = table_ok items b e
-begun_ok form.LookupSwitch items b e = nothing items _ b (record { row = LookupRow; line = λ w at. lookup at; adds = λ l m done. done }) e
+begun_ok form.LookupSwitch items b e = nothing items _ b (record { row = LookupRow; words = tt; line = λ w at. lookup at; adds = λ l m done. done }) e
 begun_ok (form.Field f) items b e = two _ items member_in type_in _ b (λ v m h w t k. field (member_ok v m h) (type_ok w t k)) e
 begun_ok (form.Call c) items b e = last _ items method_in _ b (λ w m h. call (method_ok w m h)) e
 begun_ok form.CallInterface items b e =
     let one = bind_ok (operand method_in items) _ b e in
     let two = bind_ok (count_at one.0.1) _ b one.2 in
     let x = operand_ok method_in items one.0 one.1 in
-    rw x.parts (given (Begins form.CallInterface _) two.2 (whole (by one.0.1 two.0 two.1 x.word (method_ok x.word one.0.0 x.value))))
+    rw x.parts (given (Begins form.CallInterface _) two.2 (by one.0.1 two.0 two.1 x.word x.short (method_ok x.word one.0.0 x.value)))
   where
-    by : (rest : List Item) (u : Unit {0}) → count_at rest ≡ Ok u → (w : List ℕ) {r : MethodReference}
-        → IsMethodWord w r.class r.name r.method_type → IsOperands form.CallInterface (Word w ∷ rest) (instruction.CallInterface r)
-    by [] u e w m = interface m
-    by (t ∷ rest) u e w {r} m =
+    by : (rest : List Item) (u : Unit {0}) → count_at rest ≡ Ok u → (w : List ℕ) → fits w ≡ true → {r : MethodReference}
+        → IsMethodWord w r.class r.name r.method_type → Begins form.CallInterface (Word w ∷ rest) (begun.Whole (instruction.CallInterface r))
+    by [] u e w fit m = whole (fit, tt) (interface m)
+    by (t ∷ rest) u e w fit {r} m =
         let one = bind_ok (last_operand count_in (t ∷ rest)) _ u e in
         let b = last_ok count_in (t ∷ rest) one.0 one.1 in
-        rw b.parts (counted m (number_ok 1 255 fault.BadOperand b.word one.0 b.value))
+        rw b.parts (whole (fit, (b.short, tt)) (counted m (number_ok 1 255 fault.BadOperand b.word one.0 b.value)))
 begun_ok form.New items b e = last _ items class_name_in _ b (λ w x h. let is = checked_ok is_class_name w x h in rw is.1 (new is.0)) e
 begun_ok form.NewArray items b e = last _ items base_in _ b (λ w x h. rw (base_ok w x h) new_array) e
 begun_ok (form.TypeUse t) items b e = last _ items reference_in _ b (reference_ok t) e
 
 -- ---- all operands of the grammar
 
-pub operands_read : (f : Form) (items : List Item) (i : Instruction (List ℕ)) → IsOperands f items i → begun_at f items ≡ Ok (begun.Whole i)
+pub operands_read : (f : Form) (items : List Item) (i : Instruction (List ℕ)) → IsOperands f items i → AreWords items → begun_at f items ≡ Ok (begun.Whole i)
 unfolding begun_at reference_in
-operands_read f items i (byte {w} {n} h) = rw (int_read _ _ w n h) refl
-operands_read f items i (short {w} {n} h) = rw (int_read _ _ w n h) refl
-operands_read f items i (int h) = rw h refl
-operands_read f items i (local {w} {n} h) = rw (number_read 0 65535 fault.BadOperand w n h) refl
-operands_read f items i (increment {v} {w} {n} {by} h k) = rw (number_read 0 65535 fault.BadOperand v n h, int_read _ _ w by k) refl
-operands_read f items i (jump h) = rw h refl
-operands_read f items i (field {v} {w} {class} {name} {type} m d) = rw (member_read v class name m, type_read w type d) refl
-operands_read f items i (call {w} {class} {name} {type} m) = rw (method_read w class name type m) refl
-operands_read f items i (interface {w} {class} {name} {type} m) = rw (method_read w class name type m) refl
-operands_read f items i (counted {w} {v} {class} {name} {type} {n} m h) = rw (method_read w class name type m, number_read 1 255 fault.BadOperand v n h) refl
-operands_read f items i (new h) = rw h refl
-operands_read f items i (new_array {b}) = rw (base_read b) refl
-operands_read f items i (class_use {name} h) = rw (no_bracket name (class_lacks 91 refl refl name h), h) refl
-operands_read f items i (array {w} {type} d h) = rw (ap (begins_with 91) d.spelling ∙ bracket type ∙ not_from_false _ h, type_read w type d) refl
-operands_read f items i is = refl
+operands_read f items i (byte {w} {n} h) words = rw (int_read _ _ w n h, words.0) refl
+operands_read f items i (short {w} {n} h) words = rw (int_read _ _ w n h, words.0) refl
+operands_read f items i (int h) words = rw (h, words.0) refl
+operands_read f items i (local {w} {n} h) words = rw (number_read 0 65535 fault.BadOperand w n h, words.0) refl
+operands_read f items i (increment {v} {w} {n} {by} h k) words = rw (number_read 0 65535 fault.BadOperand v n h, words.0, int_read _ _ w by k, words.1.0) refl
+operands_read f items i (jump h) words = rw (h, words.0) refl
+operands_read f items i (field {v} {w} {class} {name} {type} m d) words = rw (member_read v class name m, words.0, type_read w type d, words.1.0) refl
+operands_read f items i (call {w} {class} {name} {type} m) words = rw (method_read w class name type m, words.0) refl
+operands_read f items i (interface {w} {class} {name} {type} m) words = rw (method_read w class name type m, words.0) refl
+operands_read f items i (counted {w} {v} {class} {name} {type} {n} m h) words = rw (method_read w class name type m, words.0, number_read 1 255 fault.BadOperand v n h, words.1.0) refl
+operands_read f items i (new h) words = rw (h, words.0) refl
+operands_read f items i (new_array {b}) words = rw (base_read b, words.0) refl
+operands_read f items i (class_use {name} h) words = rw (no_bracket name (class_lacks 91 refl refl name h), h, words.0) refl
+operands_read f items i (array {w} {type} d h) words = rw (ap (begins_with 91) d.spelling ∙ bracket type ∙ not_from_false _ h, type_read w type d, words.0) refl
+operands_read f items i is words = refl

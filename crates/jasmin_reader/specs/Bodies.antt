@@ -1,5 +1,5 @@
 -- What the lines in a method add to it.
-use Rattle.std.specs.Prelude.{ℕ, Bool, true, false, not, ◌&&◌, List, [], ◌∷◌, ◌++◌, length, Option, Some, None, is_some, Result, Ok, Err, ◌==◌, if◌then◌else◌, ℤ, codes}
+use Rattle.std.specs.Prelude.{ℕ, Bool, true, false, ◌&&◌, List, [], ◌∷◌, ◌++◌, length, Option, Some, None, is_some, Result, Ok, Err, ◌==◌, if◌then◌else◌, ℤ, codes}
 use Rattle.std.specs.Option.{ok_or}
 use Rattle.std.specs.Str.{bytes_eq}
 use Rattle.jasmin_words.specs.declared.fault.FaultKind.{FaultKind}
@@ -33,23 +33,18 @@ abbrev pub with_label : Body → List ℕ → Body
 with_label b l = record b { labels = b.labels ++ (l, length b.listing.instructions) ∷ [] }
 
 -- a label before the next instruction
-unfoldable pub label_at : Body → List ℕ × Bool → Result Body FaultKind
+unfoldable pub label_at : Body → List ℕ → Result Body FaultKind
 label_at b w =
-    if is_label w.0 then (new_label (place_of b.labels w.0) >>= λ _. within_limit w.1 >>= λ _. Ok (with_label b w.0))
+    if is_label w then (new_label (place_of b.labels w) >>= λ _. within_limit w >>= λ _. Ok (with_label b w))
     else Err fault.UnknownInstruction
 
 abbrev pub listed : Body → Result Listing FaultKind → Result Body FaultKind
 listed b read = read >>= λ l. Ok (record b { listing = l })
 
--- the word behind .end
-abbrev pub end_by : Bool → List ℕ × Bool → List Item → Result (List Item) FaultKind
-end_by true w rest = within_limit w.1 >>= λ _. Ok rest
-end_by false w rest = Err fault.LeftOut
-
 -- what stands behind .end; whatever else than the word method stands there is left out
 unfoldable pub end_from : List Item → Result (List Item) FaultKind
 end_from [] = Err fault.BadOperand
-end_from (t ∷ rest) = first_word fault.LeftOut t >>= λ w. end_by (bytes_eq w.0 (codes "method")) w rest
+end_from (t ∷ rest) = first_word fault.LeftOut t >>= λ w. if bytes_eq w (codes "method") then Ok rest else Err fault.LeftOut
 
 -- a directive where none may stand; of .end the next word is looked at
 unfoldable pub no_directive : Directive → List Item → FaultKind
@@ -57,25 +52,25 @@ no_directive directive.LeftOut rest = fault.LeftOut
 no_directive directive.End rest = elim (end_from rest) [ Ok x ↦ fault.Misplaced | Err k ↦ k ]
 no_directive other rest = fault.Misplaced
 
-abbrev pub labelled_by : Body → List ℕ × Bool → List Item → Option Directive → Result Body FaultKind
+abbrev pub labelled_by : Body → List ℕ → List Item → Option Directive → Result Body FaultKind
 labelled_by b w rest (Some d) = Err (no_directive d rest)
-labelled_by b w rest None = if begins_with 46 w.0 then Err fault.UnknownDirective else listed b (instruction_at b.listing w rest)
+labelled_by b w rest None = if begins_with 46 w then Err fault.UnknownDirective else listed b (instruction_at b.listing w rest)
 
 -- what may stand behind a label on its line
 unfoldable pub labelled_at : Body → List Item → Result Body FaultKind
 labelled_at b [] = Ok b
-labelled_at b (t ∷ rest) = first_word fault.UnknownInstruction t >>= λ w. labelled_by b w rest (directive_at w.0)
+labelled_at b (t ∷ rest) = first_word fault.UnknownInstruction t >>= λ w. labelled_by b w rest (directive_at w)
 
-abbrev pub plain_by : Body → List ℕ × Bool → List Item → Option (List Item) → Result Body FaultKind
+abbrev pub plain_by : Body → List ℕ → List Item → Option (List Item) → Result Body FaultKind
 plain_by b w rest None = listed b (instruction_at b.listing w rest)
 plain_by b w rest (Some after) = label_at b w >>= λ c. labelled_at c after
 
-abbrev pub statement_by : Body → List ℕ × Bool → List Item → Option Switch → Result Body FaultKind
+abbrev pub statement_by : Body → List ℕ → List Item → Option Switch → Result Body FaultKind
 statement_by b w rest None = plain_by b w rest (behind_colon rest)
 statement_by b w rest (Some s) = listed b (switch_at (without_switch b.listing) s w rest)
 
 -- a line that begins with this word, which is no directive
-unfoldable pub statement_at : Body → List ℕ × Bool → List Item → Result Body FaultKind
+unfoldable pub statement_at : Body → List ℕ → List Item → Result Body FaultKind
 statement_at b w rest = statement_by b w rest b.listing.switch
 
 -- ---- limits and handler tables
@@ -89,16 +84,13 @@ limit_by b true is_locals rest = last_operand limit_in rest >>= λ n. Ok (record
 limit_by b false true rest = last_operand limit_in rest >>= λ n. Ok (record b { locals = n })
 limit_by b false false rest = Err fault.BadOperand
 
-abbrev pub limit_word : Body → List ℕ × Bool → List Item → Result Body FaultKind
-limit_word b w rest = limit_by b (bytes_eq w.0 (codes "stack") && not w.1) (bytes_eq w.0 (codes "locals") && not w.1) rest
-
 -- the limit of the stack, or of the locals
 abbrev pub with_limit : Body → Bool → ℕ → Body
 with_limit b true n = record b { stack = n }
 with_limit b false n = record b { locals = n }
 
 abbrev pub limit_from : Body → List Item → Result Body FaultKind
-limit_from b items = next_word items >>= λ w. limit_word b w.0 w.1
+limit_from b items = next_word items >>= λ w. limit_by b (bytes_eq w.0 (codes "stack")) (bytes_eq w.0 (codes "locals")) w.1
 
 -- behind .limit; the last limit counts
 unfoldable pub limit_at : Body → List Item → Result Body FaultKind

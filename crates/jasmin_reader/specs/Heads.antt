@@ -8,7 +8,7 @@ use Rattle.descriptors.specs.declared.field.FieldType.{FieldType}
 use Rattle.jasmin_words.specs.declared.fault.FaultKind.{FaultKind}
 use Rattle.jasmin_words.specs.declared.fault.FaultKind.TheVariants as fault
 use Rattle.sequence.specs.Gives.{◌>>=◌}
-use Rattle.jasmin_words.specs.Lexing.{Item, Word, LongWord, BadWord, Equals}
+use Rattle.jasmin_words.specs.Lexing.{Item, Word, BadWord, Equals}
 use Rattle.jasmin_text.specs.Spellable.{is_int_type, is_string_type}
 use Rattle.jasmin_text.specs.Tables.{access_of, member_access_of}
 use Rattle.jasmin_text.specs.Grammar.{no_access, with_word as more_access, is_taken_in}
@@ -66,7 +66,6 @@ with_word p words w = ok_or (head_word_at p w) fault.BadOperand >>= with_class_w
 
 abbrev pub is_word : Item → Bool
 is_word (Word w) = true
-is_word (LongWord w) = true
 is_word BadWord = true
 is_word other = false
 
@@ -97,10 +96,10 @@ is_before_name place.Field items = begins_with_part items && begins_with_part (b
 is_before_name other items = has_word items
 
 -- the access words, the word in the name's place, and what follows it
-unfoldable pub named_from : Place → HeadWords → List Item → Result (HeadWords × ((List ℕ × Bool) × List Item)) FaultKind
+unfoldable pub named_from : Place → HeadWords → List Item → Result (HeadWords × (List ℕ × List Item)) FaultKind
 named_from p words [] = Err fault.BadOperand
 named_from p words (t ∷ rest) = word_of t >>= λ w.
-    if is_before_name p rest then (with_word p words w.0 >>= λ more. within_limit w.1 >>= λ _. named_from p more rest)
+    if is_before_name p rest then (with_word p words w >>= λ more. within_limit w >>= λ _. named_from p more rest)
     else Ok (words, (w, rest))
 
 abbrev pub no_access_by : Option ClassWord → Result (Unit {0}) FaultKind
@@ -121,7 +120,7 @@ kind_at other = Class
 -- behind .class or .interface
 unfoldable pub class_from : Place → List Item → Result (HeadWords × List ℕ) FaultKind
 class_from p items = named_from p (start (kind_at p)) items >>= λ n.
-    no_access_in p n.1.0.0 >>= λ _. class_name_in n.1.0.0 >>= λ name. within_limit n.1.0.1 >>= λ _. ended_at n.1.1 >>= λ _. Ok (n.0, name)
+    no_access_in p n.1.0 >>= λ _. class_name_in n.1.0 >>= λ name. within_limit n.1.0 >>= λ _. ended_at n.1.1 >>= λ _. Ok (n.0, name)
 
 -- ---- fields
 
@@ -157,7 +156,7 @@ field_named a name items = described_from items >>= λ t. value_from t.0 t.1 >>=
 -- behind .field
 unfoldable pub field_from : List Item → Result Field FaultKind
 field_from items = named_from place.Field (start Class) items >>= λ n.
-    no_access_in place.Field n.1.0.0 >>= λ _. member_name_in n.1.0.0 >>= λ name. within_limit n.1.0.1 >>= λ _.
+    no_access_in place.Field n.1.0 >>= λ _. member_name_in n.1.0 >>= λ name. within_limit n.1.0 >>= λ _.
     field_named n.0.access name n.1.1
 
 -- ---- methods
@@ -170,13 +169,13 @@ abbrev pub fits_initializer : Access → List ℕ × Signature → Result (Unit 
 fits_initializer a m = if bytes_eq m.0 (codes "<clinit>") && not (may_initialize a m.1) then Err fault.BadInitializer else Ok tt
 
 -- the method with this name and type, at the line's end
-abbrev pub method_there : Access → List ℕ × Signature → Bool → List Item → Result (Access × (List ℕ × Signature)) FaultKind
-method_there a m is_long rest = within_limit is_long >>= λ _. fits_initializer a m >>= λ _. ended_at rest >>= λ _. Ok (a, m)
+abbrev pub method_there : Access → List ℕ × Signature → List ℕ → List Item → Result (Access × (List ℕ × Signature)) FaultKind
+method_there a m w rest = within_limit w >>= λ _. fits_initializer a m >>= λ _. ended_at rest >>= λ _. Ok (a, m)
 
 -- the method with these access words, by the word in the name's place and what follows it
-abbrev pub method_named : Access → (List ℕ × Bool) × List Item → Result (Access × (List ℕ × Signature)) FaultKind
-method_named a n = typed_in member_name_in n.0.0 >>= λ m. method_there a m n.0.1 n.1
+abbrev pub method_named : Access → List ℕ × List Item → Result (Access × (List ℕ × Signature)) FaultKind
+method_named a n = typed_in member_name_in n.0 >>= λ m. method_there a m n.0 n.1
 
 -- behind .method: the access words, the name and the type
 unfoldable pub method_from : List Item → Result (Access × (List ℕ × Signature)) FaultKind
-method_from items = named_from place.Method (start Class) items >>= λ n. no_access_in place.Method n.1.0.0 >>= λ _. method_named n.0.access n.1
+method_from items = named_from place.Method (start Class) items >>= λ n. no_access_in place.Method n.1.0 >>= λ _. method_named n.0.access n.1

@@ -1,5 +1,5 @@
 -- The instructions of a method, as far as they are read.
-use Rattle.std.specs.Prelude.{ℕ, ◌+◌, ◌-◌, ◌≤◌, Bool, not, ◌&&◌, List, [], ◌∷◌, ◌++◌, length, Option, Some, None, is_some, Result, Ok, Err, ◌==◌, if◌then◌else◌, ℤ, codes}
+use Rattle.std.specs.Prelude.{ℕ, ◌+◌, ◌-◌, ◌≤◌, Bool, List, [], ◌∷◌, ◌++◌, length, Option, Some, None, is_some, Result, Ok, Err, ◌==◌, if◌then◌else◌, ℤ, codes}
 use Rattle.std.specs.BTreeMap.{insert_entry, is_at}
 use Rattle.std.specs.Map.{lookup}
 use Rattle.std.specs.Ordering.{int_cmp}
@@ -58,13 +58,13 @@ with_begun l (begun.Opens s) = with_switch l s
 abbrev pub unknown_word : List ℕ → FaultKind
 unknown_word w = if is_left_out w then fault.LeftOut else fault.UnknownInstruction
 
-abbrev pub instruction_by : Listing → List ℕ × Bool → List Item → Option Form → Result Listing FaultKind
-instruction_by l w rest None = Err (unknown_word w.0)
-instruction_by l w rest (Some f) = within_limit w.1 >>= λ _. has_room l.room >>= λ _. begun_at f rest >>= λ x. Ok (with_begun l x)
+abbrev pub instruction_by : Listing → List ℕ → List Item → Option Form → Result Listing FaultKind
+instruction_by l w rest None = Err (unknown_word w)
+instruction_by l w rest (Some f) = within_limit w >>= λ _. has_room l.room >>= λ _. begun_at f rest >>= λ x. Ok (with_begun l x)
 
 -- a line that begins with this word, outside of a switch
-unfoldable pub instruction_at : Listing → List ℕ × Bool → List Item → Result Listing FaultKind
-instruction_at l w rest = instruction_by l w rest (form_at w.0)
+unfoldable pub instruction_at : Listing → List ℕ → List Item → Result Listing FaultKind
+instruction_at l w rest = instruction_by l w rest (form_at w)
 
 -- ---- switches
 
@@ -80,8 +80,8 @@ colon_from [] = Err fault.BadOperand
 colon_from (Colon ∷ rest) = Ok rest
 colon_from (other ∷ rest) = Err (misplaced other)
 
-abbrev pub is_default : List ℕ × Bool → Bool
-is_default w = bytes_eq w.0 (codes "default") && not w.1
+abbrev pub is_default : List ℕ → Bool
+is_default w = bytes_eq w (codes "default")
 
 -- where a last key is given, each key has one label
 abbrev pub less_room : Option ℕ → Result (Option ℕ) FaultKind
@@ -96,15 +96,15 @@ abbrev pub with_target : Table → Option ℕ → List ℕ → Switch
 with_target t room label = switch.Table (record { low = t.low; room = room; labels = t.labels ++ label ∷ [] })
 
 -- one label of a tableswitch
-unfoldable pub target_at : Listing → Table → List ℕ × Bool → List Item → Result Listing FaultKind
-target_at l t w rest = label_in w.0 >>= λ label. less_room t.room >>= λ room. within_limit w.1 >>= λ _. has_room l.room >>= λ _. ended_at rest >>= λ _.
+unfoldable pub target_at : Listing → Table → List ℕ → List Item → Result Listing FaultKind
+target_at l t w rest = label_in w >>= λ label. less_room t.room >>= λ room. within_limit w >>= λ _. has_room l.room >>= λ _. ended_at rest >>= λ _.
     Ok (with_switch l (with_target t room label))
 
 -- the last line of a tableswitch, behind default and its colon
 unfoldable pub table_end : Listing → Table → List Item → Result Listing FaultKind
 table_end l t rest = is_full t.room >>= λ _. last_operand label_in rest >>= λ label. Ok (with_instruction l (instruction.TableSwitch t.low t.labels label) l.room)
 
-abbrev pub table_by : Listing → Table → List ℕ × Bool → List Item → Option (List Item) → Result Listing FaultKind
+abbrev pub table_by : Listing → Table → List ℕ → List Item → Option (List Item) → Result Listing FaultKind
 table_by l t w rest None = target_at l t w rest
 table_by l t w rest (Some after) = if is_default w then table_end l t after else target_at l t w rest
 
@@ -127,12 +127,12 @@ abbrev pub key_in : Cases → List ℕ → Result ℤ FaultKind
 key_in cases w = integer_in w >>= λ key. new_key (is_some (case_of cases key)) >>= λ _. Ok key
 
 -- a new key, a colon, and its label; the keys may stand in any order
-unfoldable pub case_from : ℕ → Cases → List ℕ × Bool → List Item → Result (ℤ × List ℕ) FaultKind
-case_from room cases w rest = key_in cases w.0 >>= λ key. within_limit w.1 >>= λ _. has_room room >>= λ _.
+unfoldable pub case_from : ℕ → Cases → List ℕ → List Item → Result (ℤ × List ℕ) FaultKind
+case_from room cases w rest = key_in cases w >>= λ key. within_limit w >>= λ _. has_room room >>= λ _.
     colon_from rest >>= λ after. last_operand label_in after >>= λ label. Ok (key, label)
 
 -- one key of a lookupswitch
-unfoldable pub case_at : Listing → Cases → List ℕ × Bool → List Item → Result Listing FaultKind
+unfoldable pub case_at : Listing → Cases → List ℕ → List Item → Result Listing FaultKind
 case_at l cases w rest = case_from l.room cases w rest >>= λ c. Ok (with_switch l (switch.Lookup (with_key cases c.0 c.1)))
 
 -- the last line of a lookupswitch, behind default
@@ -140,6 +140,6 @@ unfoldable pub lookup_end : Listing → Cases → List Item → Result Listing F
 lookup_end l cases rest = colon_from rest >>= λ after. last_operand label_in after >>= λ label. Ok (with_instruction l (instruction.LookupSwitch cases label) l.room)
 
 -- a line in a switch that begins with this word; in a tableswitch default may be a label
-unfoldable pub switch_at : Listing → Switch → List ℕ × Bool → List Item → Result Listing FaultKind
+unfoldable pub switch_at : Listing → Switch → List ℕ → List Item → Result Listing FaultKind
 switch_at l (switch.Table t) w rest = table_by l t w rest (behind_colon rest)
 switch_at l (switch.Lookup cases) w rest = if is_default w then lookup_end l cases rest else case_at l cases w rest

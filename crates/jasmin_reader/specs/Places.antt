@@ -1,12 +1,12 @@
 -- The places of a line: what may stand there, and which fault is met where something else does.
-use Rattle.std.specs.Prelude.{◌≡◌, ℕ, Bool, true, false, List, [], ◌∷◌, Result, Ok, Err, if◌then◌else◌, nat_le}
+use Rattle.std.specs.Prelude.{◌≡◌, ℕ, List, [], ◌∷◌, Result, Ok, Err, if◌then◌else◌, nat_le}
 use Rattle.jasmin_words.specs.declared.fault.FaultKind.{FaultKind}
 use Rattle.jasmin_words.specs.declared.fault.FaultKind.TheVariants as fault
 use Rattle.sequence.specs.declared.refusal.Refusal.{Refusal}
 use Rattle.sequence.specs.declared.refusal.Refusal.TheVariants as refusal
 use Rattle.jasmin_words.specs.Fault.{number_of}
 use Rattle.sequence.specs.Gives.{◌>>=◌}
-use Rattle.jasmin_words.specs.Lexing.{Item, Word, LongWord, BadWord, Text, BadText}
+use Rattle.jasmin_words.specs.Lexing.{Item, Word, BadWord, Text, BadText, fits}
 
 -- the fault of what may not stand in its place; other, where it has none of its own
 abbrev pub fault_in : FaultKind → Item → FaultKind
@@ -17,28 +17,26 @@ fault_in other _ = other
 abbrev pub misplaced : Item → FaultKind
 misplaced t = fault_in fault.BadOperand t
 
--- the bytes of a word, and whether they are too many; other is the fault where no word stands
-abbrev pub first_word : FaultKind → Item → Result (List ℕ × Bool) FaultKind
-first_word other (Word w) = Ok (w, false)
-first_word other (LongWord w) = Ok (w, true)
+-- the bytes of a word; other is the fault where no word stands
+abbrev pub first_word : FaultKind → Item → Result (List ℕ) FaultKind
+first_word other (Word w) = Ok w
 first_word other t = Err (fault_in other t)
 
-abbrev pub word_of : Item → Result (List ℕ × Bool) FaultKind
+abbrev pub word_of : Item → Result (List ℕ) FaultKind
 word_of t = first_word fault.BadOperand t
 
 -- a word's length is looked at where nothing lower is wrong with it
-abbrev pub within_limit : Bool → Result (Unit {0}) FaultKind
-within_limit true = Err fault.LimitExceeded
-within_limit false = Ok tt
+abbrev pub within_limit : List ℕ → Result (Unit {0}) FaultKind
+within_limit w = if fits w then Ok tt else Err fault.LimitExceeded
 
 -- the next word, and what follows it; at the line's end an operand is missing
-abbrev pub next_word : List Item → Result ((List ℕ × Bool) × List Item) FaultKind
+abbrev pub next_word : List Item → Result (List ℕ × List Item) FaultKind
 next_word [] = Err fault.BadOperand
 next_word (t ∷ rest) = word_of t >>= λ w. Ok (w, rest)
 
 -- an operand that is one word: what it stands for, and what follows it
 abbrev pub operand : {A : Type 0} → (List ℕ → Result A FaultKind) → List Item → Result (A × List Item) FaultKind
-operand read items = next_word items >>= λ w. read w.0.0 >>= λ x. within_limit w.0.1 >>= λ _. Ok (x, w.1)
+operand read items = next_word items >>= λ w. read w.0 >>= λ x. within_limit w.0 >>= λ _. Ok (x, w.1)
 
 -- the characters of a string, and what follows it
 abbrev pub string_from : List Item → Result (List ℕ × List Item) FaultKind

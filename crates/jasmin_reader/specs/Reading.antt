@@ -15,7 +15,7 @@ use Rattle.jasmin_reader.specs.declared.head.Place.{Place}
 use Rattle.jasmin_reader.specs.declared.head.Place.TheVariants as place
 use Rattle.jasmin_reader.specs.declared.body.Body.{Body}
 use Rattle.jasmin_reader.specs.declared.reader.Reader.{Reader}
-use Rattle.jasmin_reader.specs.Places.{within_limit, ended_at, first_word}
+use Rattle.jasmin_reader.specs.Places.{ended_at, first_word}
 use Rattle.jasmin_reader.specs.Operands.{class_name_in, last_operand, begins_with}
 use Rattle.jasmin_reader.specs.Heads.{class_from, field_from, method_from}
 use Rattle.jasmin_reader.specs.Listing.{empty_listing, behind_colon, unknown_word}
@@ -109,13 +109,13 @@ stray_by w (Some after) form = if is_label w then fault.Misplaced else fault.Unk
 stray_by w None (Some f) = fault.Misplaced
 stray_by w None None = unknown_word w
 
-abbrev pub statement_line : Reader → List ℕ × Bool → List Item → Option Body → Result Reader FaultKind
-statement_line r w rest None = Err (stray_by w.0 (behind_colon rest) (form_at w.0))
+abbrev pub statement_line : Reader → List ℕ → List Item → Option Body → Result Reader FaultKind
+statement_line r w rest None = Err (stray_by w (behind_colon rest) (form_at w))
 statement_line r w rest (Some b) = statement_at b w rest >>= λ c. Ok (record r { body = Some c })
 
-abbrev pub line_by : Reader → List ℕ × Bool → List Item → Option Directive → Result Reader FaultKind
-line_by r w rest (Some d) = within_limit w.1 >>= λ _. directive_line r d rest
-line_by r w rest None = if begins_with 46 w.0 then Err fault.UnknownDirective else statement_line r w rest r.body
+abbrev pub line_by : Reader → List ℕ → List Item → Option Directive → Result Reader FaultKind
+line_by r w rest (Some d) = directive_line r d rest
+line_by r w rest None = if begins_with 46 w then Err fault.UnknownDirective else statement_line r w rest r.body
 
 abbrev pub is_in_switch : Option Body → Bool
 is_in_switch None = false
@@ -128,4 +128,4 @@ no_word body = if is_in_switch body then fault.BadOperand else fault.UnknownInst
 -- what a line adds
 unfoldable pub line_at : Reader → List Item → Result Reader FaultKind
 line_at r [] = Ok r
-line_at r (t ∷ rest) = first_word (no_word r.body) t >>= λ w. line_by r w rest (directive_at w.0)
+line_at r (t ∷ rest) = first_word (no_word r.body) t >>= λ w. line_by r w rest (directive_at w)

@@ -55,11 +55,9 @@ pub(crate) fn behind_end<'a, 't>(tokens: &'t [Token<'a>]) -> Result<&'t [Token<'
     match tokens {
         [] => Err(bad_operand()),
         [token, rest @ ..] => {
-            let (word, is_long) = first(FaultKind::LeftOut, token)?;
-            if !same(word, b"method") {
+            if !same(first(FaultKind::LeftOut, token)?, b"method") {
                 return Err(Refusal::Fault(FaultKind::LeftOut));
             }
-            within(is_long)?;
             Ok(rest)
         }
     }
@@ -101,11 +99,11 @@ fn label_after<'a, 't>(
 ) -> Result<(Text, &'t [Token<'a>]), LineError>
     ensures { Gives (λ x. (x.0, views x.1.now)) result (label_behind keyword.now (views tokens.now)) }
 {
-    let ((word, is_long), rest) = next(tokens)?;
+    let (word, rest) = next(tokens)?;
     if !same(word, keyword) {
         return Err(bad_operand());
     }
-    within(is_long)?;
+    within(word)?;
     operand::<Text>(alloc, rest)
 }
 
@@ -139,9 +137,9 @@ fn handler_row(alloc: Global, tokens: &[Token<'_>]) -> Result<Catch, LineError>
 fn last_limit(tokens: &[Token<'_>]) -> Result<u16, LineError>
     ensures { Gives (λ x. x) result (last_operand_of limit_in (views tokens.now)) }
 {
-    let ((word, is_long), rest) = next(tokens)?;
+    let (word, rest) = next(tokens)?;
     let count = limit(word)?;
-    within(is_long)?;
+    within(word)?;
     ended(rest)?;
     Ok(count)
 }
@@ -150,10 +148,10 @@ fn last_limit(tokens: &[Token<'_>]) -> Result<u16, LineError>
 fn limit_behind(tokens: &[Token<'_>]) -> Result<(bool, u16), LineError>
     ensures { (b : Body) → Gives (λ x. with_limit b x.0 x.1) result (limit_from b (views tokens.now)) }
 {
-    let ((word, is_long), rest) = next(tokens)?;
-    if same(word, b"stack") && !is_long {
+    let (word, rest) = next(tokens)?;
+    if same(word, b"stack") {
         Ok((true, last_limit(rest)?))
-    } else if same(word, b"locals") && !is_long {
+    } else if same(word, b"locals") {
         Ok((false, last_limit(rest)?))
     } else {
         Err(bad_operand())
@@ -180,9 +178,9 @@ impl Body {
 
     /// A label before the next instruction.
     #[tactic(auto, unfolding(crate::specs::Bodies::label_at))]
-    fn label(&mut self, alloc: Global, word: &[u8], is_long: bool) -> Result<(), LineError>
+    fn label(&mut self, alloc: Global, word: &[u8]) -> Result<(), LineError>
         ensures listing { self.new.listing ≡ self.old.listing }
-        ensures gives { Gives (λ _. self.new) result (label_at self.old (word.now, is_long)) }
+        ensures gives { Gives (λ _. self.new) result (label_at self.old word.now) }
     {
         if !is_label(word) {
             return Err(Refusal::Fault(FaultKind::UnknownInstruction));
@@ -190,7 +188,7 @@ impl Body {
         if self.labels.place(word).is_some() {
             return Err(Refusal::Fault(FaultKind::RepeatedLabel));
         }
-        within(is_long)?;
+        within(word)?;
         let place = self.listing.place();
         self.labels.add(alloc, word, place)?;
         Ok(())
@@ -205,14 +203,14 @@ impl Body {
         match tokens {
             [] => Ok(()),
             [token, rest @ ..] => {
-                let (word, is_long) = first(FaultKind::UnknownInstruction, token)?;
+                let word = first(FaultKind::UnknownInstruction, token)?;
                 match directive_of(word) {
                     Some(directive) => Err(stray(directive, rest)),
                     None => {
                         if begins(b'.', word) {
                             return Err(Refusal::Fault(FaultKind::UnknownDirective));
                         }
-                        self.listing.instruction(alloc, word, is_long, rest)
+                        self.listing.instruction(alloc, word, rest)
                     }
                 }
             }
@@ -220,22 +218,16 @@ impl Body {
     }
 
     /// A line outside of a switch that begins with this word.
-    fn plain(
-        &mut self,
-        alloc: Global,
-        word: &[u8],
-        is_long: bool,
-        rest: &[Token<'_>],
-    ) -> Result<(), LineError>
+    fn plain(&mut self, alloc: Global, word: &[u8], rest: &[Token<'_>]) -> Result<(), LineError>
         requires closed { self.old.listing.switch ≡ None }
-        ensures { Gives (λ _. self.new) result (plain_by self.old (word.now, is_long) (views rest.now) (behind_colon_of (views rest.now))) }
+        ensures { Gives (λ _. self.new) result (plain_by self.old word.now (views rest.now) (behind_colon_of (views rest.now))) }
     {
         match behind_colon(rest) {
             Some(after) => {
-                self.label(alloc, word, is_long)?;
+                self.label(alloc, word)?;
                 self.labelled(alloc, after)
             }
-            None => self.listing.instruction(alloc, word, is_long, rest),
+            None => self.listing.instruction(alloc, word, rest),
         }
     }
 
@@ -244,14 +236,13 @@ impl Body {
         &mut self,
         alloc: Global,
         word: &[u8],
-        is_long: bool,
         rest: &[Token<'_>],
     ) -> Result<(), LineError>
         requires open { is_some self.old.listing.switch ≡ true }
-        ensures { Gives (λ _. self.new) result (statement_by self.old (word.now, is_long) (views rest.now) self.old.listing.switch) }
+        ensures { Gives (λ _. self.new) result (statement_by self.old word.now (views rest.now) self.old.listing.switch) }
     {
         match self.listing.take_switch() {
-            Some(switch) => self.listing.switch_line(alloc, switch, word, is_long, rest),
+            Some(switch) => self.listing.switch_line(alloc, switch, word, rest),
             None => unreachable!(),
         }
     }
@@ -262,15 +253,14 @@ impl Body {
         &mut self,
         alloc: Global,
         word: &[u8],
-        is_long: bool,
         rest: &[Token<'_>],
     ) -> Result<(), LineError>
-        ensures { Gives (λ _. self.new) result (statement_at self.old (word.now, is_long) (views rest.now)) }
+        ensures { Gives (λ _. self.new) result (statement_at self.old word.now (views rest.now)) }
     {
         if self.is_in_switch() {
-            self.switch_line(alloc, word, is_long, rest)
+            self.switch_line(alloc, word, rest)
         } else {
-            self.plain(alloc, word, is_long, rest)
+            self.plain(alloc, word, rest)
         }
     }
 

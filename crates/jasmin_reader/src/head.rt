@@ -5,7 +5,7 @@ ghost use Rattle.sequence.specs.Gives.{Gives};
 ghost use Rattle.jasmin_words.specs.Lexing.{view, views};
 ghost use Rattle.jasmin_reader.specs.Heads.{start, with_access, fits_place, head_word_at, with_class_word, with_word, is_word, has_word, begins_with_word, is_signature, begins_with_part, behind, is_before_name, named_from, no_access_by, no_access_in, class_from};
 
-use crate::place::{FromWord, LineError, PlacedWord, bad_operand, ended, placed_word, within};
+use crate::place::{FromWord, LineError, bad_operand, ended, placed_word, within};
 use crate::table::{ClassWord, class_word_of};
 use descriptors::ClassName;
 use jasmin_text::table::{AccessWord, access_of, member_access_of};
@@ -121,7 +121,7 @@ fn is_a_word(token: &Token<'_>) -> bool
     ensures { result ≡ is_word (view token.now) }
 {
     match token {
-        Token::Word(_) | Token::LongWord(_) | Token::BadWord => true,
+        Token::Word(_) | Token::BadWord => true,
         _ => false,
     }
 }
@@ -191,7 +191,7 @@ fn name_follows(place: Place, tokens: &[Token<'_>]) -> bool
 #[derive(Drop)]
 pub(crate) struct Named<'a, 't> {
     pub words: HeadWords,
-    pub name: PlacedWord<'a>,
+    pub name: &'a [u8],
     pub rest: &'t [Token<'a>],
 }
 
@@ -202,7 +202,7 @@ pub(crate) fn read_name<'a, 't>(
     words: HeadWords,
     tokens: &'t [Token<'a>],
 ) -> Result<Named<'a, 't>, LineError>
-    ensures { Gives (λ x. (x.words, ((x.name.0.now, x.name.1), views x.rest.now))) result (named_from place words (views tokens.now)) }
+    ensures { Gives (λ x. (x.words, (x.name.now, views x.rest.now))) result (named_from place words (views tokens.now)) }
 {
     let mut words = words;
     let mut rest = tokens;
@@ -215,8 +215,8 @@ pub(crate) fn read_name<'a, 't>(
                 rest: after,
             });
         }
-        words = add_word(place, words, name.0)?;
-        within(name.1)?;
+        words = add_word(place, words, name)?;
+        within(name)?;
         rest = after;
     }
     Err(bad_operand())
@@ -248,9 +248,9 @@ pub(crate) fn class_head(
         _ => ClassKind::Class,
     };
     let named = read_name(place, no_words(kind), tokens)?;
-    no_access_word(place, named.name.0)?;
-    let name = ClassName::from_word(alloc, named.name.0)?;
-    within(named.name.1)?;
+    no_access_word(place, named.name)?;
+    let name = ClassName::from_word(alloc, named.name)?;
+    within(named.name)?;
     ended(named.rest)?;
     Ok((named.words, name))
 }

@@ -77,10 +77,10 @@ fn colon<'a, 't>(tokens: &'t [Token<'a>]) -> Result<&'t [Token<'a>], LineError>
     }
 }
 
-fn is_default_word(word: &[u8], is_long: bool) -> bool
-    ensures { result ≡ is_default (word.now, is_long) }
+fn is_default_word(word: &[u8]) -> bool
+    ensures { result ≡ is_default word.now }
 {
-    same(word, b"default") && !is_long
+    same(word, b"default")
 }
 
 /// How many labels a `tableswitch` may have after one more.
@@ -177,16 +177,15 @@ impl Listing {
         &mut self,
         alloc: Global,
         word: &[u8],
-        is_long: bool,
         rest: &[Token<'_>],
     ) -> Result<(), LineError>
         requires closed { self.old.switch ≡ None }
-        ensures { Gives (λ _. self.new) result (instruction_at self.old (word.now, is_long) (views rest.now)) }
+        ensures { Gives (λ _. self.new) result (instruction_at self.old word.now (views rest.now)) }
     {
         let Some(form) = form_of(word) else {
             return Err(Refusal::Fault(unknown_word(word)));
         };
-        within(is_long)?;
+        within(word)?;
         self.room()?;
         let begun = begin(alloc, form, rest)?;
         self.add(begun)?;
@@ -229,15 +228,14 @@ impl Listing {
         alloc: Global,
         table: &Table,
         word: &[u8],
-        is_long: bool,
         rest: &[Token<'_>],
     ) -> Result<(Text, Option<u64>), LineError>
         ensures room { OnOk result (0 < self.now.room) }
-        ensures gives { Gives (λ x. with_switch self.now (with_target table.now x.1 x.0)) result (target_at self.now table.now (word.now, is_long) (views rest.now)) }
+        ensures gives { Gives (λ x. with_switch self.now (with_target table.now x.1 x.0)) result (target_at self.now table.now word.now (views rest.now)) }
     {
         let label = Text::from_word(alloc, word)?;
         let room = one_less(table.room)?;
-        within(is_long)?;
+        within(word)?;
         self.room()?;
         ended(rest)?;
         Ok((label, room))
@@ -249,13 +247,12 @@ impl Listing {
         alloc: Global,
         table: Table,
         word: &[u8],
-        is_long: bool,
         rest: &[Token<'_>],
     ) -> Result<(), LineError>
         requires spare { length self.old.instructions + 1 + self.old.room ≤ 16384 }
-        ensures { Gives (λ _. self.new) result (target_at self.old table (word.now, is_long) (views rest.now)) }
+        ensures { Gives (λ _. self.new) result (target_at self.old table word.now (views rest.now)) }
     {
-        let (label, room) = self.next_target(alloc, &table, word, is_long, rest)?;
+        let (label, room) = self.next_target(alloc, &table, word, rest)?;
         let Table {
             low,
             mut labels,
@@ -291,15 +288,14 @@ impl Listing {
         alloc: Global,
         table: Table,
         word: &[u8],
-        is_long: bool,
         rest: &[Token<'_>],
     ) -> Result<(), LineError>
         requires spare { length self.old.instructions + 1 + self.old.room ≤ 16384 }
-        ensures { Gives (λ _. self.new) result (table_by self.old table (word.now, is_long) (views rest.now) (behind_colon_of (views rest.now))) }
+        ensures { Gives (λ _. self.new) result (table_by self.old table word.now (views rest.now) (behind_colon_of (views rest.now))) }
     {
         match behind_colon(rest) {
-            Some(after) if is_default_word(word, is_long) => self.end_table(alloc, table, after),
-            _ => self.target(alloc, table, word, is_long, rest),
+            Some(after) if is_default_word(word) => self.end_table(alloc, table, after),
+            _ => self.target(alloc, table, word, rest),
         }
     }
 
@@ -310,13 +306,12 @@ impl Listing {
         alloc: Global,
         cases: &Cases,
         word: &[u8],
-        is_long: bool,
         rest: &[Token<'_>],
     ) -> Result<(i32, Text), LineError>
-        ensures { Gives (λ x. x) result (case_from self.now.room cases.now (word.now, is_long) (views rest.now)) }
+        ensures { Gives (λ x. x) result (case_from self.now.room cases.now word.now (views rest.now)) }
     {
         let key = new_key(cases, word)?;
-        within(is_long)?;
+        within(word)?;
         self.room()?;
         let after = colon(rest)?;
         let label = last_operand::<Text>(alloc, after)?;
@@ -330,14 +325,13 @@ impl Listing {
         alloc: Global,
         cases: Cases,
         word: &[u8],
-        is_long: bool,
         rest: &[Token<'_>],
     ) -> Result<(), LineError>
         requires spare { length self.old.instructions + 1 + self.old.room ≤ 16384 }
-        ensures { Gives (λ _. self.new) result (case_at self.old cases (word.now, is_long) (views rest.now)) }
+        ensures { Gives (λ _. self.new) result (case_at self.old cases word.now (views rest.now)) }
     {
         let mut cases = cases;
-        match self.next_case(alloc, &cases, word, is_long, rest) {
+        match self.next_case(alloc, &cases, word, rest) {
             Ok((key, label)) => {
                 cases.add(key, label)?;
                 self.open(Switch::Lookup(cases));
@@ -372,19 +366,18 @@ impl Listing {
         alloc: Global,
         switch: Switch,
         word: &[u8],
-        is_long: bool,
         rest: &[Token<'_>],
     ) -> Result<(), LineError>
         requires spare { length self.old.instructions + 1 + self.old.room ≤ 16384 }
-        ensures { Gives (λ _. self.new) result (switch_at self.old switch (word.now, is_long) (views rest.now)) }
+        ensures { Gives (λ _. self.new) result (switch_at self.old switch word.now (views rest.now)) }
     {
         match switch {
-            Switch::Table(table) => self.table_line(alloc, table, word, is_long, rest),
+            Switch::Table(table) => self.table_line(alloc, table, word, rest),
             Switch::Lookup(cases) => {
-                if is_default_word(word, is_long) {
+                if is_default_word(word) {
                     self.end_lookup(alloc, cases, rest)
                 } else {
-                    self.case(alloc, cases, word, is_long, rest)
+                    self.case(alloc, cases, word, rest)
                 }
             }
         }

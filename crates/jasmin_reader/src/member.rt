@@ -154,9 +154,9 @@ pub(crate) fn field(alloc: Global, tokens: &[Token<'_>]) -> Result<Field, LineEr
     ensures { Gives (λ x. x) result (field_from (views tokens.now)) }
 {
     let named = read_name(Place::Field, no_words(ClassKind::Class), tokens)?;
-    no_access_word(Place::Field, named.name.0)?;
-    let name = MemberName::from_word(alloc, named.name.0)?;
-    within(named.name.1)?;
+    no_access_word(Place::Field, named.name)?;
+    let name = MemberName::from_word(alloc, named.name)?;
+    within(named.name)?;
     field_behind(alloc, named.words.access, name, named.rest)
 }
 
@@ -189,10 +189,10 @@ pub(crate) struct MethodHead {
 }
 
 /// Whether the head may stand so: its word isn't too long, an initializer is one, and nothing follows.
-fn may_stand(head: &MethodHead, is_long: bool, rest: &[Token<'_>]) -> Result<(), LineError>
-    ensures { Gives (λ _. (head.now.access, (head.now.name, head.now.method_type))) result (method_there head.now.access (head.now.name, head.now.method_type) is_long (views rest.now)) }
+fn may_stand(head: &MethodHead, word: &[u8], rest: &[Token<'_>]) -> Result<(), LineError>
+    ensures { Gives (λ _. (head.now.access, (head.now.name, head.now.method_type))) result (method_there head.now.access (head.now.name, head.now.method_type) word.now (views rest.now)) }
 {
-    within(is_long)?;
+    within(word)?;
     fit_initializer(head.access, &head.name, &head.method_type)?;
     ended(rest)
 }
@@ -202,10 +202,9 @@ fn method_behind(
     alloc: Global,
     access: Access,
     word: &[u8],
-    is_long: bool,
     rest: &[Token<'_>],
 ) -> Result<MethodHead, LineError>
-    ensures { Gives (λ x. (x.access, (x.name, x.method_type))) result (method_named access ((word.now, is_long), views rest.now)) }
+    ensures { Gives (λ x. (x.access, (x.name, x.method_type))) result (method_named access (word.now, views rest.now)) }
 {
     let (name, method_type) = typed::<MemberName>(alloc, word)?;
     let head = MethodHead {
@@ -213,7 +212,7 @@ fn method_behind(
         name,
         method_type,
     };
-    may_stand(&head, is_long, rest)?;
+    may_stand(&head, word, rest)?;
     Ok(head)
 }
 
@@ -223,12 +222,6 @@ pub(crate) fn method_head(alloc: Global, tokens: &[Token<'_>]) -> Result<MethodH
     ensures { Gives (λ x. (x.access, (x.name, x.method_type))) result (method_from (views tokens.now)) }
 {
     let named = read_name(Place::Method, no_words(ClassKind::Class), tokens)?;
-    no_access_word(Place::Method, named.name.0)?;
-    method_behind(
-        alloc,
-        named.words.access,
-        named.name.0,
-        named.name.1,
-        named.rest,
-    )
+    no_access_word(Place::Method, named.name)?;
+    method_behind(alloc, named.words.access, named.name, named.rest)
 }

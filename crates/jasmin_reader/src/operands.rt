@@ -88,9 +88,9 @@ fn room(low: i32, tokens: &[Token<'_>]) -> Result<Option<u64>, LineError>
     if tokens.is_empty() {
         return Ok(None);
     }
-    let ((word, is_long), rest) = next(tokens)?;
+    let (word, rest) = next(tokens)?;
     let room = labels_up_to(low, word)?;
-    within(is_long)?;
+    within(word)?;
     ended(rest)?;
     Ok(Some(room))
 }

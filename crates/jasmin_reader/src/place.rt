@@ -9,15 +9,13 @@ ghost use Rattle.jasmin_words.specs.Lexing.{view, views};
 ghost use Rattle.jasmin_reader.specs.Places.{misplaced, word_of, within_limit, next_word, operand as operand_of, string_from, ended_at, first_word, lowest as lowest_of};
 ghost use Rattle.jasmin_reader.specs.Operands.{last_operand as last_operand_of};
 
+use jasmin_words::token::MOST_BYTES;
 use jasmin_words::{FaultKind, Token};
 use sequence::Refusal;
 use std::alloc::Global;
 
 /// Why a line is refused.
 pub(crate) type LineError = Refusal<FaultKind>;
-
-/// The bytes of a word, and whether they are too many.
-pub(crate) type PlacedWord<'a> = (&'a [u8], bool);
 
 /// An operand that is missing, superfluous or not of its form.
 pub(crate) fn bad_operand() -> LineError
@@ -37,32 +35,30 @@ pub(crate) fn fault_at(token: &Token<'_>) -> FaultKind
 }
 
 /// A word in a place where one is wanted.
-pub(crate) fn placed_word<'a>(token: &Token<'a>) -> Result<PlacedWord<'a>, LineError>
-    ensures { Gives (λ x. (x.0.now, x.1)) result (word_of (view token.now)) }
+pub(crate) fn placed_word<'a>(token: &Token<'a>) -> Result<&'a [u8], LineError>
+    ensures { Gives (λ x. x.now) result (word_of (view token.now)) }
 {
     match token {
-        Token::Word(word) => Ok((*word, false)),
-        Token::LongWord(word) => Ok((*word, true)),
+        Token::Word(word) => Ok(*word),
         _ => Err(Refusal::Fault(fault_at(token))),
     }
 }
 
 /// A word's length, which is looked at where nothing lower is wrong with it.
-pub(crate) fn within(is_long: bool) -> Result<(), LineError>
-    ensures { Gives (λ x. x) result (within_limit is_long) }
+pub(crate) fn within(word: &[u8]) -> Result<(), LineError>
+    ensures { Gives (λ x. x) result (within_limit word.now) }
 {
-    if is_long {
-        Err(Refusal::Fault(FaultKind::LimitExceeded))
-    } else {
-        Ok(())
+    if word.len() > MOST_BYTES {
+        return Err(Refusal::Fault(FaultKind::LimitExceeded));
     }
+    Ok(())
 }
 
 /// The next word, and what follows it.
 pub(crate) fn next<'a, 't>(
     tokens: &'t [Token<'a>],
-) -> Result<(PlacedWord<'a>, &'t [Token<'a>]), LineError>
-    ensures { Gives (λ x. ((x.0.0.now, x.0.1), views x.1.now)) result (next_word (views tokens.now)) }
+) -> Result<(&'a [u8], &'t [Token<'a>]), LineError>
+    ensures { Gives (λ x. (x.0.now, views x.1.now)) result (next_word (views tokens.now)) }
 {
     match tokens {
         [] => Err(bad_operand()),
@@ -97,12 +93,11 @@ pub(crate) fn ended(tokens: &[Token<'_>]) -> Result<(), LineError>
 }
 
 /// The word by which a line begins; `other` is the fault where none does.
-pub(crate) fn first<'a>(other: FaultKind, token: &Token<'a>) -> Result<PlacedWord<'a>, LineError>
-    ensures { Gives (λ x. (x.0.now, x.1)) result (first_word other (view token.now)) }
+pub(crate) fn first<'a>(other: FaultKind, token: &Token<'a>) -> Result<&'a [u8], LineError>
+    ensures { Gives (λ x. x.now) result (first_word other (view token.now)) }
 {
     match token {
-        Token::Word(word) => Ok((*word, false)),
-        Token::LongWord(word) => Ok((*word, true)),
+        Token::Word(word) => Ok(*word),
         Token::BadWord | Token::BadText(FaultKind::BadByte) => {
             Err(Refusal::Fault(FaultKind::BadByte))
         }
@@ -138,9 +133,9 @@ pub(crate) fn operand<'a, 't, T: FromWord>(
 ) -> Result<(T, &'t [Token<'a>]), LineError>
     ensures { Gives (λ x. (x.0, views x.1.now)) result (operand_of T.read (views tokens.now)) }
 {
-    let ((word, is_long), rest) = next(tokens)?;
+    let (word, rest) = next(tokens)?;
     let value = T::from_word(alloc, word)?;
-    within(is_long)?;
+    within(word)?;
     Ok((value, rest))
 }
 

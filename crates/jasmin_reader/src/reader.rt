@@ -14,7 +14,7 @@ use crate::head::{HeadWords, Place, class_head};
 use crate::labels::Labels;
 use crate::listing::{Listing, behind_colon, unknown_word};
 use crate::member::{MethodHead, field, method_head};
-use crate::place::{LineError, ended, first, last_operand, within};
+use crate::place::{LineError, ended, first, last_operand};
 use crate::values::begins;
 use descriptors::ClassName;
 use jasmin_text::form::{Directive, directive_of, form_of};
@@ -269,18 +269,12 @@ impl Reader {
     }
 
     /// A line that begins with this word, which is no directive.
-    fn statement(
-        &mut self,
-        alloc: Global,
-        word: &[u8],
-        is_long: bool,
-        rest: &[Token<'_>],
-    ) -> Result<(), LineError>
-        ensures { Gives (λ _. self.new) result (statement_line self.old (word.now, is_long) (views rest.now) self.old.body) }
+    fn statement(&mut self, alloc: Global, word: &[u8], rest: &[Token<'_>]) -> Result<(), LineError>
+        ensures { Gives (λ _. self.new) result (statement_line self.old word.now (views rest.now) self.old.body) }
     {
         match &mut self.body {
             None => Err(Refusal::Fault(stray(word, rest))),
-            Some(body) => body.statement(alloc, word, is_long, rest),
+            Some(body) => body.statement(alloc, word, rest),
         }
     }
 
@@ -302,17 +296,14 @@ impl Reader {
         match tokens {
             [] => Ok(()),
             [token, rest @ ..] => {
-                let (word, is_long) = first(self.no_word(), token)?;
+                let word = first(self.no_word(), token)?;
                 match directive_of(word) {
-                    Some(directive) => {
-                        within(is_long)?;
-                        self.directive(alloc, directive, rest)
-                    }
+                    Some(directive) => self.directive(alloc, directive, rest),
                     None => {
                         if begins(b'.', word) {
                             return Err(Refusal::Fault(FaultKind::UnknownDirective));
                         }
-                        self.statement(alloc, word, is_long, rest)
+                        self.statement(alloc, word, rest)
                     }
                 }
             }

@@ -9,11 +9,11 @@ use Rattle.std.proofs.lemmas.List.{append-nil}
 use Rattle.std.proofs.lemmas.List.Folds.{list_all-append}
 use Rattle.jasmin_words.specs.Lexing.{Item, Word, Equals, Colon, Text, is_blank, fits, words_of}
 use Rattle.jasmin_words.specs.Quoting.{quoted_byte, quoted_bytes, quoted}
-use Rattle.jasmin_words.specs.Spelling.{Ends, is_word_byte, IsWord, IsSpelled}
+use Rattle.jasmin_words.specs.Spelling.{Ends, is_word_byte, IsWord, IsSpelled, AreWords}
 use Rattle.jasmin_words.specs.Spelling as spelling
 use Rattle.jasmin_words.proofs.Quoting.{quoted_spelled}
 use Rattle.jasmin_words.proofs.Spelled.{spelled_again}
-use Rattle.jasmin_text.specs.Grammar.{Row, IsRow}
+use Rattle.jasmin_text.specs.Grammar.{Row, IsRow, AreRowsOf, of_words}
 use Rattle.jasmin_text.proofs.Conditions.{all_weaker}
 
 -- ---- bytes that end no line
@@ -84,6 +84,14 @@ written_spelled fresh line words (text {words = ws} bytes rest e u f h) =
     subst (λ (z : List ℕ). IsSpelled fresh z (Text bytes ∷ ws)) (sym e) (text_spelled fresh bytes rest ws u f (written_spelled false rest ws h))
 written_spelled fresh line words (word {words = ws} w rest e is f end h) = spelling.word w rest e is f end (written_spelled false rest ws h)
 
+written_words : (fresh : Bool) (line : List ℕ) (words : List Item) → IsWritten fresh line words → AreWords words
+written_words fresh line words ends = tt
+written_words fresh line words (blank {rest = rest} e h) = written_words true rest words h
+written_words fresh line words (equals {rest = rest} {words = ws} h) = (tt, written_words false rest ws h)
+written_words fresh line words (colon {rest = rest} {words = ws} h) = (tt, written_words false rest ws h)
+written_words fresh line words (text {words = ws} bytes rest e u f h) = (tt, written_words false rest ws h)
+written_words fresh line words (word {words = ws} w rest e is f end h) = (f, written_words false rest ws h)
+
 is_word_text : (fresh : Bool) (w : List ℕ) → IsWord fresh w → list_all is_word_byte w ≡ true
 is_word_text fresh [] h = absurd h
 is_word_text fresh (b ∷ w) h = h.1
@@ -102,13 +110,13 @@ written_inner fresh line words (word {words = ws} w rest e is f end h) =
 
 -- a canonical line, and the rows that it says
 pub record IsLine (line : List ℕ) (rows : List Row) : Type 0 where
-  pub row : IsRow (words_of line) rows
+  pub row : AreRowsOf (words_of line) rows
   pub inner : IsInner line
 
 -- what the words are, the line says
 pub said : (line : List ℕ) (items : List Item) (rows : List Row) → IsWritten true line items → IsRow items rows → IsLine line rows
 said line items rows w h =
-    record { row = subst (λ (z : List Item). IsRow z rows) (sym (spelled_again true line items (written_spelled true line items w))) h; inner = written_inner true line items w }
+    record { row = subst (λ (z : List Item). AreRowsOf z rows) (sym (spelled_again true line items (written_spelled true line items w))) (of_words (written_words true line items w) h); inner = written_inner true line items w }
 
 pub last_word : (fresh : Bool) (w : List ℕ) → IsWord fresh w → fits w ≡ true → IsWritten fresh w (Word w ∷ [])
 last_word fresh w h f = word w [] (sym (append-nil w)) h f tt ends

@@ -10,6 +10,7 @@ use Rattle.descriptors.specs.declared.field.FieldType.{FieldType}
 use Rattle.jasmin_words.specs.Lexing.{Item, Word, Equals, Colon, Text, words_of}
 use Rattle.jasmin_words.specs.Integers.{integer_of}
 use Rattle.jasmin_words.specs.Names.{is_label, IsMemberName}
+use Rattle.jasmin_words.specs.Spelling.{AreWords}
 use Rattle.jasmin_text.specs.BaseWords.{base_word}
 use Rattle.jasmin_text.specs.Tables.{find_row, access_of, member_access_of}
 use Rattle.jasmin_text.specs.Forms.{form_at, directive_at}
@@ -181,8 +182,6 @@ pub data IsInstructionLine : List Item → Row → Type 0 where
 -- a line, by its words
 pub data IsRow : List Item → List Row → Type 0 where
   blank : IsRow [] []
-  -- nothing behind the first word is looked at
-  skipped : {w : List ℕ} {rest : List Item} → directive_at w ≡ Some directive.Skipped → IsRow (Word w ∷ rest) []
   -- behind .class the word interface is an access word and no name
   class : {items : List Item} {k : ClassKind} {a : Access} {name : List ℕ} → (access : List Item) → items ≡ access ++ Word name ∷ [] → IsClassAccess kind.Class no_access access k a → IsClassName name
       → bytes_eq name (codes "interface") ≡ false → IsRow (Word (codes ".class") ∷ items) (ClassRow k a name ∷ [])
@@ -207,10 +206,16 @@ pub data IsRow : List Item → List Row → Type 0 where
   case : {w l : List ℕ} {key : ℤ} → integer_of w ≡ Some key → is_label l ≡ true → IsRow (Word w ∷ Colon ∷ Word l ∷ []) (CaseRow key l ∷ [])
   default : {l : List ℕ} → is_label l ≡ true → IsRow (Word (codes "default") ∷ Colon ∷ Word l ∷ []) (DefaultRow l ∷ [])
 
+-- The rows of a line, by its words, none of which is wrong or too long. Where a directive is skipped, nothing
+-- behind it is looked at.
+pub data AreRowsOf : List Item → List Row → Type 0 where
+  skipped : {w : List ℕ} {rest : List Item} → directive_at w ≡ Some directive.Skipped → AreRowsOf (Word w ∷ rest) []
+  of_words : {items : List Item} {rows : List Row} → AreWords items → IsRow items rows → AreRowsOf items rows
+
 -- lines one after the other
 pub data AreRows : List (List ℕ) → List Row → Type 0 where
   none : AreRows [] []
-  more : {line : List ℕ} {lines : List (List ℕ)} {all : List Row} → (rows rest : List Row) → IsRow (words_of line) rows → AreRows lines rest → all ≡ rows ++ rest → AreRows (line ∷ lines) all
+  more : {line : List ℕ} {lines : List (List ℕ)} {all : List Row} → (rows rest : List Row) → AreRowsOf (words_of line) rows → AreRows lines rest → all ≡ rows ++ rest → AreRows (line ∷ lines) all
 
 -- ---- bodies
 

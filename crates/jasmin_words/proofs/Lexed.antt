@@ -1,8 +1,8 @@
 -- What every word of a line is like.
-use Rattle.std.proofs.Common.{◌≡◌, ℕ, zero, suc, Bool, true, false, not, ◌&&◌, cond, eqb, List, [], ◌∷◌, length, drop, take, Option, Some, None, refl}
+use Rattle.std.proofs.Common.{◌≡◌, ℕ, zero, suc, Bool, true, false, ◌&&◌, cond, eqb, List, [], ◌∷◌, length, drop, take, Option, Some, None, refl}
 use Rattle.std.specs.List.{list_all}
 use Rattle.std.proofs.lemmas.Str.{is_utf8-from_IsUtf8, IsUtf8-from_is_utf8}
-use Rattle.jasmin_words.specs.Lexing.{Item, Word, LongWord, BadWord, Equals, Colon, Text, BadText, fits, is_blank, is_plain, word_len, word_item, word_at, raw_len, string_item, closed_at, string_at, token_at, after_token, words_in, words_from}
+use Rattle.jasmin_words.specs.Lexing.{Item, Word, BadWord, Equals, Colon, Text, BadText, is_blank, is_plain, word_len, word_item, word_at, raw_len, string_item, closed_at, string_at, token_at, after_token, words_in, words_from}
 use Rattle.jasmin_words.specs.Spelling.{is_word_byte, IsLexed, AreLexed}
 use Rattle.jasmin_words.proofs.TakenString.{IsOpen, quoted_taken}
 use Rattle.jasmin_words.proofs.Taken.{IsStringItem, string_is, open_text, none_part}
@@ -19,20 +19,16 @@ cond_lexed false x y p q = q
 
 word_lexed : (w : List ℕ) → (list_all is_plain w ≡ true → list_all is_word_byte w ≡ true) → IsLexed (word_item w)
 unfolding word_item
-word_lexed w h =
-    let go : (t : Bool) → list_all is_plain w ≡ t → IsLexed (cond (not t) BadWord (cond (fits w) (Word w) (LongWord w))) = λ t. elim t as (λ t. list_all is_plain w ≡ t → IsLexed (cond (not t) BadWord (cond (fits w) (Word w) (LongWord w)))) [
-      | true ↦ λ p.
-          let fit : (f : Bool) → fits w ≡ f → IsLexed (cond f (Word w) (LongWord w)) = λ f. elim f as (λ f. fits w ≡ f → IsLexed (cond f (Word w) (LongWord w))) [ true ↦ λ f. (h p, f) | false ↦ λ f. tt ] in
-          fit (fits w) refl
-      | false ↦ λ p. tt
-    ] in
-    go (list_all is_plain w) refl
+word_lexed w h = by (list_all is_plain w) h
+  where
+    by : (t : Bool) → (t ≡ true → list_all is_word_byte w ≡ true) → IsLexed (cond t (Word w) BadWord)
+    by true h = h refl
+    by false h = tt
 
 string_lexed : (closed : Bool) (raw : List ℕ) (i : Item) → IsOpen raw → IsStringItem closed raw i → IsLexed i
 string_lexed closed raw (Text bytes) o h = (is_utf8-from_IsUtf8 bytes (quoted_utf8 [] raw bytes (quoted_taken raw bytes o h.2) (IsUtf8-from_is_utf8 raw h.1)), h.3)
 string_lexed closed raw (BadText k) o h = tt
 string_lexed closed raw (Word w) o h = absurd h
-string_lexed closed raw (LongWord w) o h = tt
 string_lexed closed raw BadWord o h = tt
 string_lexed closed raw Equals o h = tt
 string_lexed closed raw Colon o h = tt

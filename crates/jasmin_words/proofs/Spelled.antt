@@ -41,15 +41,15 @@ all_plain (b ∷ w) h =
     let q = and_parts (is_plain b) (not (is_parting b)) p.0 in
     rw q.0 (all_plain w p.1)
 
-word_item_again : (w : List ℕ) → list_all is_word_byte w ≡ true → fits w ≡ true → word_item w ≡ Word w
+word_item_again : (w : List ℕ) → list_all is_word_byte w ≡ true → word_item w ≡ Word w
 unfolding word_item
-word_item_again w h f = rw (all_plain w h) (rw f refl)
+word_item_again w h = rw (all_plain w h) refl
 
-pub word_again : (w rest : List ℕ) → list_all is_word_byte w ≡ true → fits w ≡ true → Ends rest → word_at (w ++ rest) ≡ (Word w, rest)
+pub word_again : (w rest : List ℕ) → list_all is_word_byte w ≡ true → Ends rest → word_at (w ++ rest) ≡ (Word w, rest)
 unfolding word_at
-word_again w rest h f e =
+word_again w rest h e =
     let n = unit_len w rest h e in
-    rw (n, take_at w rest (length w) refl, drop_at w rest (length w) refl) (ap (λ (i : Item). (i, rest)) (word_item_again w h f))
+    rw (n, take_at w rest (length w) refl, drop_at w rest (length w) refl) (ap (λ (i : Item). (i, rest)) (word_item_again w h))
 
 starts : (b : ℕ) (w : List ℕ) → list_all (λ x. is_plain x && not (is_parting x)) (b ∷ w) ≡ true → is_parting b ≡ false
 starts b w h =
@@ -73,11 +73,11 @@ parts_none b e =
     ] in
     go (is_blank b) (eqb b 34) (eqb b 58) (eqb b 61) e
 
-token_word : (fresh : Bool) (b : ℕ) (w rest : List ℕ) → (eqb b 59 && fresh) ≡ false → list_all is_word_byte (b ∷ w) ≡ true → fits (b ∷ w) ≡ true → Ends rest → token_at fresh (b ∷ (w ++ rest)) ≡ Some (Word (b ∷ w), rest)
+token_word : (fresh : Bool) (b : ℕ) (w rest : List ℕ) → (eqb b 59 && fresh) ≡ false → list_all is_word_byte (b ∷ w) ≡ true → Ends rest → token_at fresh (b ∷ (w ++ rest)) ≡ Some (Word (b ∷ w), rest)
 unfolding token_at
-token_word fresh b w rest n h f e =
+token_word fresh b w rest n h e =
     let apart = parts_none b (starts b w h) in
-    rw (apart.0, n, apart.3, apart.2, apart.1) (ap (λ (x : Item × List ℕ). Some x) (word_again (b ∷ w) rest h f e))
+    rw (apart.0, n, apart.3, apart.2, apart.1) (ap (λ (x : Item × List ℕ). Some x) (word_again (b ∷ w) rest h e))
 
 token_string : (fresh : Bool) (text bytes rest : List ℕ) → is_utf8 text ≡ true → IsQuoted text bytes → fits bytes ≡ true → token_at fresh (34 ∷ (text ++ 34 ∷ rest)) ≡ Some (Text bytes, rest)
 unfolding token_at
@@ -112,4 +112,4 @@ spelled_again fresh line words (equals {rest} {words = ws} h) = words_from-some 
 spelled_again fresh line words (colon {rest} {words = ws} h) = words_from-some fresh (58 ∷ rest) Colon rest (token_colon fresh rest) ∙ ap (λ (ts : List Item). Colon ∷ ts) (spelled_again false rest ws h)
 spelled_again fresh line words (string {after} {bytes} {words = ws} t rest e u q f h) = ap (λ (a : List ℕ). words_from fresh (34 ∷ a)) e ∙ words_from-some fresh (34 ∷ (t ++ 34 ∷ rest)) (Text bytes) rest (token_string fresh t bytes rest u q f) ∙ ap (λ (ts : List Item). Text bytes ∷ ts) (spelled_again false rest ws h)
 spelled_again fresh line words (word {words = ws} [] rest e q f n h) = absurd q
-spelled_again fresh line words (word {words = ws} (b ∷ w) rest e q f n h) = ap (words_from fresh) e ∙ words_from-some fresh (b ∷ (w ++ rest)) (Word (b ∷ w)) rest (token_word fresh b w rest q.0 q.1 f n) ∙ ap (λ (ts : List Item). Word (b ∷ w) ∷ ts) (spelled_again false rest ws h)
+spelled_again fresh line words (word {words = ws} (b ∷ w) rest e q f n h) = ap (words_from fresh) e ∙ words_from-some fresh (b ∷ (w ++ rest)) (Word (b ∷ w)) rest (token_word fresh b w rest q.0 q.1 n) ∙ ap (λ (ts : List Item). Word (b ∷ w) ∷ ts) (spelled_again false rest ws h)

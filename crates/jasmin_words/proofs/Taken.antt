@@ -7,8 +7,8 @@ use Rattle.std.specs.Str.{is_utf8}
 use Rattle.jasmin_words.specs.declared.escape.EscapeFault.{EscapeFault}
 use Rattle.jasmin_words.specs.declared.escape.EscapeFault.TheVariants.{Wrong, Cut}
 use Rattle.jasmin_words.specs.Escapes.{unescaped}
-use Rattle.jasmin_words.specs.Lexing.{Item, Word, LongWord, BadWord, Equals, Colon, Text, BadText, fits, is_blank, is_parting, is_plain, word_len, word_item, word_at, raw_len, resolved_item, string_item, closed_at, string_at, token_at, after_token, words_in, words_from}
-use Rattle.jasmin_words.specs.Spelling.{Ends, is_word_byte, IsWord, IsSpelled, ends, comment, blank, equals, colon, string, word, AreWords}
+use Rattle.jasmin_words.specs.Lexing.{Item, Word, BadWord, Equals, Colon, Text, BadText, fits, is_blank, is_parting, is_plain, word_len, word_item, word_at, raw_len, resolved_item, string_item, closed_at, string_at, token_at, after_token, words_in, words_from}
+use Rattle.jasmin_words.specs.Spelling.{Ends, is_word_byte, IsWord, IsSpelled, ends, comment, blank, equals, colon, string, word, IsGoodWord, AreWords}
 use Rattle.jasmin_words.proofs.Tokens.{token_at-shrinks}
 use Rattle.jasmin_words.proofs.TakenString.{IsOpen, quoted_taken}
 
@@ -62,13 +62,12 @@ string_is closed raw = cond_item closed raw (is_utf8 raw) _ _ (λ u. resolved_is
 
 abbrev pub IsNext : Bool → List ℕ → Option (Item × List ℕ) → Type 0
 IsNext fresh s None = IsSpelled fresh s []
-IsNext fresh s (Some x) = (words : List Item) → AreWords (x.0 ∷ []) → IsSpelled false x.1 words → IsSpelled fresh s (x.0 ∷ words)
+IsNext fresh s (Some x) = (words : List Item) → IsGoodWord x.0 → IsSpelled false x.1 words → IsSpelled fresh s (x.0 ∷ words)
 
 text_next : (fresh : Bool) (bs raw rest : List ℕ) (i : Item) → bs ≡ raw ++ 34 ∷ rest → IsOpen raw → IsStringItem true raw i → IsNext fresh (34 ∷ bs) (Some (i, rest))
 text_next fresh bs raw rest (Text bytes) e o h = λ words ok q. string raw rest e h.1 (quoted_taken raw bytes o h.2) h.3 q
 text_next fresh bs raw rest (BadText k) e o h = λ words ok q. absurd ok
 text_next fresh bs raw rest (Word w) e o h = absurd h
-text_next fresh bs raw rest (LongWord w) e o h = absurd h
 text_next fresh bs raw rest BadWord e o h = absurd h
 text_next fresh bs raw rest Equals e o h = absurd h
 text_next fresh bs raw rest Colon e o h = absurd h
@@ -80,7 +79,6 @@ open_next fresh s raw (Text bytes) h = let wrong : false ≡ true = h.0 in absur
     untrue e = subst (λ (b : Bool). elim b as (λ _. Type 0) [ true ↦ ⊥ | false ↦ Unit {0} ]) e tt
 open_next fresh s raw (BadText k) h = λ words ok q. absurd ok
 open_next fresh s raw (Word w) h = absurd h
-open_next fresh s raw (LongWord w) h = absurd h
 open_next fresh s raw BadWord h = absurd h
 open_next fresh s raw Equals h = absurd h
 open_next fresh s raw Colon h = absurd h
@@ -134,17 +132,11 @@ comment_next fresh b s e =
 word_is : (fresh : Bool) (line w rest : List ℕ) → line ≡ w ++ rest → (list_all is_plain w ≡ true → IsWord fresh w) → Ends rest → IsNext fresh line (Some (word_item w, rest))
 unfolding word_item
 word_is fresh line w rest e h n =
-    let P : Item → Type 0 = λ i. IsNext fresh line (Some (i, rest)) in
-    let go : (t : Bool) → list_all is_plain w ≡ t → P (cond (not t) BadWord (cond (fits w) (Word w) (LongWord w))) = λ t. elim t as (λ t. list_all is_plain w ≡ t → P (cond (not t) BadWord (cond (fits w) (Word w) (LongWord w)))) [
-      | true ↦ λ p.
-          let fit : (f : Bool) → fits w ≡ f → P (cond f (Word w) (LongWord w)) = λ f. elim f as (λ f. fits w ≡ f → P (cond f (Word w) (LongWord w))) [
-            | true ↦ λ f words ok q. word w rest e (h p) f n q
-            | false ↦ λ f words ok q. absurd ok
-          ] in
-          fit (fits w) refl
-      | false ↦ λ p words ok q. absurd ok
-    ] in
-    go (list_all is_plain w) refl
+    by (list_all is_plain w) h
+  where
+    by : (t : Bool) → (t ≡ true → IsWord fresh w) → IsNext fresh line (Some (cond t (Word w) BadWord, rest))
+    by true h = λ words f q. word w rest e (h refl) f n q
+    by false h = λ words ok q. absurd ok
 
 word_next : (fresh : Bool) (b : ℕ) (s : List ℕ) → (eqb b 59 && fresh) ≡ false → is_parting b ≡ false → IsNext fresh (b ∷ s) (Some (word_at (b ∷ s)))
 unfolding word_at
@@ -167,18 +159,9 @@ token_is fresh (b ∷ bs) =
     cond_next (eqb b 58) _ _ fresh (b ∷ bs) (λ e words ok h. subst (λ (l : List ℕ). IsSpelled fresh l (Colon ∷ words)) (sym (head_is b 58 bs e)) (colon h)) (λ r.
     cond_next (eqb b 34) _ _ fresh (b ∷ bs) (λ e. string_next fresh b bs e) (λ t. word_next fresh b bs n (none_of b p q r t))))))
 
-first_is : (t : Item) (ts : List Item) → AreWords (t ∷ ts) → AreWords (t ∷ []) × AreWords ts
-first_is (Word w) ts h = (tt, h)
-first_is (LongWord w) ts h = absurd h
-first_is BadWord ts h = absurd h
-first_is Equals ts h = (tt, h)
-first_is Colon ts h = (tt, h)
-first_is (Text w) ts h = (tt, h)
-first_is (BadText k) ts h = absurd h
-
 next_spelled : (fresh : Bool) (s : List ℕ) (o : Option (Item × List ℕ)) (next : List ℕ → List Item) → IsNext fresh s o → ((t : Item) (rest : List ℕ) → o ≡ Some (t, rest) → AreWords (next rest) → IsSpelled false rest (next rest)) → AreWords (after_token next o) → IsSpelled fresh s (after_token next o)
 next_spelled fresh s None next h ih ok = h
-next_spelled fresh s (Some x) next h ih ok = let p = first_is x.0 (next x.1) ok in h (next x.1) p.0 (ih x.0 x.1 refl p.1)
+next_spelled fresh s (Some x) next h ih ok = h (next x.1) ok.0 (ih x.0 x.1 refl ok.1)
 
 pub spelled_in : (n : ℕ) (fresh : Bool) (s : List ℕ) → length s < n → AreWords (words_in n fresh s) → IsSpelled fresh s (words_in n fresh s)
 unfolding words_in

@@ -15,7 +15,6 @@ use Rattle.jasmin_words.specs.Escapes.{unescaped}
 -- a word of a line, without where it lies in memory
 pub data Item : Type 0 where
   Word : List ℕ → Item
-  LongWord : List ℕ → Item
   BadWord : Item
   Equals : Item
   Colon : Item
@@ -24,7 +23,6 @@ pub data Item : Type 0 where
 
 abbrev pub view : Token → Item
 view (tokens.Word w) = Word w.now
-view (tokens.LongWord w) = LongWord w.now
 view tokens.BadWord = BadWord
 view tokens.Equals = Equals
 view tokens.Colon = Colon
@@ -57,12 +55,9 @@ abbrev pub word_len : List ℕ → ℕ
 word_len [] = 0
 word_len (b ∷ bs) = if is_parting b then 0 else 1 + word_len bs
 
--- a word, by its bytes
+-- a word of any length, by its bytes
 unfoldable pub word_item : List ℕ → Item
-word_item word =
-    if not (list_all is_plain word) then BadWord
-    else if fits word then Word word
-    else LongWord word
+word_item word = if list_all is_plain word then Word word else BadWord
 
 unfoldable pub word_at : List ℕ → Item × List ℕ
 word_at bytes = (word_item (take (word_len bytes) bytes), drop (word_len bytes) bytes)

@@ -5,7 +5,7 @@ use Rattle.std.specs.Char.{digit_value, encode_utf8}
 use Rattle.std.specs.Char.Utf16.{is_high_surrogate, is_low_surrogate, surrogate_pair_char}
 use Rattle.std.specs.Str.{is_utf8}
 use Rattle.jasmin_words.specs.Escapes.{escape, is_hex}
-use Rattle.jasmin_words.specs.Lexing.{Item, Word, LongWord, BadWord, Equals, Colon, Text, BadText, is_blank, is_parting, is_plain, fits}
+use Rattle.jasmin_words.specs.Lexing.{Item, Word, BadWord, Equals, Colon, Text, BadText, is_blank, is_parting, is_plain, fits}
 
 -- four hexadecimal digits name a unit of UTF-16
 abbrev pub IsUnit : ℕ → ℕ → ℕ → ℕ → ℕ → Type 0
@@ -51,18 +51,21 @@ pub data IsSpelled : Bool → List ℕ → List Item → Type 0 where
   word : {fresh : Bool} {line : List ℕ} {words : List Item} → (w rest : List ℕ) → line ≡ w ++ rest → IsWord fresh w → fits w ≡ true → Ends rest
       → IsSpelled false rest words → IsSpelled fresh line (Word w ∷ words)
 
+-- a word that isn't wrong, of at most 65,535 bytes
+abbrev pub IsGoodWord : Item → Type 0
+IsGoodWord (Word w) = fits w ≡ true
+IsGoodWord BadWord = ⊥
+IsGoodWord (BadText k) = ⊥
+IsGoodWord other = Unit {0}
+
 -- no word of the line is wrong
 abbrev pub AreWords : List Item → Type 0
 AreWords [] = Unit {0}
-AreWords (LongWord w ∷ rest) = ⊥
-AreWords (BadWord ∷ rest) = ⊥
-AreWords (BadText k ∷ rest) = ⊥
-AreWords (other ∷ rest) = AreWords rest
+AreWords (item ∷ rest) = IsGoodWord item × AreWords rest
 
--- What every word of a line is like, whether it is wrong or not: a string is UTF-8, and words and strings
--- have at most 65,535 bytes.
+-- What every word of a line is like, whether it is wrong or not: a string is UTF-8 and has at most 65,535 bytes.
 abbrev pub IsLexed : Item → Type 0
-IsLexed (Word w) = (list_all is_word_byte w ≡ true) × (fits w ≡ true)
+IsLexed (Word w) = list_all is_word_byte w ≡ true
 IsLexed (Text bytes) = (is_utf8 bytes ≡ true) × (fits bytes ≡ true)
 IsLexed other = Unit {0}
 

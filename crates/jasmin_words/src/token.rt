@@ -12,16 +12,14 @@ use crate::fault::FaultKind;
 use sequence::{Refusal, Text};
 use std::alloc::{AllocError, Global};
 
-/// The most bytes of a word, and of a string's characters in UTF-8.
+/// The most bytes of a word that isn't skipped, and of a string's characters in UTF-8.
 pub const MOST_BYTES: usize = 65_535;
 
 /// A word of a line, or what is wrong in its place.
 #[derive(Debug, Drop)]
 pub enum Token<'a> {
-    /// A word of ASCII bytes from 33 to 126, of at most 65,535 of them. It has no `"`, `=` and `:`.
+    /// A word of ASCII bytes from 33 to 126, of any length. It has no `"`, `=` and `:`.
     Word(&'a [u8]),
-    /// Such a word of more bytes. What else is wrong with it is told before its length.
-    LongWord(&'a [u8]),
     /// A word with a byte above 127 or a control byte.
     BadWord,
     /// The word `=`.
@@ -87,12 +85,10 @@ fn are_plain(word: &[u8]) -> bool
 fn word_token(word: &[u8]) -> Token<'_>
     ensures { view result ≡ word_item word.now }
 {
-    if !are_plain(word) {
-        Token::BadWord
-    } else if word.len() <= MOST_BYTES {
+    if are_plain(word) {
         Token::Word(word)
     } else {
-        Token::LongWord(word)
+        Token::BadWord
     }
 }
 
@@ -232,7 +228,7 @@ pub fn words(alloc: Global, line: &[u8]) -> Result<Vec<Token<'_>>, AllocError>
     ensures found { IfOk result (λ tokens. AreWords (views tokens.items) → IsSpelled true line.now (views tokens.items)) }
     // A line that words spell is read as them.
     ensures only { (items : List Item) → IsSpelled true line.now items → IfOk result (λ tokens. views tokens.items ≡ items) }
-    // Each string is UTF-8, and each word and string within its limit.
+    // Each string is UTF-8 and within its limit.
     ensures lexed { IfOk result (λ tokens. AreLexed (views tokens.items)) }
 {
     all_words(alloc, line)
