@@ -10,6 +10,7 @@ use descriptors::{
     ClassName, ElementType, FieldType, MethodType, is_class_name, parse_field, parse_method,
     write_field, write_method,
 };
+use sequence::Refusal;
 use std::alloc::{AllocError, Global};
 
 /// What an element is.
@@ -43,7 +44,8 @@ fn spelled_field(alloc: Global, field: &FieldType, text: &[u8]) -> Result<String
 pub(crate) fn field_answer(alloc: Global, text: &[u8]) -> Result<String, AllocError> {
     match parse_field(alloc, text) {
         Ok(field) => spelled_field(alloc, &field, text),
-        Err(fault) => format!(in alloc; "a field: {fault}"),
+        Err(Refusal::Memory) => Err(AllocError),
+        Err(Refusal::Fault(fault)) => format!(in alloc; "a field: {fault}"),
     }
 }
 
@@ -70,7 +72,8 @@ fn spelled_method(alloc: Global, method: &MethodType, text: &[u8]) -> Result<Str
 pub(crate) fn method_answer(alloc: Global, text: &[u8]) -> Result<String, AllocError> {
     match parse_method(alloc, text) {
         Ok(method) => spelled_method(alloc, &method, text),
-        Err(fault) => format!(in alloc; "a method: {fault}"),
+        Err(Refusal::Memory) => Err(AllocError),
+        Err(Refusal::Fault(fault)) => format!(in alloc; "a method: {fault}"),
     }
 }
 

@@ -3,8 +3,9 @@ use Rattle.std.proofs.Common.{◌≡◌, ℕ, zero, suc, ◌+◌, ◌≤◌, Boo
 use Rattle.std.specs.Prelude.{replicate, IfOk}
 use Rattle.std.proofs.lemmas.Bool.{eqb-true, eqb-false}
 use Rattle.std.proofs.lemmas.List.{append-nil, take-append-drop, take_at, drop_at}
-use Rattle.sequence.specs.Gives.{◌>>=◌}
-use Rattle.sequence.proofs.Results.{bind_ok}
+use Rattle.sequence.specs.declared.refusal.Refusal.{Refusal}
+use Rattle.sequence.specs.Gives.{◌>>=◌, Gives}
+use Rattle.sequence.proofs.Results.{bind_ok, given, test_passed}
 use Rattle.descriptors.specs.declared.base.BaseType.{BaseType}
 use Rattle.descriptors.specs.declared.base.BaseType.TheVariants.{Boolean, Byte, Char, Short, Int}
 use Rattle.descriptors.specs.declared.fault.DescriptorFault.{DescriptorFault}
@@ -15,9 +16,9 @@ use Rattle.descriptors.specs.declared.field.FieldType.{FieldType}
 use Rattle.descriptors.specs.ClassName.{is_class_name, IsClassName}
 use Rattle.descriptors.specs.Letters.{letter_of, base_of_letter, is_left_out}
 use Rattle.descriptors.specs.Spelling.{element_spelling, field_spelling, IsElementType, IsFieldType}
-use Rattle.descriptors.specs.Reading.{Answers, name_len, closed_name, class_at, base_at, element_at, with_dimensions, array_at, field_at, ended, field_of_text}
+use Rattle.descriptors.specs.Reading.{name_len, closed_name, class_at, base_at, element_at, with_dimensions, array_at, field_at, ended, field_of_text}
 use Rattle.descriptors.proofs.ClassNames.{name_len-closed}
-use Rattle.descriptors.proofs.Steps.{chosen, ok_is}
+use Rattle.descriptors.proofs.Steps.{chosen}
 use Rattle.descriptors.proofs.Parameters.{ne-eqb}
 
 -- ---- class names
@@ -35,17 +36,13 @@ name_ends (b ∷ bs) = at (eqb b 59) (eqb-true b 59) (name_ends bs)
     at true e h = e refl
     at false e h = let k : 1 + name_len bs ≡ suc (name_len bs) = omega arith in subst (λ (n : ℕ). BeginsClosed (drop n (b ∷ bs))) (sym k) h
 
-guarded : {A : Type 0} (b : Bool) (d : DescriptorFault) (x y : A) → cond b (Ok x) (Err d) ≡ Ok y → (b ≡ true) × (x ≡ y)
-guarded true d x y e = (refl, cc)
-guarded false d x y e = absurd cc
-
 abbrev TakesName : List ℕ → List ℕ × List ℕ → Type 0
 TakesName bytes x = (bytes ≡ x.0 ++ 59 ∷ x.1) × IsClassName x.0
 
 closed_takes : (name behind : List ℕ) (x : List ℕ × List ℕ) → BeginsClosed behind → closed_name name behind ≡ Ok x → TakesName (name ++ behind) x
 closed_takes name [] x begins e = absurd cc
 closed_takes name (b ∷ rest) x begins e =
-    let g = guarded (is_class_name name) Unfinished (name, rest) x e in
+    let g = test_passed (is_class_name name) (name, rest) Unfinished x e in
     subst (TakesName (name ++ b ∷ rest)) g.1 (ap (λ (c : ℕ). name ++ c ∷ rest) begins, g.0)
 
 class_takes : (bytes : List ℕ) (x : List ℕ × List ℕ) → class_at bytes ≡ Ok x → TakesName bytes x
@@ -85,14 +82,14 @@ TakesElement bytes x = (bytes ≡ element_spelling x.0 ++ x.1) × IsElementType 
 
 base_takes : (c : ℕ) (rest : List ℕ) (o : Option BaseType) (x : ElementType × List ℕ) → base_of_letter c ≡ o → base_at o rest ≡ Ok x → TakesElement (c ∷ rest) x
 base_takes c rest None x is e = absurd cc
-base_takes c rest (Some base) x is e = subst (TakesElement (c ∷ rest)) (ok_is (Base base, rest) x e) (ap (λ (b : ℕ). b ∷ rest) (base_letter c base is), tt)
+base_takes c rest (Some base) x is e = given (TakesElement (c ∷ rest)) e (ap (λ (b : ℕ). b ∷ rest) (base_letter c base is), tt)
 
 named_takes : (bs : List ℕ) (x : ElementType × List ℕ) → (class_at bs >>= (λ y. Ok (Class y.0, y.1))) ≡ Ok x → TakesElement (76 ∷ bs) x
 named_takes bs x e =
     let a = bind_ok (class_at bs) (λ y. Ok (Class y.0, y.1)) x e in
     let t = class_takes bs a.0 a.1 in
     let whole : 76 ∷ bs ≡ 76 ∷ ((a.0.0 ++ 59 ∷ []) ++ a.0.1) = ap (λ (s : List ℕ). 76 ∷ s) (t.0 ∙ sym (append_assoc a.0.0 (59 ∷ []) a.0.1)) in
-    subst (TakesElement (76 ∷ bs)) (ok_is (Class a.0.0, a.0.1) x a.2) (whole, t.1)
+    given (TakesElement (76 ∷ bs)) a.2 (whole, t.1)
 
 element_takes : (bytes : List ℕ) (x : ElementType × List ℕ) → element_at bytes ≡ Ok x → TakesElement bytes x
 unfolding element_at
@@ -133,7 +130,7 @@ dimensions_take n bytes x le e =
     let t = element_takes bytes a.0 a.1 in
     let made : FieldType × List ℕ = (record { dimensions = n; element = a.0.0 }, a.0.1) in
     let whole : replicate n 91 ++ bytes ≡ (replicate n 91 ++ element_spelling a.0.0) ++ a.0.1 = ap (λ (s : List ℕ). replicate n 91 ++ s) t.0 ∙ sym (append_assoc (replicate n 91) (element_spelling a.0.0) a.0.1) in
-    subst (TakesField (replicate n 91 ++ bytes)) (ok_is made x a.2) (whole, record { dimensions = le; element = t.1 })
+    given (TakesField (replicate n 91 ++ bytes)) a.2 (whole, record { dimensions = le; element = t.1 })
 
 array_takes : (n : ℕ) (bytes : List ℕ) (x : FieldType × List ℕ) → n ≤ 255 → array_at n bytes ≡ Ok x → TakesField (replicate n 91 ++ bytes) x
 unfolding array_at
@@ -217,7 +214,7 @@ field_first t = array_first t.dimensions t.element
 -- ---- whole texts
 
 pub ended_ok : {A : Type 0} (x : A) (rest : List ℕ) (y : A) → ended x rest ≡ Ok y → (rest ≡ []) × (x ≡ y)
-ended_ok x [] y e = (refl, ok_is x y e)
+ended_ok x [] y e = (refl, cc)
 ended_ok x (b ∷ bs) y e = absurd cc
 
 field_text-cons : (s : List ℕ) (first : ℕ) (others : List ℕ) → s ≡ first ∷ others → field_of_text s ≡ (field_at s >>= λ x. ended x.0 x.1)
@@ -240,9 +237,9 @@ field_only t h =
     field_text-cons (field_spelling t) begins.first begins.others begins.parts ∙ ap (λ (r : Result (FieldType × List ℕ) DescriptorFault). r >>= λ x. ended x.0 x.1) again
 
 -- what a reader of a whole text gave, as the public clauses say it
-pub is_found : (bytes : List ℕ) (r : Result FieldType DescriptorFault) → Answers r (field_of_text bytes) → IfOk r (λ t. IsFieldType t × (bytes ≡ field_spelling t))
-is_found bytes (Ok t) given = let found = field_found bytes t given in (found.1, found.0)
-is_found bytes (Err e) given = tt
+pub is_found : (bytes : List ℕ) (r : Result FieldType (Refusal DescriptorFault)) → Gives (λ x. x) r (field_of_text bytes) → IfOk r (λ t. IsFieldType t × (bytes ≡ field_spelling t))
+is_found bytes (Ok t) read = let found = field_found bytes t read in (found.1, found.0)
+is_found bytes (Err e) read = tt
 
-pub is_only : (bytes : List ℕ) (r : Result FieldType DescriptorFault) → Answers r (field_of_text bytes) → (t : FieldType) → IsFieldType t → bytes ≡ field_spelling t → Answers r (Ok t)
-is_only bytes r given t h e = subst (λ (read : Result FieldType DescriptorFault). Answers r read) (ap field_of_text e ∙ field_only t h) given
+pub is_only : (bytes : List ℕ) (r : Result FieldType (Refusal DescriptorFault)) → Gives (λ x. x) r (field_of_text bytes) → (t : FieldType) → IsFieldType t → bytes ≡ field_spelling t → Gives (λ x. x) r (Ok t)
+is_only bytes r read t h e = subst (Gives (λ x. x) r) (ap field_of_text e ∙ field_only t h) read

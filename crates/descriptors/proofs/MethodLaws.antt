@@ -5,15 +5,16 @@ use Rattle.std.specs.List.{flat_map, AllByRecursion}
 use Rattle.std.proofs.lemmas.Bool.{eqb-true}
 use Rattle.std.proofs.lemmas.List.{append-nil}
 use Rattle.std.proofs.lemmas.List.Concat.{flat_map-cons}
-use Rattle.sequence.specs.Gives.{◌>>=◌}
-use Rattle.sequence.proofs.Results.{bind_ok}
+use Rattle.sequence.specs.declared.refusal.Refusal.{Refusal}
+use Rattle.sequence.specs.Gives.{◌>>=◌, Gives}
+use Rattle.sequence.proofs.Results.{bind_ok, given}
 use Rattle.descriptors.specs.declared.fault.DescriptorFault.{DescriptorFault}
 use Rattle.descriptors.specs.declared.fault.DescriptorFault.TheVariants.{TooManyParameters}
 use Rattle.descriptors.specs.declared.field.FieldType.{FieldType}
 use Rattle.descriptors.specs.Signature.{Signature}
 use Rattle.descriptors.specs.Spelling.{field_spelling, result_spelling, method_spelling, IsFieldType, IsMethodType}
-use Rattle.descriptors.specs.Reading.{Answers, field_at, ended, with_front, parameters_at, result_at, signature_at, method_of_text}
-use Rattle.descriptors.proofs.Steps.{chosen, ok_is}
+use Rattle.descriptors.specs.Reading.{field_at, ended, with_front, parameters_at, result_at, signature_at, method_of_text}
+use Rattle.descriptors.proofs.Steps.{chosen}
 use Rattle.descriptors.proofs.Parameters.{parameters_at-closed, parameters_at-more}
 use Rattle.descriptors.proofs.FieldLaws.{field_takes, field_again, field_first, ended_ok}
 
@@ -27,7 +28,7 @@ pub record TakesParameters (room : ℕ) (bytes : List ℕ) (x : List FieldType �
 
 closed_takes : (room b : ℕ) (bs : List ℕ) (x : List FieldType × List ℕ) → b ≡ 41 → parameters_at room (b ∷ bs) ≡ Ok x → TakesParameters room (b ∷ bs) x
 closed_takes room b bs x is e =
-    subst (TakesParameters room (b ∷ bs)) (ok_is ([], bs) x (sym (parameters_at-closed room b bs is) ∙ e)) (record { parts = ap (λ (c : ℕ). c ∷ bs) is; types = tt; limit = omega arith })
+    given (TakesParameters room (b ∷ bs)) (sym (parameters_at-closed room b bs is) ∙ e) (record { parts = ap (λ (c : ℕ). c ∷ bs) is; types = tt; limit = omega arith })
 
 next_takes : (room : ℕ) (bytes : List ℕ) (x : List FieldType × List ℕ) → ((after : List ℕ) (y : List FieldType × List ℕ) → parameters_at room after ≡ Ok y → TakesParameters room after y)
     → (field_at bytes >>= λ t. with_front (t.0 ∷ []) (parameters_at room t.1)) ≡ Ok x → TakesParameters (suc room) bytes x
@@ -38,7 +39,7 @@ next_takes room bytes x others e =
     let second = others a.0.1 b.0 b.1 in
     let made : List FieldType × List ℕ = (a.0.0 ∷ b.0.0, b.0.1) in
     let whole : bytes ≡ (field_spelling a.0.0 ++ flat_map field_spelling b.0.0) ++ 41 ∷ b.0.1 = first.0 ∙ ap (λ (s : List ℕ). field_spelling a.0.0 ++ s) second.parts ∙ sym (append_assoc (field_spelling a.0.0) (flat_map field_spelling b.0.0) (41 ∷ b.0.1)) in
-    subst (TakesParameters (suc room) bytes) (ok_is made x b.2) (record { parts = whole ∙ ap (λ (s : List ℕ). s ++ 41 ∷ b.0.1) (sym (flat_map-cons field_spelling a.0.0 b.0.0)); types = (first.1, second.types); limit = omega (arith, second.limit) })
+    given (TakesParameters (suc room) bytes) b.2 (record { parts = whole ∙ ap (λ (s : List ℕ). s ++ 41 ∷ b.0.1) (sym (flat_map-cons field_spelling a.0.0 b.0.0)); types = (first.1, second.types); limit = omega (arith, second.limit) })
 
 parameters_take : (room : ℕ) (bytes : List ℕ) (x : List FieldType × List ℕ) → parameters_at room bytes ≡ Ok x → TakesParameters room bytes x
 unfolding parameters_at
@@ -78,10 +79,10 @@ unfolding result_at
 result_takes [] x e = absurd cc
 result_takes (b ∷ bs) x e =
     elim (chosen (eqb b 86) _ _ _ e) [
-      | inl (t, e) ↦ subst (TakesResult (b ∷ bs)) (ok_is (None, bs) x e) (ap (λ (c : ℕ). c ∷ bs) (eqb-true b 86 t), tt)
+      | inl (t, e) ↦ given (TakesResult (b ∷ bs)) e (ap (λ (c : ℕ). c ∷ bs) (eqb-true b 86 t), tt)
       | inr (_, e) ↦
           let a = bind_ok (field_at (b ∷ bs)) (λ y. Ok (Some y.0, y.1)) x e in
-          subst (TakesResult (b ∷ bs)) (ok_is (Some a.0.0, a.0.1) x a.2) (field_takes (b ∷ bs) a.0 a.1)
+          given (TakesResult (b ∷ bs)) a.2 (field_takes (b ∷ bs) a.0 a.1)
     ]
 
 result_at-type : (s : List ℕ) (first : ℕ) (others : List ℕ) → s ≡ first ∷ others → eqb first 86 ≡ false → result_at s ≡ (field_at s >>= λ y. Ok (Some y.0, y.1))
@@ -128,9 +129,9 @@ unfolding method_of_text signature_at
 method_only m h = rw (parameters_again 255 m.parameters (result_spelling m.result) h.limit h.parameters, result_again m.result h.result) refl
 
 -- what a reader of a whole text gave, as the public clauses say it
-pub is_found : (bytes : List ℕ) (r : Result Signature DescriptorFault) → Answers r (method_of_text bytes) → IfOk r (λ m. IsMethodType m × (bytes ≡ method_spelling m))
-is_found bytes (Ok m) given = let found = method_found bytes m given in (found.1, found.0)
-is_found bytes (Err e) given = tt
+pub is_found : (bytes : List ℕ) (r : Result Signature (Refusal DescriptorFault)) → Gives (λ x. x) r (method_of_text bytes) → IfOk r (λ m. IsMethodType m × (bytes ≡ method_spelling m))
+is_found bytes (Ok m) read = let found = method_found bytes m read in (found.1, found.0)
+is_found bytes (Err e) read = tt
 
-pub is_only : (bytes : List ℕ) (r : Result Signature DescriptorFault) → Answers r (method_of_text bytes) → (m : Signature) → IsMethodType m → bytes ≡ method_spelling m → Answers r (Ok m)
-is_only bytes r given m h e = subst (λ (read : Result Signature DescriptorFault). Answers r read) (ap method_of_text e ∙ method_only m h) given
+pub is_only : (bytes : List ℕ) (r : Result Signature (Refusal DescriptorFault)) → Gives (λ x. x) r (method_of_text bytes) → (m : Signature) → IsMethodType m → bytes ≡ method_spelling m → Gives (λ x. x) r (Ok m)
+is_only bytes r read m h e = subst (Gives (λ x. x) r) (ap method_of_text e ∙ method_only m h) read

@@ -2,11 +2,13 @@
 use Rattle.std.proofs.Common.{◌≡◌, ℕ, zero, suc, ◌-◌, ◌+◌, ◌≤◌, ◌<◌, Bool, true, false, eqb, List, [], ◌∷◌, ◌++◌, length, get_or, take, drop, Result, Ok, Err, refl, sym, ap, ◌∙◌, append_assoc, length-append, arith}
 use Rattle.std.proofs.lemmas.List.{append-nil, take_all}
 use Rattle.std.proofs.lemmas.Bool.{eq-eqb, eqb-true}
+use Rattle.sequence.specs.declared.refusal.Refusal.{Refusal}
+use Rattle.sequence.specs.declared.refusal.Refusal.TheVariants as refusal
+use Rattle.sequence.specs.Gives.{Fails}
 use Rattle.descriptors.specs.declared.fault.DescriptorFault.{DescriptorFault}
 use Rattle.descriptors.specs.declared.fault.DescriptorFault.TheVariants.{Unfinished, TooManyParameters}
 use Rattle.descriptors.specs.declared.field.FieldType.{FieldType}
-use Rattle.descriptors.specs.Reading.{Fails, field_at, parameters_at, with_front}
-use Rattle.descriptors.proofs.Steps.{fails_like}
+use Rattle.descriptors.specs.Reading.{field_at, parameters_at, with_front}
 
 -- ---- the first step
 
@@ -87,7 +89,8 @@ pub is_unfinished : (front : List FieldType) (s : List ℕ) (total : Result (Lis
 is_unfinished front [] total none so_far = sym so_far.0 ∙ ap (with_front front) (parameters_at-ends (255 - length front))
 is_unfinished front (b ∷ bs) total none so_far = absurd (omega arith)
 
-pub fails : (front : List FieldType) (s : List ℕ) (e : DescriptorFault) (total : Result (List FieldType × List ℕ) DescriptorFault) → 1 ≤ length s → (get_or s 0 0 ≡ 41 → ⊥) → Fails e (field_at s)
+pub fails : (front : List FieldType) (s : List ℕ) (e : Refusal DescriptorFault) (total : Result (List FieldType × List ℕ) DescriptorFault) → 1 ≤ length s → (get_or s 0 0 ≡ 41 → ⊥) → Fails e (field_at s)
     → StillGives front s total → Fails e total
 fails front [] e total some n f so_far = absurd (omega arith)
-fails front (b ∷ bs) e total some n f so_far = fails_like e (field_at (b ∷ bs)) total (λ d h. sym so_far.0 ∙ ap (with_front front) (parameters_at-err (255 - length front) b bs d (ne-eqb b 41 n) h)) f
+fails front (b ∷ bs) refusal.Memory total some n f so_far = tt
+fails front (b ∷ bs) (refusal.Fault d) total some n f so_far = sym so_far.0 ∙ ap (with_front front) (parameters_at-err (255 - length front) b bs d (ne-eqb b 41 n) f)

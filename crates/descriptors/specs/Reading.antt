@@ -1,30 +1,15 @@
 -- Reading a descriptor from the left: the type that it spells, or the first fault.
-use Rattle.std.specs.Prelude.{◌≡◌, ℕ, zero, suc, ◌+◌, List, [], ◌∷◌, ◌++◌, take, drop, Option, Some, None, Result, Ok, Err, ◌==◌, if◌then◌else◌}
+use Rattle.std.specs.Prelude.{ℕ, zero, suc, ◌+◌, List, [], ◌∷◌, ◌++◌, take, drop, Option, Some, None, Result, Ok, Err, ◌==◌, if◌then◌else◌}
 use Rattle.sequence.specs.Gives.{◌>>=◌}
 use Rattle.descriptors.specs.declared.base.BaseType.{BaseType}
 use Rattle.descriptors.specs.declared.fault.DescriptorFault.{DescriptorFault}
-use Rattle.descriptors.specs.declared.fault.DescriptorFault.TheVariants.{Empty, UnknownLetter, Unfinished, TooManyDimensions, BytesLeftOver, LeftOut, TooManyParameters, NoMemory}
+use Rattle.descriptors.specs.declared.fault.DescriptorFault.TheVariants.{Empty, UnknownLetter, Unfinished, TooManyDimensions, BytesLeftOver, LeftOut, TooManyParameters}
 use Rattle.descriptors.specs.declared.field.ElementType.{ElementType}
 use Rattle.descriptors.specs.declared.field.ElementType.TheVariants.{Base, Class}
 use Rattle.descriptors.specs.declared.field.FieldType.{FieldType}
 use Rattle.descriptors.specs.Signature.{Signature}
 use Rattle.descriptors.specs.Letters.{base_of_letter, is_left_out}
 use Rattle.descriptors.specs.ClassName.{is_class_name}
-
--- the fault is the reading's, or memory ran out
-abbrev pub Fails : {Y : Type 0} → DescriptorFault → Result Y DescriptorFault → Type 0
-Fails NoMemory read = Unit {0}
-Fails fault read = read ≡ Err fault
-
--- What a function returned is what reading gives, unless memory ran out.
-abbrev pub Answers : {X : Type 0} → Result X DescriptorFault → Result X DescriptorFault → Type 0
-Answers (Ok x) read = read ≡ Ok x
-Answers (Err e) read = Fails e read
-
--- the same of a function whose value is seen by view
-abbrev pub Gives : {X Y : Type 0} → (X → Y) → Result X DescriptorFault → Result Y DescriptorFault → Type 0
-Gives view (Ok x) read = read ≡ Ok (view x)
-Gives view (Err e) read = Fails e read
 
 -- how many bytes stand before the first ;
 abbrev pub name_len : List ℕ → ℕ

@@ -2,9 +2,7 @@
 
 ghost use Rattle.std.specs.Prelude.{◌≡◌};
 ghost use Rattle.descriptors.specs.Messages.{message_of};
-ghost use Rattle.descriptors.specs.declared.fault.DescriptorFault.TheVariants.{NoMemory};
 
-use std::alloc::{AllocError, AllocFailed};
 use std::error::Error;
 use std::fmt;
 
@@ -28,8 +26,6 @@ pub enum DescriptorFault {
     /// A method has more than 255 parameters. Met when the 256th has been read whole, so a fault within
     /// that one comes first.
     TooManyParameters,
-    /// Memory was refused. It may be met before any fault of the text.
-    NoMemory,
 }
 
 impl DescriptorFault {
@@ -45,7 +41,6 @@ impl DescriptorFault {
             DescriptorFault::BytesLeftOver => "bytes left over behind a descriptor",
             DescriptorFault::LeftOut => "long, float or double in a descriptor",
             DescriptorFault::TooManyParameters => "more than 255 parameters",
-            DescriptorFault::NoMemory => "out of memory",
         }
     }
 }
@@ -57,19 +52,3 @@ impl fmt::Display for DescriptorFault {
 }
 
 impl Error for DescriptorFault {}
-
-impl From<AllocError> for DescriptorFault {
-    ghost from_gives = { λ _ e. e ≡ NoMemory };
-
-    fn from(_error: AllocError) -> DescriptorFault {
-        DescriptorFault::NoMemory
-    }
-}
-
-impl<T: Drop> From<AllocFailed<T>> for DescriptorFault {
-    ghost from_gives = { λ _ e. e ≡ NoMemory };
-
-    fn from(_error: AllocFailed<T>) -> DescriptorFault {
-        DescriptorFault::NoMemory
-    }
-}

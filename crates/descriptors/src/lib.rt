@@ -28,7 +28,7 @@ mod reading;
 mod writing;
 
 pub use base::BaseType;
-pub use class_name::{ClassName, is_class_name};
+pub use class_name::{ClassName, ClassNameKind, is_class_name};
 pub use fault::DescriptorFault;
 pub use field::{ElementType, FieldType};
 pub use laws::{field_text_is_one, method_text_is_one};

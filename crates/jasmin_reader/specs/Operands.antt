@@ -80,9 +80,9 @@ descriptor_kind descriptor.LeftOut = fault.LeftOut
 descriptor_kind other = fault.BadDescriptor
 
 -- want of memory is no fault of the text
-abbrev pub refusal_of : DescriptorFault → Refusal FaultKind
-refusal_of descriptor.NoMemory = refusal.Memory
-refusal_of other = refusal.Fault (descriptor_kind other)
+abbrev pub refusal_of : Refusal DescriptorFault → Refusal FaultKind
+refusal_of refusal.Memory = refusal.Memory
+refusal_of (refusal.Fault fault) = refusal.Fault (descriptor_kind fault)
 
 abbrev pub by_descriptor : {A : Type 0} → Result A DescriptorFault → Result A FaultKind
 by_descriptor (Ok t) = Ok t

@@ -159,14 +159,14 @@ impl FromWord for MemberName {
     }
 }
 
-/// The fault of a word that is no descriptor.
-fn descriptor_error(fault: DescriptorFault) -> LineError
-    ensures { result ≡ refusal_of fault }
+/// The refusal of a word that is no descriptor.
+fn descriptor_error(error: Refusal<DescriptorFault>) -> LineError
+    ensures { result ≡ refusal_of error }
 {
-    match fault {
-        DescriptorFault::NoMemory => Refusal::Memory,
-        DescriptorFault::LeftOut => Refusal::Fault(FaultKind::LeftOut),
-        _ => Refusal::Fault(FaultKind::BadDescriptor),
+    match error {
+        Refusal::Memory => Refusal::Memory,
+        Refusal::Fault(DescriptorFault::LeftOut) => Refusal::Fault(FaultKind::LeftOut),
+        Refusal::Fault(_) => Refusal::Fault(FaultKind::BadDescriptor),
     }
 }
 
@@ -179,7 +179,7 @@ impl FromWord for FieldType {
     fn from_word(alloc: Global, word: &[u8]) -> Result<FieldType, LineError> {
         match parse_field(alloc, word) {
             Ok(field_type) => Ok(field_type),
-            Err(fault) => Err(descriptor_error(fault)),
+            Err(error) => Err(descriptor_error(error)),
         }
     }
 }
@@ -191,7 +191,7 @@ fn signature(alloc: Global, word: &[u8]) -> Result<MethodType, LineError>
 {
     match parse_method(alloc, word) {
         Ok(method_type) => Ok(method_type),
-        Err(fault) => Err(descriptor_error(fault)),
+        Err(error) => Err(descriptor_error(error)),
     }
 }
 

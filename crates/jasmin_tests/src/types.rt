@@ -6,12 +6,12 @@ use descriptors::{
     BaseType, ClassName, DescriptorFault, ElementType, FieldType, MethodType, field_text_is_one,
     method_text_is_one, parse_field, parse_method,
 };
-use sequence::Sequence;
+use sequence::{Refusal, Sequence};
 use std::alloc::{AllocError, Global};
 use std::test::Fail;
 
 /// The parameters `[ILa/B;`.
-fn parameters(alloc: Global) -> Result<Sequence<FieldType>, DescriptorFault>
+fn parameters(alloc: Global) -> Result<Sequence<FieldType>, Refusal<DescriptorFault>>
     ensures { IfOk result (λ parameters. length parameters ≡ 2) }
 {
     let mut parameters = Sequence::new(alloc);
@@ -21,13 +21,17 @@ fn parameters(alloc: Global) -> Result<Sequence<FieldType>, DescriptorFault>
 }
 
 /// The method `([ILa/B;)Z`, by its parts.
-fn made_of_parts(alloc: Global) -> Result<MethodType, DescriptorFault> {
+fn made_of_parts(alloc: Global) -> Result<MethodType, Refusal<DescriptorFault>> {
     let outcome = parse_field(alloc, b"Z")?;
     Ok(MethodType::new(parameters(alloc)?, Some(outcome)))
 }
 
 /// Whether the method is that of the text.
-fn is_of_text(alloc: Global, method: &MethodType, text: &[u8]) -> Result<bool, DescriptorFault> {
+fn is_of_text(
+    alloc: Global,
+    method: &MethodType,
+    text: &[u8],
+) -> Result<bool, Refusal<DescriptorFault>> {
     Ok(*method == parse_method(alloc, text)?)
 }
 
@@ -45,14 +49,14 @@ fn is_boolean(method: &MethodType) -> bool {
 }
 
 /// Whether the method is that of its text, and no other.
-fn is_itself(alloc: Global, method: &MethodType) -> Result<bool, DescriptorFault> {
+fn is_itself(alloc: Global, method: &MethodType) -> Result<bool, Refusal<DescriptorFault>> {
     Ok(is_of_text(alloc, method, b"([ILa/B;)Z")? && !is_of_text(alloc, method, b"([ILa/B;)V")?)
 }
 
 #[test]
 fn a_method_of_parts(rt: HostRuntime) -> Result<(), Fail> {
     let method = made_of_parts(rt.alloc())?;
-    assert!(rt; is_boolean(&method) && is_itself(rt.alloc(), &method) == Ok(true));
+    assert!(rt; is_boolean(&method) && is_itself(rt.alloc(), &method)?);
     field_text_is_one();
     method_text_is_one();
     Ok(())

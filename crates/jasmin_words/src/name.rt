@@ -1,89 +1,29 @@
 //! Names of members, and labels.
 
-ghost use Rattle.std.specs.Prelude.{◌≡◌, IfOk};
-ghost use Rattle.std.specs.Option.{SomeIff};
+ghost use Rattle.std.specs.Prelude.{◌≡◌};
 ghost use Rattle.std.specs.List.{list_all};
 ghost use Rattle.std.specs.Str.{bytes_eq};
-ghost use Rattle.jasmin_words.specs.Names.{is_name_byte, is_member_name, IsMemberName};
+ghost use Rattle.jasmin_words.specs.Names.{is_name_byte, is_member_name};
 ghost use Rattle.jasmin_words.specs.Names.{is_label as may_be_label};
 
-use sequence::Text;
-use std::alloc::{AllocError, Global};
-use std::marker::Model;
+use sequence::{Name, NameKind};
 
 /// The name of a field or a method (JVMS SE 8 4.2.2).
 ///
 /// A name is `<init>`, `<clinit>`, or one byte or more, each from 33 to 126 and none of `.` `;` `[` `/` `(`
 /// `)` `<` `>`, nor of `"` `=` `:`, which no word has. Contracts see a name as its bytes.
+pub type MemberName = Name<MemberNameKind>;
+
+/// The kind of names that fields and methods have. See [`MemberName`].
 #[derive(Debug, Drop)]
-pub struct MemberName {
-    text: Text,
-}
+pub enum MemberNameKind {}
 
-impl Model for MemberName {
-    ghost use Rattle.std.specs.Prelude.{List, ℕ};
-    ghost use Rattle.jasmin_words.specs.Names.{IsMemberName};
+impl NameKind for MemberNameKind {
+    ghost is_name = { is_member_name };
 
-    ghost Value = { List ℕ };
-
-    ghost view = { λ n. n.text };
-
-    ghost invariant = { λ n. IsMemberName n.text };
-}
-
-impl MemberName {
-    /// The name with these bytes, or `None` where they are no name. An `Err` is want of memory.
-    pub fn parse(alloc: Global, bytes: &[u8]) -> Result<Option<Self>, AllocError>
-        ensures { IfOk result (λ name. SomeIff name (IsMemberName bytes.now) bytes.now) }
-    {
-        if !is_name(bytes) {
-            return Ok(None);
-        }
-        let text = Text::copied(alloc, bytes)?;
-        Ok(Some(MemberName { text }))
+    fn is_name(bytes: &[u8]) -> bool {
+        is_name(bytes)
     }
-
-    /// The bytes of the name.
-    pub fn as_slice(&self) -> &[u8]
-        ensures bytes { result.now ≡ self.now }
-        ensures name { IsMemberName self.now }
-    {
-        self.text.as_slice()
-    }
-}
-
-impl Clone for MemberName {
-    fn clone(&self) -> Result<Self, AllocError>
-        ensures { IfOk result (λ name. name ≡ self.now) }
-    {
-        let text = self.text.clone()?;
-        Ok(MemberName { text })
-    }
-}
-
-impl PartialEq for MemberName {
-    ghost use Rattle.std.specs.Prelude.{◌≡◌, ◌↔◌, IsTrue, nat_eq};
-    ghost use Rattle.std.specs.Cmp.Lexicographic.{pointwise};
-    ghost use Rattle.std.specs.Cmp.Rules.{comparing};
-    ghost use Rattle.std.proofs.Common.{rules};
-
-    ghost eq = { pointwise nat_eq };
-
-    ghost laws = { Prim.search (comparing, rules) };
-
-    fn eq(&self, other: &Self) -> bool
-        ensures value { result ≡ pointwise nat_eq self.now other.now }
-        ensures same { IsTrue result ↔ (self.now ≡ other.now) }
-    {
-        self.text == other.text
-    }
-}
-
-impl Eq for MemberName {
-    ghost use Rattle.std.specs.Cmp.Rules.{comparing};
-    ghost use Rattle.std.proofs.Common.{rules};
-
-    ghost laws = { Prim.search (comparing, rules) };
 }
 
 /// Whether two texts have the same bytes. Takes no memory.

@@ -3,7 +3,7 @@
 //! A [`Sequence`] is a `Vec` without its capacity and its allocator: two sequences are equal in a contract
 //! where they have the same elements in the same order. Class texts, linked classes and events hold
 //! their parts in sequences, so that a contract can compare whole values with `≡` and name no view
-//! function. A [`Text`] is a sequence of bytes.
+//! function. A [`Text`] is a sequence of bytes, and a [`Name`] a text that is a name of some [`NameKind`].
 //!
 //! A sequence is made of a `Vec` and gives it back without taking memory.
 //!
@@ -13,8 +13,10 @@
 
 ghost use Rattle.std.specs.Prelude.{◌≡◌, ◌++◌, ◌∷◌, [], length, IfOk, IsTrue, OnErr, OnOk, ◌↔◌};
 
+mod name;
 mod refusal;
 
+pub use name::{Name, NameKind};
 pub use refusal::Refusal;
 use std::alloc::{AllocError, AllocFailed, Global};
 use std::marker::Model;

@@ -1,0 +1,103 @@
+//! Texts that are names of some kind.
+
+ghost use Rattle.std.specs.Prelude.{◌≡◌, ◌↔◌, Bool, IfOk, IsTrue, List, ℕ, true};
+ghost use Rattle.std.specs.Option.{SomeIff};
+
+use crate::Text;
+use std::alloc::{AllocError, Global};
+use std::marker::{Model, PhantomData};
+
+/// A kind of names: which bytes are one.
+pub trait NameKind {
+    /// Which bytes are a name.
+    ghost is_name: { List ℕ → Bool };
+
+    /// Whether the bytes are a name of this kind. Takes no memory.
+    fn is_name(bytes: &[u8]) -> bool
+        ensures { result ≡ is_name bytes.now };
+}
+
+/// A text that is a name of the kind `K`. Contracts see a name as its bytes.
+#[derive(Debug, Drop)]
+pub struct Name<K: NameKind> {
+    text: Text,
+    kind: PhantomData<K>,
+}
+
+impl<K: NameKind> Model for Name<K> {
+    ghost use Rattle.std.specs.Prelude.{◌≡◌, List, ℕ, true};
+
+    ghost Value = { List ℕ };
+
+    ghost view = { λ n. n.text };
+
+    ghost invariant = { λ n. K.is_name n.text ≡ true };
+}
+
+impl<K: NameKind> Name<K> {
+    /// The name with these bytes, or `None` where they are no name. An `Err` is want of memory.
+    pub fn parse(alloc: Global, bytes: &[u8]) -> Result<Option<Self>, AllocError>
+        ensures { IfOk result (λ name. SomeIff name (K.is_name bytes.now ≡ true) bytes.now) }
+    {
+        if !K::is_name(bytes) {
+            return Ok(None);
+        }
+        let text = Text::copied(alloc, bytes)?;
+        Ok(Some(Name {
+            text,
+            kind: PhantomData,
+        }))
+    }
+
+    /// The bytes of the name are those of a name.
+    pub fn is_name(&self)
+        ensures { K.is_name self.now ≡ true }
+    {
+        let _ = &self.text;
+    }
+
+    /// The bytes of the name.
+    pub fn as_slice(&self) -> &[u8]
+        ensures bytes { result.now ≡ self.now }
+        ensures name { K.is_name self.now ≡ true }
+    {
+        self.text.as_slice()
+    }
+}
+
+impl<K: NameKind> Clone for Name<K> {
+    fn clone(&self) -> Result<Self, AllocError>
+        ensures { IfOk result (λ name. name ≡ self.now) }
+    {
+        let text = self.text.clone()?;
+        Ok(Name {
+            text,
+            kind: PhantomData,
+        })
+    }
+}
+
+impl<K: NameKind> PartialEq for Name<K> {
+    ghost use Rattle.std.specs.Prelude.{◌≡◌, ◌↔◌, IsTrue, nat_eq};
+    ghost use Rattle.std.specs.Cmp.Lexicographic.{pointwise};
+    ghost use Rattle.std.specs.Cmp.Rules.{comparing};
+    ghost use Rattle.std.proofs.Common.{rules};
+
+    ghost eq = { pointwise nat_eq };
+
+    ghost laws = { Prim.search (comparing, rules) };
+
+    fn eq(&self, other: &Self) -> bool
+        ensures value { result ≡ pointwise nat_eq self.now other.now }
+        ensures same { IsTrue result ↔ (self.now ≡ other.now) }
+    {
+        self.text == other.text
+    }
+}
+
+impl<K: NameKind> Eq for Name<K> {
+    ghost use Rattle.std.specs.Cmp.Rules.{comparing};
+    ghost use Rattle.std.proofs.Common.{rules};
+
+    ghost laws = { Prim.search (comparing, rules) };
+}
