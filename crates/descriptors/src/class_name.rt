@@ -13,7 +13,7 @@ pub type ClassName = Name<ClassNameKind>;
 
 /// The kind of names that classes and interfaces have. See [`ClassName`].
 #[derive(Debug, Drop)]
-pub enum ClassNameKind {}
+pub struct ClassNameKind;
 
 impl NameKind for ClassNameKind {
     ghost use Rattle.descriptors.specs.ClassName.{is_class_name};

@@ -16,7 +16,7 @@ pub type MemberName = Name<MemberNameKind>;
 
 /// The kind of names that fields and methods have. See [`MemberName`].
 #[derive(Debug, Drop)]
-pub enum MemberNameKind {}
+pub struct MemberNameKind;
 
 impl NameKind for MemberNameKind {
     ghost is_name = { is_member_name };
