@@ -56,7 +56,7 @@ is_none_of None e = refl
 is_none_of (Some x) e = absurd cc
 
 -- two guards, and what they guard
-passed : (k : FaultKind) (a b : Bool) (y last : Reader) (rows : List Row) → ((allowed a >>= λ _. (cond {A = Result (Unit {0}) FaultKind} b (Ok tt) (Err k)) >>= λ _. done y) >>= λ s. rows_at s rows) ≡ Ok last
+passed : (k : FaultKind) (a b : Bool) (y last : Reader) (rows : List Row) → (((allowed a >>= λ _. cond {A = Result (Unit {0}) FaultKind} b (Ok tt) (Err k)) >>= λ _. done y) >>= λ s. rows_at s rows) ≡ Ok last
     → (a ≡ true) × (b ≡ true) × (rows_at y rows ≡ Ok last)
 passed k true true y last rows e = (refl, refl, e)
 passed k a b y last rows e = absurd cc

@@ -1,41 +1,37 @@
 -- Lines that begin with a directive, and their rows. Both ways.
-use Rattle.std.proofs.Common.{◌≡◌, ℕ, Bool, true, false, not, cond, List, [], ◌∷◌, ◌++◌, length, Option, Some, None, is_none, Result, Ok, Err, refl, sym, ap, subst, ◌∙◌, codes}
-use Rattle.std.specs.Prelude.{nat_lt}
+use Rattle.std.proofs.Common.{◌≡◌, ℕ, Bool, true, false, not, cond, List, [], ◌∷◌, Option, Some, None, Result, Ok, refl, sym, ap, subst, ◌∙◌, codes}
 use Rattle.std.specs.List.{list_all}
 use Rattle.std.proofs.lemmas.Bool.{and_from, not-true}
 use Rattle.std.proofs.lemmas.Slice.Eq.{bytes_eq-Decides}
 use Rattle.std.specs.Str.{bytes_eq}
-use Rattle.descriptors.specs.ClassName.{is_class_name}
+use Rattle.descriptors.specs.ClassName.{is_class_name, IsClassName}
 use Rattle.jasmin_words.specs.declared.fault.FaultKind.{FaultKind}
 use Rattle.jasmin_words.specs.declared.fault.FaultKind.TheVariants as fault
 use Rattle.sequence.specs.Gives.{◌>>=◌}
-use Rattle.sequence.proofs.Results.{bind_ok, carried, done, given, test_passed, then}
+use Rattle.sequence.proofs.Results.{bind_ok, done, given, test_passed, then}
 use Rattle.jasmin_words.specs.Lexing.{Item, Word, fits}
 use Rattle.jasmin_words.specs.Spelling.{AreWords}
 use Rattle.jasmin_words.specs.Names.{is_label}
 use Rattle.jasmin_text.specs.Forms.{directive_at, directives}
-use Rattle.jasmin_text.specs.Grammar.{IsCaught, all, class as a_class, AreRowsOf, skipped, of_words, super, implements, end, stack, locals, catch, Row, ClassRow, SuperRow, ImplementsRow, FieldRow, MethodRow, EndRow, StackRow, LocalsRow, CatchRow}
+use Rattle.jasmin_text.specs.Grammar.{IsCaught, all, class as a_class, IsRow, AreRowsOf, skipped, of_words, super, implements, end, stack, locals, catch, Row, ClassRow, SuperRow, ImplementsRow, FieldRow, MethodRow, EndRow, StackRow, LocalsRow, CatchRow}
 use Rattle.jasmin_text.specs.Spellable.{is_taken}
 use Rattle.jasmin_text.specs.declared.class_text.ClassKind.{ClassKind}
 use Rattle.jasmin_text.specs.declared.class_text.ClassKind.TheVariants as kind
 use Rattle.jasmin_text.specs.declared.form.Directive.{Directive}
 use Rattle.jasmin_text.specs.declared.form.Directive.TheVariants as directive
 use Rattle.jasmin_reader.specs.declared.body.Body.{Body}
-use Rattle.jasmin_reader.specs.declared.body.Catch.{Catch}
-use Rattle.jasmin_reader.specs.declared.head.HeadWords.{HeadWords}
-use Rattle.jasmin_reader.specs.declared.head.Place.{Place}
 use Rattle.jasmin_reader.specs.declared.head.Place.TheVariants as place
 use Rattle.jasmin_reader.specs.declared.reader.Reader.{Reader}
 use Rattle.jasmin_reader.specs.Places.{word_of, next_word, operand, ended_at, first_word}
 use Rattle.jasmin_reader.specs.Operands.{label_in, class_name_in, limit_in, last_operand}
 use Rattle.jasmin_reader.specs.Heads.{class_from, field_from, method_from}
-use Rattle.jasmin_reader.specs.Bodies.{outside_switch, limit_by, limit_at, caught_in, keyword_in, label_behind, catch_from, catch_at, end_from, closed}
-use Rattle.jasmin_reader.specs.Reading.{allowed, has_room_for, is_in_class, is_in_header, member_room, class_line, super_line, implements_line, field_line, empty_body, method_line, in_body, ended_by, end_line, directive_line}
+use Rattle.jasmin_reader.specs.Bodies.{outside_switch, limit_by, limit_from, caught_in, keyword_in, label_behind, catch_from, with_setting, end_from, closed}
+use Rattle.jasmin_reader.specs.Reading.{may_stand, said_in, with_row, in_body, ended_by, end_line, directive_line}
 use Rattle.jasmin_reader.proofs.AccessWords.{first_is}
 use Rattle.jasmin_reader.proofs.GoodRows.{is_headed, rows_headed}
 use Rattle.jasmin_reader.proofs.Heads.{IsHeadedRow, class_taken, interface_taken, field_taken, method_taken}
 use Rattle.jasmin_reader.proofs.OperandForms.{ended_ok, operand_ok, last_ok, checked_last}
-use Rattle.jasmin_reader.proofs.RowSteps.{body_row, body_rows, is_body_row, row_at, rows_at, one_row, lifted}
+use Rattle.jasmin_reader.proofs.RowSteps.{body_row, body_rows, is_body_row, row_at, rows_at, one_row, lifted, set_in_body}
 use Rattle.jasmin_reader.proofs.Words.{checked_ok, number_ok, AllRows, find_ok}
 
 -- ---- what a line says
@@ -70,49 +66,28 @@ in_body_ok r s items add h (Some b) p e =
     let t = h b one.0 one.1 in
     record { rows = t.rows; is_row = t.is_row; does = lifted t.rows t.are r b one.0 p t.does ∙ one.2; headed = rows_headed t.rows t.are }
 
--- a guard, and a part that is read behind it
-passed : {A S : Type 0} (g : Result (Unit {0}) FaultKind) (p : Result A FaultKind) (f : A → S) (s : S) → (g >>= λ _. p >>= λ x. Ok (f x)) ≡ Ok s → (x : A) × (p ≡ Ok x) × ((g >>= λ _. done (f x)) ≡ Ok s)
-passed (Ok u) p f s e = bind_ok p _ s e
-passed (Err k) p f s e = absurd cc
-
-passed_two : {A S : Type 0} (g h : Result (Unit {0}) FaultKind) (p : Result A FaultKind) (f : A → S) (s : S) → (g >>= λ _. h >>= λ _. p >>= λ x. Ok (f x)) ≡ Ok s → (x : A) × (p ≡ Ok x) × ((g >>= λ _. h >>= λ _. done (f x)) ≡ Ok s)
-passed_two (Ok u) h p f s e = passed h p f s e
-passed_two (Err k) h p f s e = absurd cc
-
 -- ---- outside of methods
 
-class_ok : (p : Place) (word : List ℕ) (r s : Reader) (items : List Item) → ((c : HeadWords × List ℕ) → class_from p items ≡ Ok c → IsHeadedRow (Word word ∷ items) (ClassRow c.0.kind c.0.access c.1))
-    → class_line p r items ≡ Ok s → Says r (Word word ∷ items) s
-unfolding class_line
-class_ok p word r s items row e =
-    let c = passed (allowed (is_none r.class)) (class_from p items) (λ c. record r { class = Some c }) s e in
-    said r s (Word word ∷ items) (ClassRow c.0.0.kind c.0.0.access c.0.1) (row c.0 c.1) c.2
+-- a line of the grammar, and what its row does
+abbrev Taken : Reader → Directive → List Item → Row → Type 0
+Taken r d items row = IsHeadedRow items row × (row_at r row ≡ (may_stand r d >>= λ _. done (with_row r row)))
 
-super_ok : (r s : Reader) (items : List Item) → super_line r items ≡ Ok s → Says r (Word (codes ".super") ∷ items) s
-unfolding super_line
-super_ok r s items e =
-    let name = passed_two (allowed (is_in_header r)) (allowed (is_none r.superclass)) (last_operand class_name_in items) (λ name. record r { superclass = Some name }) s e in
-    let a = checked_last is_class_name items name.0 name.1 in
-    said r s (Word (codes ".super") ∷ items) (SuperRow name.0) (subst (λ (l : List Item). AreRowsOf (Word (codes ".super") ∷ l) (SuperRow name.0 ∷ [])) (sym a.0) (of_words (refl, (a.2, tt)) (super a.1)), refl) name.2
+said_ok : (d : Directive) (r s : Reader) (items : List Item) (read : Result Row FaultKind) → ((row : Row) → read ≡ Ok row → Taken r d items row) → (may_stand r d >>= λ _. read >>= λ row. done (with_row r row)) ≡ Ok s → Says r items s
+said_ok d r s items read is e =
+    let one = bind_ok (may_stand r d) _ s e in
+    let two = bind_ok read (λ row. done (with_row r row)) s one.2 in
+    let t = is two.0 two.1 in
+    said r s items two.0 t.0 (t.1 ∙ then (may_stand r d) _ one.0 s one.1 two.2)
 
-implements_ok : (r s : Reader) (items : List Item) → implements_line r items ≡ Ok s → Says r (Word (codes ".implements") ∷ items) s
-unfolding implements_line
-implements_ok r s items e =
-    let name = passed_two (allowed (is_in_header r)) (has_room_for (nat_lt (length r.interfaces) 255)) (last_operand class_name_in items) (λ name. record r { interfaces = r.interfaces ++ name ∷ [] }) s e in
-    let a = checked_last is_class_name items name.0 name.1 in
-    said r s (Word (codes ".implements") ∷ items) (ImplementsRow name.0) (subst (λ (l : List Item). AreRowsOf (Word (codes ".implements") ∷ l) (ImplementsRow name.0 ∷ [])) (sym a.0) (of_words (refl, (a.2, tt)) (implements a.1)), refl) name.2
+-- what holds of each row that is made so
+made : {A : Type 0} (P : Row → Type 0) (p : Result A FaultKind) (row : A → Row) → ((x : A) → p ≡ Ok x → P (row x)) → (y : Row) → (p >>= λ x. done (row x)) ≡ Ok y → P y
+made P p row h y e = let x = bind_ok p _ y e in given P x.2 (h x.0 x.1)
 
-field_ok : (r s : Reader) (items : List Item) → field_line r items ≡ Ok s → Says r (Word (codes ".field") ∷ items) s
-unfolding field_line
-field_ok r s items e =
-    let f = passed_two (allowed (is_in_class r)) (has_room_for (member_room r)) (field_from items) (λ f. record r { fields = r.fields ++ f ∷ [] }) s e in
-    said r s (Word (codes ".field") ∷ items) (FieldRow f.0) (field_taken items f.0 f.1) f.2
-
-method_ok : (r s : Reader) (items : List Item) → method_line r items ≡ Ok s → Says r (Word (codes ".method") ∷ items) s
-unfolding method_line
-method_ok r s items e =
-    let m = passed_two (allowed (is_in_class r)) (has_room_for (member_room r)) (method_from items) (λ m. record r { body = Some (empty_body m.0 m.1.0 m.1.1) }) s e in
-    said r s (Word (codes ".method") ∷ items) (MethodRow m.0.0 m.0.1.0 m.0.1.1) (method_taken items m.0 m.1) m.2
+-- a line with the name of a class
+name_ok : (w : List ℕ) (row : List ℕ → Row) (items : List Item) (name : List ℕ) → fits w ≡ true → last_operand class_name_in items ≡ Ok name → (IsClassName name → IsRow (Word w ∷ Word name ∷ []) (row name ∷ [])) → AreRowsOf (Word w ∷ items) (row name ∷ [])
+name_ok w row items name fit e is =
+    let a = checked_last is_class_name items name e in
+    subst (λ (l : List Item). AreRowsOf (Word w ∷ l) (row name ∷ [])) (sym a.0) (of_words (fit, (a.2, tt)) (is a.1))
 
 -- an access word stands before no name
 pub untaken : (k : ClassKind) (name : List ℕ) → not (is_taken k name) ≡ true → is_taken kind.Interface name ≡ false
@@ -129,23 +104,21 @@ next_ok : (items : List Item) (w : List ℕ × List Item) → next_word items �
 next_ok [] w e = absurd cc
 next_ok (t ∷ rest) w e = let one = bind_ok (word_of t) _ w e in given (λ (w : List ℕ × List Item). t ∷ rest ≡ Word w.0 ∷ w.1) one.2 (ap (λ (i : Item). i ∷ rest) (first_is fault.BadOperand t one.0 one.1))
 
-limit_by_ok : (b c : Body) (w : List ℕ) (rest : List Item) (s t : Bool) → outside_switch b ≡ Ok tt → bytes_eq w (codes "stack") ≡ s → bytes_eq w (codes "locals") ≡ t → limit_by b s t rest ≡ Ok c → BodySays b (Word (codes ".limit") ∷ Word w ∷ rest) c
-limit_by_ok b c w rest true t out p q e =
-    let n = bind_ok (last_operand limit_in rest) _ c e in
-    let a = last_ok limit_in rest n.0 n.1 in
-    rw ((bytes_eq-Decides w (codes "stack")).0 p, a.parts) (one_said b c (StackRow n.0) (of_words (refl, (refl, (a.short, tt))) (stack (number_ok 0 1024 fault.LimitExceeded a.word n.0 a.value))) refl (then (outside_switch b) _ tt c out n.2))
-limit_by_ok b c w rest false true out p q e =
-    let n = bind_ok (last_operand limit_in rest) _ c e in
-    let a = last_ok limit_in rest n.0 n.1 in
-    rw ((bytes_eq-Decides w (codes "locals")).0 q, a.parts) (one_said b c (LocalsRow n.0) (of_words (refl, (refl, (a.short, tt))) (locals (number_ok 0 1024 fault.LimitExceeded a.word n.0 a.value))) refl (then (outside_switch b) _ tt c out n.2))
-limit_by_ok b c w rest false false out p q e = absurd cc
-
-limit_ok : (b c : Body) (items : List Item) → limit_at b items ≡ Ok c → BodySays b (Word (codes ".limit") ∷ items) c
-unfolding limit_at
-limit_ok b c items e =
-    let out = bind_ok (outside_switch b) _ c e in
-    let w = bind_ok (next_word items) _ c out.2 in
-    rw (next_ok items w.0 w.1) (limit_by_ok b c w.0.0 w.0.1 _ _ out.1 refl refl w.2)
+limit_ok : (r : Reader) (items : List Item) (row : Row) → limit_from items ≡ Ok row → Taken r directive.Limit (Word (codes ".limit") ∷ items) row
+limit_ok r items row e =
+    let w = bind_ok (next_word items) _ row e in
+    rw (next_ok items w.0 w.1) (by w.0.0 w.0.1 _ _ refl refl w.2)
+  where
+    by : (w : List ℕ) (rest : List Item) (s t : Bool) → bytes_eq w (codes "stack") ≡ s → bytes_eq w (codes "locals") ≡ t → limit_by s t rest ≡ Ok row → Taken r directive.Limit (Word (codes ".limit") ∷ Word w ∷ rest) row
+    by w rest true t p q e =
+        let n = bind_ok (last_operand limit_in rest) _ row e in
+        let a = last_ok limit_in rest n.0 n.1 in
+        rw ((bytes_eq-Decides w (codes "stack")).0 p, a.parts) (given (Taken r directive.Limit _) n.2 ((of_words (refl, (refl, (a.short, tt))) (stack (number_ok 0 1024 fault.LimitExceeded a.word n.0 a.value)), refl), set_in_body r (λ b. with_setting b (StackRow n.0)) r.body))
+    by w rest false true p q e =
+        let n = bind_ok (last_operand limit_in rest) _ row e in
+        let a = last_ok limit_in rest n.0 n.1 in
+        rw ((bytes_eq-Decides w (codes "locals")).0 q, a.parts) (given (Taken r directive.Limit _) n.2 ((of_words (refl, (refl, (a.short, tt))) (locals (number_ok 0 1024 fault.LimitExceeded a.word n.0 a.value)), refl), set_in_body r (λ b. with_setting b (LocalsRow n.0)) r.body))
+    by w rest false false p q e = absurd cc
 
 -- ---- handler tables
 
@@ -173,9 +146,9 @@ behind_ok keyword items x e =
     let same = (bytes_eq-Decides a.word keyword).0 (test_passed (bytes_eq a.word keyword) tt fault.BadOperand one.0.0 a.value).0 in
     (cc (a.parts, same, b.parts, c.1), c.0, rw (← c.1) b.short)
 
-row_ok : (items : List Item) (x : Catch) → catch_from items ≡ Ok x → AreRowsOf (Word (codes ".catch") ∷ items) (CatchRow x.class x.from x.to x.handler ∷ [])
+catch_ok : (r : Reader) (items : List Item) (row : Row) → catch_from items ≡ Ok row → Taken r directive.Catch (Word (codes ".catch") ∷ items) row
 unfolding catch_from
-row_ok items x e =
+catch_ok r items x e =
     let one = bind_ok (operand caught_in items) _ x e in
     let two = bind_ok (label_behind (codes "from") one.0.1) _ x one.2 in
     let three = bind_ok (label_behind (codes "to") two.0.1) _ x two.2 in
@@ -187,22 +160,15 @@ row_ok items x e =
     let d = behind_ok (codes "using") three.0.1 four.0 four.1 in
     let ends = ended_ok four.0.1 five.0 five.1 in
     let parts : items ≡ Word a.word ∷ Word (codes "from") ∷ Word two.0.0 ∷ Word (codes "to") ∷ Word three.0.0 ∷ Word (codes "using") ∷ Word four.0.0 ∷ [] = cc (a.parts, b.0, c.0, d.0, ends) in
-    given (λ (y : Catch). AreRowsOf (Word (codes ".catch") ∷ items) (CatchRow y.class y.from y.to y.handler ∷ [])) five.2
-    (subst (λ (l : List Item). AreRowsOf (Word (codes ".catch") ∷ l) (CatchRow one.0.0 two.0.0 three.0.0 four.0.0 ∷ [])) (sym parts) (of_words (refl, (a.short, (refl, (b.2, (refl, (c.2, (refl, (d.2, tt)))))))) (catch (caught_ok a.word one.0.0 a.value) b.1 c.1 d.1)))
-
-catch_ok : (b c : Body) (items : List Item) → catch_at b items ≡ Ok c → BodySays b (Word (codes ".catch") ∷ items) c
-unfolding catch_at
-catch_ok b c items e =
-    let out = bind_ok (outside_switch b) _ c e in
-    let x = bind_ok (catch_from items) _ c out.2 in
-    one_said b c (CatchRow x.0.class x.0.from x.0.to x.0.handler) (row_ok items x.0 x.1) refl (then (outside_switch b) _ tt c out.1 x.2)
+    given (Taken r directive.Catch (Word (codes ".catch") ∷ items)) five.2
+    ((subst (λ (l : List Item). AreRowsOf (Word (codes ".catch") ∷ l) (CatchRow one.0.0 two.0.0 three.0.0 four.0.0 ∷ [])) (sym parts) (of_words (refl, (a.short, (refl, (b.2, (refl, (c.2, (refl, (d.2, tt)))))))) (catch (caught_ok a.word one.0.0 a.value) b.1 c.1 d.1)), refl), set_in_body r (λ b. with_setting b (CatchRow one.0.0 two.0.0 three.0.0 four.0.0)) r.body)
 
 caught_read : (w : List ℕ) (c : Option (List ℕ)) → IsCaught w c → caught_in w ≡ Ok c
 caught_read w c all = refl
 caught_read w c (a_class {name} other h) = rw (other, h) refl
 
 pub row_read : (w from to using : List ℕ) (c : Option (List ℕ)) → IsCaught w c → is_label from ≡ true → is_label to ≡ true → is_label using ≡ true
-    → AreWords (Word w ∷ Word from ∷ Word to ∷ Word using ∷ []) → catch_from (Word w ∷ Word (codes "from") ∷ Word from ∷ Word (codes "to") ∷ Word to ∷ Word (codes "using") ∷ Word using ∷ []) ≡ Ok (record { class = c; from = from; to = to; handler = using })
+    → AreWords (Word w ∷ Word from ∷ Word to ∷ Word using ∷ []) → catch_from (Word w ∷ Word (codes "from") ∷ Word from ∷ Word (codes "to") ∷ Word to ∷ Word (codes "using") ∷ Word using ∷ []) ≡ Ok (CatchRow c from to using)
 unfolding catch_from
 row_read w from to using c h i j k fit = rw (caught_read w c h, fit.0, i, fit.1.0, j, fit.1.1.0, k, fit.1.1.1.0) refl
 
@@ -257,20 +223,15 @@ unfolding directive_at
 directive_is w d e = find_ok IsDirectiveRow w directives d directive_rows e
 
 pub directive_ok : (r s : Reader) (w : List ℕ) (d : Directive) (rest : List Item) → directive_at w ≡ Some d → directive_line r d rest ≡ Ok s → Says r (Word w ∷ rest) s
-unfolding directive_line
-directive_ok r s w directive.Class rest p e = rw (directive_is w directive.Class p) (class_ok place.Class (codes ".class") r s rest (class_taken rest) e)
-directive_ok r s w directive.Interface rest p e = rw (directive_is w directive.Interface p) (class_ok place.Interface (codes ".interface") r s rest (interface_taken rest) e)
-directive_ok r s w directive.Super rest p e = rw (directive_is w directive.Super p) (super_ok r s rest e)
-directive_ok r s w directive.Implements rest p e = rw (directive_is w directive.Implements p) (implements_ok r s rest e)
-directive_ok r s w directive.Field rest p e = rw (directive_is w directive.Field p) (field_ok r s rest e)
-directive_ok r s w directive.Method rest p e = rw (directive_is w directive.Method p) (method_ok r s rest e)
+unfolding directive_line said_in
+directive_ok r s w directive.Class rest p e = rw (directive_is w directive.Class p) (said_ok directive.Class r s _ _ (made (Taken r directive.Class _) (class_from place.Class rest) (λ c. ClassRow c.0.kind c.0.access c.1) (λ c h. (class_taken rest c h, refl))) e)
+directive_ok r s w directive.Interface rest p e = rw (directive_is w directive.Interface p) (said_ok directive.Interface r s _ _ (made (Taken r directive.Interface _) (class_from place.Interface rest) (λ c. ClassRow c.0.kind c.0.access c.1) (λ c h. (interface_taken rest c h, refl))) e)
+directive_ok r s w directive.Super rest p e = rw (directive_is w directive.Super p) (said_ok directive.Super r s _ _ (made (Taken r directive.Super _) (last_operand class_name_in rest) SuperRow (λ name h. ((name_ok (codes ".super") SuperRow rest name refl h super, refl), refl))) e)
+directive_ok r s w directive.Implements rest p e = rw (directive_is w directive.Implements p) (said_ok directive.Implements r s _ _ (made (Taken r directive.Implements _) (last_operand class_name_in rest) ImplementsRow (λ name h. ((name_ok (codes ".implements") ImplementsRow rest name refl h implements, refl), refl))) e)
+directive_ok r s w directive.Field rest p e = rw (directive_is w directive.Field p) (said_ok directive.Field r s _ _ (made (Taken r directive.Field _) (field_from rest) FieldRow (λ f h. (field_taken rest f h, refl))) e)
+directive_ok r s w directive.Method rest p e = rw (directive_is w directive.Method p) (said_ok directive.Method r s _ _ (made (Taken r directive.Method _) (method_from rest) (λ m. MethodRow m.0 m.1.0 m.1.1) (λ m h. (method_taken rest m h, refl))) e)
+directive_ok r s w directive.Limit rest p e = rw (directive_is w directive.Limit p) (said_ok directive.Limit r s _ _ (limit_ok r rest) e)
+directive_ok r s w directive.Catch rest p e = rw (directive_is w directive.Catch p) (said_ok directive.Catch r s _ _ (catch_ok r rest) e)
 directive_ok r s w directive.End rest p e = rw (directive_is w directive.End p) (end_ok r s rest e)
-directive_ok r s w directive.Limit rest p e = rw (directive_is w directive.Limit p) (in_body_ok r s (Word (codes ".limit") ∷ rest) (λ b. limit_at b rest) (λ b c h. limit_ok b c rest h) r.body refl e)
-directive_ok r s w directive.Catch rest p e = rw (directive_is w directive.Catch p) (in_body_ok r s (Word (codes ".catch") ∷ rest) (λ b. catch_at b rest) (λ b c h. catch_ok b c rest h) r.body refl e)
 directive_ok r s w directive.Skipped rest p e = record { rows = []; is_row = skipped p; does = e; headed = refl }
 directive_ok r s w directive.LeftOut rest p e = absurd cc
-
--- what a line adds to the method that stands open
-pub in_body_said : (r s : Reader) (o : Option Body) (f g : Body → Result Body FaultKind) → ((b c : Body) → f b ≡ Ok c → g b ≡ Ok c) → in_body r o f ≡ Ok s → in_body r o g ≡ Ok s
-in_body_said r s (Some b) f g h e = carried (f b) (g b) (λ c. Ok (record r { body = Some c })) s (h b) e
-in_body_said r s None f g h e = absurd cc

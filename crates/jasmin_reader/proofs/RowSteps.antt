@@ -1,13 +1,14 @@
 -- What a row of the grammar does to what is read.
-use Rattle.std.proofs.Common.{◌≡◌, ℕ, ◌-◌, Bool, true, false, List, [], ◌∷◌, ◌++◌, length, Option, Some, None, is_none, is_some, Result, Ok, Err, ℤ, refl, ap, ◌∙◌}
+use Rattle.std.proofs.Common.{◌≡◌, ℕ, ◌-◌, Bool, true, false, List, [], ◌∷◌, ◌++◌, Option, Some, None, is_some, Result, Ok, Err, ℤ, refl, ap, ◌∙◌}
 use Rattle.std.proofs.lemmas.Bool.{and_parts}
-use Rattle.std.specs.Prelude.{nat_lt}
 use Rattle.std.specs.List.{list_all}
+use Rattle.std.specs.Option.{option_map}
 use Rattle.jasmin_words.specs.declared.fault.FaultKind.{FaultKind}
 use Rattle.jasmin_words.specs.declared.fault.FaultKind.TheVariants as fault
 use Rattle.sequence.specs.Gives.{◌>>=◌}
-use Rattle.sequence.proofs.Results.{bind_ok, given}
+use Rattle.sequence.proofs.Results.{bind_ok, done, given}
 use Rattle.jasmin_text.specs.Grammar.{Row, ClassRow, SuperRow, ImplementsRow, FieldRow, MethodRow, EndRow, StackRow, LocalsRow, CatchRow, LabelRow, InstructionRow, TableRow, LookupRow, TargetRow, CaseRow, DefaultRow, place_of}
+use Rattle.jasmin_text.specs.declared.form.Directive.TheVariants as directive
 use Rattle.jasmin_text.specs.declared.instruction.Instruction.TheVariants as instruction
 use Rattle.jasmin_reader.specs.declared.body.Body.{Body}
 use Rattle.jasmin_reader.specs.declared.reader.Reader.{Reader}
@@ -15,8 +16,8 @@ use Rattle.jasmin_reader.specs.declared.switch.Switch.{Switch}
 use Rattle.jasmin_reader.specs.declared.switch.Switch.TheVariants as switch
 use Rattle.jasmin_reader.specs.Operands.{labels_between, table_of}
 use Rattle.jasmin_reader.specs.Listing.{Listing, has_room, with_instruction, with_switch, without_switch, less_room, is_full, with_target, new_key, case_of, with_key}
-use Rattle.jasmin_reader.specs.Bodies.{new_label, with_label, listed, outside_switch}
-use Rattle.jasmin_reader.specs.Reading.{allowed, has_room_for, is_in_class, is_in_header, member_room, empty_body, in_body, ended_by}
+use Rattle.jasmin_reader.specs.Bodies.{new_label, with_label, listed, outside_switch, with_setting}
+use Rattle.jasmin_reader.specs.Reading.{has_room_for, may_stand, open_at, with_row, in_body, ended_by}
 
 -- ---- in a method
 
@@ -45,9 +46,9 @@ abbrev pub listing_row : Listing → Row → Result Listing FaultKind
 listing_row l row = listing_by l l.switch row
 
 abbrev pub body_row : Body → Row → Result Body FaultKind
-body_row b (StackRow n) = outside_switch b >>= λ _. Ok (record b { stack = n })
-body_row b (LocalsRow n) = outside_switch b >>= λ _. Ok (record b { locals = n })
-body_row b (CatchRow class from to using) = outside_switch b >>= λ _. Ok (record b { catches = b.catches ++ record { class = class; from = from; to = to; handler = using } ∷ [] })
+body_row b (StackRow n) = outside_switch b >>= λ _. Ok (with_setting b (StackRow n))
+body_row b (LocalsRow n) = outside_switch b >>= λ _. Ok (with_setting b (LocalsRow n))
+body_row b (CatchRow class from to using) = outside_switch b >>= λ _. Ok (with_setting b (CatchRow class from to using))
 body_row b (LabelRow l) = outside_switch b >>= λ _. new_label (place_of b.labels l) >>= λ _. Ok (with_label b l)
 body_row b row = listed b (listing_row b.listing row)
 
@@ -67,11 +68,11 @@ is_body_row EndRow = false
 is_body_row other = true
 
 abbrev pub row_at : Reader → Row → Result Reader FaultKind
-row_at r (ClassRow k a name) = allowed (is_none r.class) >>= λ _. Ok (record r { class = Some (record { kind = k; access = a }, name) })
-row_at r (SuperRow name) = allowed (is_in_header r) >>= λ _. allowed (is_none r.superclass) >>= λ _. Ok (record r { superclass = Some name })
-row_at r (ImplementsRow name) = allowed (is_in_header r) >>= λ _. has_room_for (nat_lt (length r.interfaces) 255) >>= λ _. Ok (record r { interfaces = r.interfaces ++ name ∷ [] })
-row_at r (FieldRow f) = allowed (is_in_class r) >>= λ _. has_room_for (member_room r) >>= λ _. Ok (record r { fields = r.fields ++ f ∷ [] })
-row_at r (MethodRow a name type) = allowed (is_in_class r) >>= λ _. has_room_for (member_room r) >>= λ _. Ok (record r { body = Some (empty_body a name type) })
+row_at r (ClassRow k a name) = may_stand r directive.Class >>= λ _. Ok (with_row r (ClassRow k a name))
+row_at r (SuperRow name) = may_stand r directive.Super >>= λ _. Ok (with_row r (SuperRow name))
+row_at r (ImplementsRow name) = may_stand r directive.Implements >>= λ _. Ok (with_row r (ImplementsRow name))
+row_at r (FieldRow f) = may_stand r directive.Field >>= λ _. Ok (with_row r (FieldRow f))
+row_at r (MethodRow a name type) = may_stand r directive.Method >>= λ _. Ok (with_row r (MethodRow a name type))
 row_at r EndRow = ended_by r [] r.body
 row_at r row = in_body r r.body (λ b. body_row b row)
 
@@ -113,6 +114,15 @@ pub lifted : (rows : List Row) → list_all is_body_row rows ≡ true → (r : R
 lifted rows h r b last here e =
     let same : r ≡ record r { body = Some b } = ap (λ (o : Option Body). record r { body = o }) here in
     ap (λ (x : Reader). rows_at x rows) same ∙ rows_in_method rows h r b last e
+
+-- what is set in the method that stands open
+pub set_in_body : (r : Reader) (f : Body → Body) (o : Option Body) → in_body r o (λ b. outside_switch b >>= λ _. Ok (f b)) ≡ (open_at o >>= λ _. Ok (record r { body = option_map f o }))
+set_in_body r f None = refl
+set_in_body r f (Some b) = by (outside_switch b)
+  where
+    by : (x : Result (Unit {0}) FaultKind) → ((x >>= λ _. done (f b)) >>= λ c. done (record r { body = Some c })) ≡ (x >>= λ _. done (record r { body = Some (f b) }))
+    by (Ok u) = refl
+    by (Err k) = refl
 
 -- ---- guards that were passed
 

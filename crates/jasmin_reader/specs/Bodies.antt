@@ -8,7 +8,7 @@ use Rattle.sequence.specs.Gives.{◌>>=◌}
 use Rattle.jasmin_words.specs.Lexing.{Item}
 use Rattle.jasmin_words.specs.Names.{is_label}
 use Rattle.jasmin_text.specs.Forms.{directive_at}
-use Rattle.jasmin_text.specs.Grammar.{place_of}
+use Rattle.jasmin_text.specs.Grammar.{Row, StackRow, LocalsRow, CatchRow, place_of}
 use Rattle.jasmin_text.specs.declared.class_text.Code.{Code}
 use Rattle.jasmin_text.specs.declared.class_text.Handler.{Handler}
 use Rattle.jasmin_text.specs.declared.class_text.Method.{Method}
@@ -79,22 +79,14 @@ statement_at b w rest = statement_by b w rest b.listing.switch
 abbrev pub outside_switch : Body → Result (Unit {0}) FaultKind
 outside_switch b = if is_some b.listing.switch then Err fault.Misplaced else Ok tt
 
-abbrev pub limit_by : Body → Bool → Bool → List Item → Result Body FaultKind
-limit_by b true is_locals rest = last_operand limit_in rest >>= λ n. Ok (record b { stack = n })
-limit_by b false true rest = last_operand limit_in rest >>= λ n. Ok (record b { locals = n })
-limit_by b false false rest = Err fault.BadOperand
+abbrev pub limit_by : Bool → Bool → List Item → Result Row FaultKind
+limit_by true is_locals rest = last_operand limit_in rest >>= λ n. Ok (StackRow n)
+limit_by false true rest = last_operand limit_in rest >>= λ n. Ok (LocalsRow n)
+limit_by false false rest = Err fault.BadOperand
 
--- the limit of the stack, or of the locals
-abbrev pub with_limit : Body → Bool → ℕ → Body
-with_limit b true n = record b { stack = n }
-with_limit b false n = record b { locals = n }
-
-abbrev pub limit_from : Body → List Item → Result Body FaultKind
-limit_from b items = next_word items >>= λ w. limit_by b (bytes_eq w.0 (codes "stack")) (bytes_eq w.0 (codes "locals")) w.1
-
--- behind .limit; the last limit counts
-unfoldable pub limit_at : Body → List Item → Result Body FaultKind
-limit_at b items = outside_switch b >>= λ _. limit_from b items
+-- behind .limit
+abbrev pub limit_from : List Item → Result Row FaultKind
+limit_from items = next_word items >>= λ w. limit_by (bytes_eq w.0 (codes "stack")) (bytes_eq w.0 (codes "locals")) w.1
 
 abbrev pub caught_in : List ℕ → Result (Option (List ℕ)) FaultKind
 caught_in w = if bytes_eq w (codes "all") then Ok None else class_name_in w >>= λ name. Ok (Some name)
@@ -107,21 +99,21 @@ keyword_in keyword w = if bytes_eq w keyword then Ok tt else Err fault.BadOperan
 abbrev pub label_behind : List ℕ → List Item → Result (List ℕ × List Item) FaultKind
 label_behind keyword items = operand (keyword_in keyword) items >>= λ k. operand label_in k.1
 
-abbrev pub row_of : Option (List ℕ) → List ℕ → List ℕ → List ℕ → Catch
-row_of class from to handler = record { class = class; from = from; to = to; handler = handler }
-
 -- the row that catches these, by the labels that follow
-abbrev pub row_from : Option (List ℕ) → List Item → Result Catch FaultKind
+abbrev pub row_from : Option (List ℕ) → List Item → Result Row FaultKind
 row_from class items = label_behind (codes "from") items >>= λ from. label_behind (codes "to") from.1 >>= λ to.
-    label_behind (codes "using") to.1 >>= λ handler. ended_at handler.1 >>= λ _. Ok (row_of class from.0 to.0 handler.0)
+    label_behind (codes "using") to.1 >>= λ handler. ended_at handler.1 >>= λ _. Ok (CatchRow class from.0 to.0 handler.0)
 
--- a row of the handler table by labels
-unfoldable pub catch_from : List Item → Result Catch FaultKind
+-- behind .catch: a row of the handler table by labels
+unfoldable pub catch_from : List Item → Result Row FaultKind
 catch_from items = operand caught_in items >>= λ class. row_from class.0 class.1
 
--- behind .catch
-unfoldable pub catch_at : Body → List Item → Result Body FaultKind
-catch_at b items = outside_switch b >>= λ _. catch_from items >>= λ c. Ok (record b { catches = b.catches ++ c ∷ [] })
+-- a method with a limit, the last of which counts, or with one row more in its handler table
+abbrev pub with_setting : Body → Row → Body
+with_setting b (StackRow n) = record b { stack = n }
+with_setting b (LocalsRow n) = record b { locals = n }
+with_setting b (CatchRow class from to handler) = record b { catches = b.catches ++ record { class = class; from = from; to = to; handler = handler } ∷ [] }
+with_setting b other = b
 
 -- ---- the end
 

@@ -1,5 +1,6 @@
 -- A class, line by line, with the first fault that is met. "Own choice" marks this project's own choice (docs/JASMIN.md).
 use Rattle.std.specs.Prelude.{ℕ, Bool, false, not, ◌||◌, ◌+◌, List, [], ◌∷◌, ◌++◌, length, Option, Some, None, is_some, is_none, Result, Ok, Err, ◌==◌, if◌then◌else◌, nat_lt}
+use Rattle.std.specs.Option.{option_map}
 use Rattle.descriptors.specs.Signature.{Signature}
 use Rattle.jasmin_words.specs.declared.fault.FaultKind.{FaultKind}
 use Rattle.jasmin_words.specs.declared.fault.FaultKind.TheVariants as fault
@@ -7,19 +8,21 @@ use Rattle.sequence.specs.Gives.{◌>>=◌}
 use Rattle.jasmin_words.specs.Lexing.{Item}
 use Rattle.jasmin_words.specs.Names.{is_label}
 use Rattle.jasmin_text.specs.Forms.{form_at, directive_at}
+use Rattle.jasmin_text.specs.Grammar.{Row, ClassRow, SuperRow, ImplementsRow, FieldRow, MethodRow, StackRow, LocalsRow, CatchRow}
 use Rattle.jasmin_text.specs.declared.access.Access.{Access}
 use Rattle.jasmin_text.specs.declared.form.Form.{Form}
 use Rattle.jasmin_text.specs.declared.form.Directive.{Directive}
 use Rattle.jasmin_text.specs.declared.form.Directive.TheVariants as directive
-use Rattle.jasmin_reader.specs.declared.head.Place.{Place}
 use Rattle.jasmin_reader.specs.declared.head.Place.TheVariants as place
 use Rattle.jasmin_reader.specs.declared.body.Body.{Body}
+use Rattle.jasmin_reader.specs.declared.said.Said.{Said}
+use Rattle.jasmin_reader.specs.declared.said.Said.TheVariants as said
 use Rattle.jasmin_reader.specs.declared.reader.Reader.{Reader}
 use Rattle.jasmin_reader.specs.Places.{ended_at, first_word}
 use Rattle.jasmin_reader.specs.Operands.{class_name_in, last_operand, begins_with}
 use Rattle.jasmin_reader.specs.Heads.{class_from, field_from, method_from}
 use Rattle.jasmin_reader.specs.Listing.{empty_listing, behind_colon, unknown_word}
-use Rattle.jasmin_reader.specs.Bodies.{statement_at, limit_at, catch_at, end_from, outside_switch, closed}
+use Rattle.jasmin_reader.specs.Bodies.{statement_at, limit_from, catch_from, with_setting, end_from, outside_switch, closed}
 
 -- ---- outside of methods
 
@@ -29,10 +32,6 @@ allowed b = if b then Ok tt else Err fault.Misplaced
 abbrev pub has_room_for : Bool → Result (Unit {0}) FaultKind
 has_room_for b = if b then Ok tt else Err fault.LimitExceeded
 
--- .class or .interface: one such line
-unfoldable pub class_line : Place → Reader → List Item → Result Reader FaultKind
-class_line p r items = allowed (is_none r.class) >>= λ _. class_from p items >>= λ c. Ok (record r { class = Some c })
-
 -- behind .class and outside of methods
 abbrev pub is_in_class : Reader → Bool
 is_in_class r = not (is_none r.class || is_some r.body)
@@ -41,45 +40,69 @@ is_in_class r = not (is_none r.class || is_some r.body)
 abbrev pub is_in_header : Reader → Bool
 is_in_header r = not (is_none r.class || is_some r.body || not (length r.fields == 0) || not (length r.methods == 0))
 
--- at most one .super
-unfoldable pub super_line : Reader → List Item → Result Reader FaultKind
-super_line r items = allowed (is_in_header r) >>= λ _. allowed (is_none r.superclass) >>= λ _. last_operand class_name_in items >>= λ name.
-    Ok (record r { superclass = Some name })
-
--- at most 255 .implements
-unfoldable pub implements_line : Reader → List Item → Result Reader FaultKind
-implements_line r items = allowed (is_in_header r) >>= λ _. has_room_for (nat_lt (length r.interfaces) 255) >>= λ _. last_operand class_name_in items >>= λ name.
-    Ok (record r { interfaces = r.interfaces ++ name ∷ [] })
-
 -- at most 1,024 fields and methods
 abbrev pub member_room : Reader → Bool
 member_room r = nat_lt (length r.fields + length r.methods) 1024
-
-unfoldable pub field_line : Reader → List Item → Result Reader FaultKind
-field_line r items = allowed (is_in_class r) >>= λ _. has_room_for (member_room r) >>= λ _. field_from items >>= λ f.
-    Ok (record r { fields = r.fields ++ f ∷ [] })
 
 -- limits that no line gives are 1,024: own choice
 abbrev pub empty_body : Access → List ℕ → Signature → Body
 empty_body a name m = record { access = a; name = name; method_type = m; stack = 1024; locals = 1024; labels = []; catches = []; listing = empty_listing }
 
-abbrev pub with_body : Reader → Body → Reader
-with_body r b = record r { body = Some b }
+-- a method stands open, and no switch in it
+abbrev pub open_at : Option Body → Result (Unit {0}) FaultKind
+open_at None = Err fault.Misplaced
+open_at (Some b) = outside_switch b
 
-unfoldable pub method_line : Reader → List Item → Result Reader FaultKind
-method_line r items = allowed (is_in_class r) >>= λ _. has_room_for (member_room r) >>= λ _. method_from items >>= λ m.
-    Ok (with_body r (empty_body m.0 m.1.0 m.1.1))
+-- Where the line of a directive may stand, and whether there is room for what it says: one line names the class,
+-- at most one the superclass, and at most 255 name superinterfaces.
+abbrev pub may_stand : Reader → Directive → Result (Unit {0}) FaultKind
+may_stand r directive.Class = allowed (is_none r.class)
+may_stand r directive.Interface = allowed (is_none r.class)
+may_stand r directive.Super = allowed (is_in_header r) >>= λ _. allowed (is_none r.superclass)
+may_stand r directive.Implements = allowed (is_in_header r) >>= λ _. has_room_for (nat_lt (length r.interfaces) 255)
+may_stand r directive.Field = allowed (is_in_class r) >>= λ _. has_room_for (member_room r)
+may_stand r directive.Method = allowed (is_in_class r) >>= λ _. has_room_for (member_room r)
+may_stand r directive.Limit = open_at r.body
+may_stand r directive.Catch = open_at r.body
+may_stand r other = Ok tt
+
+-- what stands behind a directive; one that says nothing of a class is left out
+unfoldable pub said_in : Directive → List Item → Result Row FaultKind
+said_in directive.Class items = class_from place.Class items >>= λ c. Ok (ClassRow c.0.kind c.0.access c.1)
+said_in directive.Interface items = class_from place.Interface items >>= λ c. Ok (ClassRow c.0.kind c.0.access c.1)
+said_in directive.Super items = last_operand class_name_in items >>= λ name. Ok (SuperRow name)
+said_in directive.Implements items = last_operand class_name_in items >>= λ name. Ok (ImplementsRow name)
+said_in directive.Field items = field_from items >>= λ f. Ok (FieldRow f)
+said_in directive.Method items = method_from items >>= λ m. Ok (MethodRow m.0 m.1.0 m.1.1)
+said_in directive.Limit items = limit_from items
+said_in directive.Catch items = catch_from items
+said_in other items = Err fault.LeftOut
+
+-- the class with what a line says
+abbrev pub with_row : Reader → Row → Reader
+with_row r (ClassRow k a name) = record r { class = Some (record { kind = k; access = a }, name) }
+with_row r (SuperRow name) = record r { superclass = Some name }
+with_row r (ImplementsRow name) = record r { interfaces = r.interfaces ++ name ∷ [] }
+with_row r (FieldRow f) = record r { fields = r.fields ++ f ∷ [] }
+with_row r (MethodRow a name type) = record r { body = Some (empty_body a name type) }
+with_row r row = record r { body = option_map (λ b. with_setting b row) r.body }
+
+-- what the code says of such a line, as the grammar's row
+abbrev pub said_row : Said → Row
+said_row (said.Class c) = ClassRow c.0.kind c.0.access c.1
+said_row (said.Super name) = SuperRow name
+said_row (said.Implements name) = ImplementsRow name
+said_row (said.Field f) = FieldRow f
+said_row (said.Method m) = MethodRow m.access m.name m.method_type
+said_row (said.Stack n) = StackRow n
+said_row (said.Locals n) = LocalsRow n
+said_row (said.Catch c) = CatchRow c.class c.from c.to c.handler
 
 -- ---- in methods
 
 abbrev pub in_body : Reader → Option Body → (Body → Result Body FaultKind) → Result Reader FaultKind
 in_body r None add = Err fault.Misplaced
 in_body r (Some b) add = add b >>= λ c. Ok (record r { body = Some c })
-
--- a method stands open, and no switch in it
-abbrev pub open_at : Option Body → Result (Unit {0}) FaultKind
-open_at None = Err fault.Misplaced
-open_at (Some b) = outside_switch b
 
 abbrev pub ended_by : Reader → List Item → Option Body → Result Reader FaultKind
 ended_by r rest None = Err fault.Misplaced
@@ -89,19 +112,12 @@ ended_by r rest (Some b) = outside_switch b >>= λ _. closed b >>= λ m. ended_a
 unfoldable pub end_line : Reader → List Item → Result Reader FaultKind
 end_line r items = end_from items >>= λ rest. ended_by r rest r.body
 
--- a line that begins with this directive
+-- A line that begins with this directive: all its faults are found before what it says is added. At the end of a
+-- method the two are one.
 unfoldable pub directive_line : Reader → Directive → List Item → Result Reader FaultKind
-directive_line r directive.Class items = class_line place.Class r items
-directive_line r directive.Interface items = class_line place.Interface r items
-directive_line r directive.Super items = super_line r items
-directive_line r directive.Implements items = implements_line r items
-directive_line r directive.Field items = field_line r items
-directive_line r directive.Method items = method_line r items
 directive_line r directive.End items = end_line r items
-directive_line r directive.Limit items = in_body r r.body (λ b. limit_at b items)
-directive_line r directive.Catch items = in_body r r.body (λ b. catch_at b items)
 directive_line r directive.Skipped items = Ok r
-directive_line r directive.LeftOut items = Err fault.LeftOut
+directive_line r d items = may_stand r d >>= λ _. said_in d items >>= λ row. Ok (with_row r row)
 
 -- an instruction or a label outside of a method
 abbrev pub stray_by : List ℕ → Option (List Item) → Option Form → FaultKind

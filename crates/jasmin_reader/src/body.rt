@@ -4,14 +4,16 @@ ghost use Rattle.std.specs.Prelude.{◌≡◌, ℕ, List, Option, is_some, None,
 ghost use Rattle.sequence.specs.Gives.{Gives};
 ghost use Rattle.jasmin_reader.specs.Places.{IsFaultOr};
 ghost use Rattle.jasmin_words.specs.Lexing.{views};
-ghost use Rattle.jasmin_reader.specs.declared.body.Body.{Body};
+ghost use Rattle.jasmin_text.specs.Grammar.{CatchRow};
 ghost use Rattle.jasmin_reader.specs.Operands.{limit_in, last_operand as last_operand_of};
-ghost use Rattle.jasmin_reader.specs.Bodies.{label_at, end_from, no_directive, labelled_at, plain_by, statement_by, statement_at, outside_switch, with_limit, limit_from, limit_at, caught_in, label_behind, row_of, row_from, catch_from, catch_at};
+ghost use Rattle.jasmin_reader.specs.Bodies.{label_at, end_from, no_directive, labelled_at, plain_by, statement_by, statement_at, outside_switch, limit_from, caught_in, label_behind, row_from, catch_from};
+ghost use Rattle.jasmin_reader.specs.Reading.{said_row};
 ghost use Rattle.jasmin_reader.specs.Listing.{behind_colon as behind_colon_of};
 
 use crate::labels::Labels;
 use crate::listing::{Listing, behind_colon};
 use crate::place::{FromWord, LineError, bad_operand, ended, first, next, operand, within};
+use crate::said::Said;
 use crate::values::{begins, limit};
 use descriptors::{ClassName, MethodType};
 use jasmin_text::Access;
@@ -109,7 +111,7 @@ fn label_after<'a, 't>(
 
 /// The labels of a row of the handler table: the beginning of the range, its end and the handler.
 fn row_labels(alloc: Global, tokens: &[Token<'_>]) -> Result<(Text, Text, Text), LineError>
-    ensures { (class : Option (List ℕ)) → Gives (λ x. row_of class x.0 x.1 x.2) result (row_from class (views tokens.now)) }
+    ensures { (class : Option (List ℕ)) → Gives (λ x. CatchRow class x.0 x.1 x.2) result (row_from class (views tokens.now)) }
 {
     let (from, rest) = label_after(alloc, b"from", tokens)?;
     let (to, rest) = label_after(alloc, b"to", rest)?;
@@ -120,8 +122,8 @@ fn row_labels(alloc: Global, tokens: &[Token<'_>]) -> Result<(Text, Text, Text),
 
 /// The row of the handler table behind `.catch`.
 #[tactic(auto, unfolding(crate::specs::Bodies::catch_from))]
-fn handler_row(alloc: Global, tokens: &[Token<'_>]) -> Result<Catch, LineError>
-    ensures { Gives (λ x. x) result (catch_from (views tokens.now)) }
+pub(crate) fn handler_row(alloc: Global, tokens: &[Token<'_>]) -> Result<Catch, LineError>
+    ensures { Gives (λ c. CatchRow c.class c.from c.to c.handler) result (catch_from (views tokens.now)) }
 {
     let (class, rest) = operand::<Option<ClassName>>(alloc, tokens)?;
     let (from, to, handler) = row_labels(alloc, rest)?;
@@ -144,15 +146,15 @@ fn last_limit(tokens: &[Token<'_>]) -> Result<u16, LineError>
     Ok(count)
 }
 
-/// Whether the limit is that of the stack, and its number.
-fn limit_behind(tokens: &[Token<'_>]) -> Result<(bool, u16), LineError>
-    ensures { (b : Body) → Gives (λ x. with_limit b x.0 x.1) result (limit_from b (views tokens.now)) }
+/// The limit behind `.limit`.
+pub(crate) fn limit_behind(tokens: &[Token<'_>]) -> Result<Said, LineError>
+    ensures { Gives said_row result (limit_from (views tokens.now)) }
 {
     let (word, rest) = next(tokens)?;
     if same(word, b"stack") {
-        Ok((true, last_limit(rest)?))
+        Ok(Said::Stack(last_limit(rest)?))
     } else if same(word, b"locals") {
-        Ok((false, last_limit(rest)?))
+        Ok(Said::Locals(last_limit(rest)?))
     } else {
         Err(bad_operand())
     }
@@ -262,31 +264,5 @@ impl Body {
         } else {
             self.plain(alloc, word, rest)
         }
-    }
-
-    /// What stands behind `.limit`.
-    #[tactic(auto, unfolding(crate::specs::Bodies::limit_at))]
-    pub(crate) fn limit(&mut self, tokens: &[Token<'_>]) -> Result<(), LineError>
-        ensures { Gives (λ _. self.new) result (limit_at self.old (views tokens.now)) }
-    {
-        self.not_in_switch()?;
-        let (is_stack, count) = limit_behind(tokens)?;
-        if is_stack {
-            self.stack = count;
-        } else {
-            self.locals = count;
-        }
-        Ok(())
-    }
-
-    /// What stands behind `.catch`.
-    #[tactic(auto, unfolding(crate::specs::Bodies::catch_at))]
-    pub(crate) fn catch(&mut self, alloc: Global, tokens: &[Token<'_>]) -> Result<(), LineError>
-        ensures { Gives (λ _. self.new) result (catch_at self.old (views tokens.now)) }
-    {
-        self.not_in_switch()?;
-        let row = handler_row(alloc, tokens)?;
-        self.catches.push(row)?;
-        Ok(())
     }
 }

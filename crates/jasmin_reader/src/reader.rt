@@ -6,15 +6,15 @@ ghost use Rattle.jasmin_words.specs.Lexing.{views};
 ghost use Rattle.jasmin_text.specs.Forms.{form_at};
 ghost use Rattle.jasmin_reader.specs.File.{empty_reader};
 ghost use Rattle.jasmin_reader.specs.Listing.{behind_colon as behind_colon_of};
-ghost use Rattle.jasmin_reader.specs.Reading.{allowed as allowed_if, has_room_for, class_line, is_in_class, is_in_header, super_line, implements_line, member_room, field_line, empty_body, with_body, method_line, in_body, open_at, end_line, directive_line, stray_by, statement_line, no_word as no_word_of, line_at};
-ghost use Rattle.jasmin_reader.specs.Bodies.{limit_at, catch_at};
+ghost use Rattle.jasmin_reader.specs.Reading.{allowed as allowed_if, has_room_for, is_in_class, is_in_header, member_room, may_stand as may_stand_at, with_row, said_row, empty_body, open_at, end_line, directive_line, stray_by, statement_line, no_word as no_word_of, line_at};
 
 use crate::body::{Body, behind_end};
-use crate::head::{HeadWords, Place, class_head};
+use crate::head::HeadWords;
 use crate::labels::Labels;
 use crate::listing::{Listing, behind_colon, unknown_word};
-use crate::member::{MethodHead, field, method_head};
-use crate::place::{LineError, ended, first, last_operand};
+use crate::member::MethodHead;
+use crate::place::{LineError, ended, first};
+use crate::said::{Said, said_behind};
 use crate::values::begins;
 use descriptors::ClassName;
 use jasmin_text::form::{Directive, directive_of, form_of};
@@ -22,7 +22,7 @@ use jasmin_text::{Field, Method};
 use jasmin_words::name::is_label;
 use jasmin_words::{FaultKind, Token};
 use sequence::{Refusal, Sequence};
-use std::alloc::Global;
+use std::alloc::{AllocError, Global};
 
 /// The limit of a method's stack and of its locals where no line gives one: own choice.
 const DEFAULT_LIMIT: u16 = 1_024;
@@ -139,67 +139,60 @@ impl Reader {
         self.methods.len() < MOST_MEMBERS && self.fields.len() < MOST_MEMBERS - self.methods.len()
     }
 
-    #[tactic(auto, unfolding(crate::specs::Reading::class_line))]
-    fn class(&mut self, alloc: Global, place: Place, tokens: &[Token<'_>]) -> Result<(), LineError>
-        ensures { Gives (λ _. self.new) result (class_line place self.old (views tokens.now)) }
+    /// Whether the line of the directive may stand here, with room for what it says.
+    fn may_stand(&self, directive: Directive) -> Result<(), LineError>
+        ensures { Gives (λ x. x) result (may_stand_at self.now directive) }
     {
-        allowed(self.class.is_none())?;
-        self.class = Some(class_head(alloc, place, tokens)?);
-        Ok(())
+        match directive {
+            Directive::Class | Directive::Interface => allowed(self.class.is_none()),
+            Directive::Super => {
+                allowed(self.in_header())?;
+                allowed(self.superclass.is_none())
+            }
+            Directive::Implements => {
+                allowed(self.in_header())?;
+                has_room(self.interfaces.len() < MOST_INTERFACES)
+            }
+            Directive::Field | Directive::Method => {
+                allowed(self.in_class())?;
+                has_room(self.takes_member())
+            }
+            Directive::Limit | Directive::Catch => self.in_method(),
+            _ => Ok(()),
+        }
     }
 
-    #[tactic(auto, unfolding(crate::specs::Reading::super_line))]
-    fn superclass(&mut self, alloc: Global, tokens: &[Token<'_>]) -> Result<(), LineError>
-        ensures { Gives (λ _. self.new) result (super_line self.old (views tokens.now)) }
+    /// The class with what a line says.
+    fn add(&mut self, alloc: Global, said: Said) -> Result<(), AllocError>
+        ensures { OnOk result (self.new ≡ with_row self.old (said_row said)) }
     {
-        allowed(self.in_header())?;
-        allowed(self.superclass.is_none())?;
-        self.superclass = Some(last_operand::<ClassName>(alloc, tokens)?);
-        Ok(())
-    }
-
-    #[tactic(auto, unfolding(crate::specs::Reading::implements_line))]
-    fn interface(&mut self, alloc: Global, tokens: &[Token<'_>]) -> Result<(), LineError>
-        ensures { Gives (λ _. self.new) result (implements_line self.old (views tokens.now)) }
-    {
-        allowed(self.in_header())?;
-        has_room(self.interfaces.len() < MOST_INTERFACES)?;
-        let name = last_operand::<ClassName>(alloc, tokens)?;
-        self.interfaces.push(name)?;
-        Ok(())
-    }
-
-    #[tactic(auto, unfolding(crate::specs::Reading::field_line))]
-    fn field(&mut self, alloc: Global, tokens: &[Token<'_>]) -> Result<(), LineError>
-        ensures { Gives (λ _. self.new) result (field_line self.old (views tokens.now)) }
-    {
-        allowed(self.in_class())?;
-        has_room(self.takes_member())?;
-        let field = field(alloc, tokens)?;
-        self.fields.push(field)?;
-        Ok(())
-    }
-
-    /// Opens a method without lines.
-    fn open(&mut self, alloc: Global, head: MethodHead)
-        ensures { self.new ≡ with_body self.old (empty_body head.access head.name head.method_type) }
-    {
-        drop(self.body.replace(opened(alloc, head)));
-    }
-
-    #[tactic(auto, unfolding(crate::specs::Reading::method_line))]
-    fn method(&mut self, alloc: Global, tokens: &[Token<'_>]) -> Result<(), LineError>
-        ensures { Gives (λ _. self.new) result (method_line self.old (views tokens.now)) }
-    {
-        allowed(self.in_class())?;
-        has_room(self.takes_member())?;
-        let head = method_head(alloc, tokens)?;
-        self.open(alloc, head);
+        match said {
+            Said::Class(named) => self.class = Some(named),
+            Said::Super(name) => self.superclass = Some(name),
+            Said::Implements(name) => self.interfaces.push(name)?,
+            Said::Field(field) => self.fields.push(field)?,
+            Said::Method(head) => drop(self.body.replace(opened(alloc, head))),
+            Said::Stack(count) => {
+                if let Some(body) = &mut self.body {
+                    body.stack = count;
+                }
+            }
+            Said::Locals(count) => {
+                if let Some(body) = &mut self.body {
+                    body.locals = count;
+                }
+            }
+            Said::Catch(row) => {
+                if let Some(body) = &mut self.body {
+                    body.catches.push(row)?;
+                }
+            }
+        }
         Ok(())
     }
 
     /// A method stands open, and no switch in it.
-    fn may_end(&self) -> Result<(), LineError>
+    fn in_method(&self) -> Result<(), LineError>
         ensures open { OnOk result (is_some self.now.body ≡ true) }
         ensures gives { Gives (λ x. x) result (open_at self.now.body) }
     {
@@ -214,7 +207,7 @@ impl Reader {
         ensures { Gives (λ _. self.new) result (end_line self.old (views tokens.now)) }
     {
         let rest = behind_end(tokens)?;
-        self.may_end()?;
+        self.in_method()?;
         match self.body.take() {
             None => unreachable!(),
             Some(body) => {
@@ -222,24 +215,6 @@ impl Reader {
                 self.methods.push(method)?;
                 ended(rest)
             }
-        }
-    }
-
-    fn limit(&mut self, tokens: &[Token<'_>]) -> Result<(), LineError>
-        ensures { Gives (λ _. self.new) result (in_body self.old self.old.body (λ b. limit_at b (views tokens.now))) }
-    {
-        match &mut self.body {
-            None => Err(Refusal::Fault(FaultKind::Misplaced)),
-            Some(body) => body.limit(tokens),
-        }
-    }
-
-    fn catch(&mut self, alloc: Global, tokens: &[Token<'_>]) -> Result<(), LineError>
-        ensures { Gives (λ _. self.new) result (in_body self.old self.old.body (λ b. catch_at b (views tokens.now))) }
-    {
-        match &mut self.body {
-            None => Err(Refusal::Fault(FaultKind::Misplaced)),
-            Some(body) => body.catch(alloc, tokens),
         }
     }
 
@@ -254,17 +229,14 @@ impl Reader {
         ensures { Gives (λ _. self.new) result (directive_line self.old directive (views tokens.now)) }
     {
         match directive {
-            Directive::Class => self.class(alloc, Place::Class, tokens),
-            Directive::Interface => self.class(alloc, Place::Interface, tokens),
-            Directive::Super => self.superclass(alloc, tokens),
-            Directive::Implements => self.interface(alloc, tokens),
-            Directive::Field => self.field(alloc, tokens),
-            Directive::Method => self.method(alloc, tokens),
             Directive::End => self.end(alloc, tokens),
-            Directive::Limit => self.limit(tokens),
-            Directive::Catch => self.catch(alloc, tokens),
             Directive::Skipped => Ok(()),
-            Directive::LeftOut => Err(Refusal::Fault(FaultKind::LeftOut)),
+            other => {
+                self.may_stand(other)?;
+                let said = said_behind(alloc, other, tokens)?;
+                self.add(alloc, said)?;
+                Ok(())
+            }
         }
     }
 
