@@ -1,161 +1,211 @@
 //! World beside the twin, on every schedule up to a depth.
 
-use crate::schedules::{
-    Choice, all_choices, all_events, is_legal_with, list_of, made_of, makes, replayed,
-};
-use crate::twin::{Made, Small};
+use crate::schedules::{Action, Choice, events_of};
+use crate::twin::{Act, Made, begins_thread_word};
+use crate::twin_labels::{may_follow, part_with};
 use hierarchy::{BuiltIn, Program};
 use std::alloc::{AllocError, Global};
+use std::mem;
 
-/// A program that is compared: its files, what each of their classes needs, as read from JVMS SE 8 5.5 by hand,
-/// and the main classes of two threads. A class is named by the place of its file.
-#[derive(Clone, Copy, Drop)]
+/// A program that is compared: what each of its classes needs, as read from JVMS SE 8 5.5 by hand, and the main classes
+/// of two threads. A class is named by the place of its file; there are three at most.
+#[derive(Clone, Copy)]
 pub(crate) struct Case {
-    pub files: &'static [&'static [u8]],
     pub needs: &'static [&'static [usize]],
     pub mains: [usize; 2],
+    /// The lists of fewer events than this are compared.
+    pub depth: usize,
+    /// How many lists they are.
+    pub lists: usize,
+    /// How many events World and the twin judge otherwise after them.
+    pub differ: usize,
 }
 
-/// The event that this choice makes after these choices, if it makes one.
-fn event_of(
+/// What a thread may do next, but that the machine ends it.
+const ACTIONS: [Action; 6] = [
+    Action::Goes,
+    Action::Returns,
+    Action::Throws,
+    Action::Requests(0),
+    Action::Requests(1),
+    Action::Requests(2),
+];
+
+/// What an event may do, but reads, writes, prints and endings by the machine.
+const ACTS: [Act; 10] = [
+    Act::Waits,
+    Act::Recurs,
+    Act::FindsInitialized,
+    Act::FindsErroneous,
+    Act::Begins,
+    Act::SuperFails(BuiltIn::Error),
+    Act::SuperFails(BuiltIn::NoClassDefFoundError),
+    Act::Runs,
+    Act::Completes,
+    Act::Fails(BuiltIn::Error),
+];
+
+/// What was found of all lists so far.
+#[derive(Drop)]
+struct Found {
+    /// The choices that lead to the lists that have one event more.
+    longer: Vec<Vec<Choice>>,
+    /// How many lists were compared.
+    lists: usize,
+    /// How many events World and the twin judge otherwise.
+    differ: usize,
+}
+
+/// The twin's judgement of a list with one event more.
+fn is_legal_with(
     alloc: Global,
-    program: &Program,
-    mains: &[usize],
-    path: &[Choice],
-    choice: Choice,
-) -> Result<Option<Made>, AllocError> {
-    let mut run = replayed(alloc, program, mains, path)?;
-    if choice.thread < 2 && makes(alloc, program, &mut run, mains, choice)? {
-        if let Some(last) = run.world.len().checked_sub(1) {
-            let event = run.world.event(last)?;
-            return Ok(Some(made_of(&event)?));
-        }
+    case: &Case,
+    list: &[Made],
+    made: &Made,
+) -> Result<bool, AllocError> {
+    if made.thread >= 2 || !may_follow(list, made) {
+        return Ok(false);
     }
-    Ok(None)
+    let part = part_with(alloc, list, made)?;
+    begins_thread_word(alloc, case.needs, case.mains[made.thread], part.as_slice())
 }
 
-/// The choices that make an event after these choices, and the events.
-pub(crate) fn next_choices(
+/// Counts the events of a thread at a class that World and the twin judge otherwise after this list, where World makes these.
+fn count_differences(
     alloc: Global,
-    program: &Program,
-    mains: &[usize],
-    path: &[Choice],
-    next: &mut Vec<Choice>,
-    made: &mut Vec<Made>,
-) -> Result<(), AllocError> {
-    let choices = all_choices(alloc, program.len())?;
-    for choice in choices.as_slice() {
-        if let Some(event) = event_of(alloc, program, mains, path, *choice)? {
-            next.push(*choice)?;
-            made.push(event)?;
-        }
-    }
-    Ok(())
-}
-
-/// How many of all events World and the twin judge otherwise after this list.
-pub(crate) fn differences(
-    alloc: Global,
-    program: &Program,
     case: &Case,
     list: &[Made],
     made: &[Made],
+    thread: usize,
+    class: usize,
 ) -> Result<usize, AllocError> {
-    let error = program.built_in(BuiltIn::Error).number;
-    let refused = program.built_in(BuiltIn::NoClassDefFoundError).number;
-    let small = Small {
-        needs: case.needs,
-        refused,
-    };
-    let events = all_events(alloc, program.len(), error, refused)?;
     let mut differ = 0usize;
-    for event in events.as_slice() {
-        let legal = is_legal_with(alloc, &small, &case.mains, list, event)?;
-        if legal != made.contains(event) {
+    for act in &ACTS {
+        let act = *act;
+        let event = Made { thread, class, act };
+        if is_legal_with(alloc, case, list, &event)? != made.contains(&event) {
             differ = differ.saturating_add(1);
         }
     }
     Ok(differ)
 }
 
-/// Compares World with the twin on every schedule of this many events; answers how many lists were compared,
-/// and how many events they judge otherwise.
-pub(crate) fn compared(
+/// The event that this choice makes after these choices, which make so many, if it makes one.
+fn next_event(
     alloc: Global,
     program: &Program,
     case: &Case,
-    depth: usize,
-) -> Result<(usize, usize), AllocError> {
-    let mut paths: Vec<Vec<Choice>> = Vec::new(alloc);
-    paths.push(Vec::new(alloc))?;
-    let mut lists = 0usize;
-    let mut differ = 0usize;
-    for _ in 0..depth {
-        let mut longer = Vec::new(alloc);
-        for path in paths.as_slice() {
-            lists = lists.saturating_add(1);
-            let found = compare_at(alloc, program, case, path.as_slice(), &mut longer)?;
-            differ = differ.saturating_add(found);
-        }
-        paths = longer;
+    path: &[Choice],
+    choice: Choice,
+    count: usize,
+    found: &mut Found,
+) -> Result<Option<Made>, AllocError> {
+    let mut longer = Vec::from_slice(alloc, path)?;
+    longer.push(choice)?;
+    let events = events_of(alloc, program, &case.mains, longer.as_slice())?;
+    let event = events.as_slice().get(count).copied();
+    if event.is_some() {
+        found.longer.push(longer)?;
     }
-    Ok((lists, differ))
+    Ok(event)
 }
 
-/// The events that these choices make.
-fn events_of(
+/// Adds the events that a thread can make after these choices, which make so many.
+fn add_next(
     alloc: Global,
     program: &Program,
-    mains: &[usize],
+    case: &Case,
     path: &[Choice],
-) -> Result<Vec<Made>, AllocError> {
-    let run = replayed(alloc, program, mains, path)?;
-    list_of(alloc, &run.world.into_events())
-}
-
-/// Adds this path with each of these choices behind it.
-fn push_longer(
-    alloc: Global,
-    path: &[Choice],
-    next: &[Choice],
-    longer: &mut Vec<Vec<Choice>>,
+    thread: usize,
+    count: usize,
+    found: &mut Found,
+    made: &mut Vec<Made>,
 ) -> Result<(), AllocError> {
-    for choice in next {
-        let mut more = Vec::from_slice(alloc, path)?;
-        more.push(*choice)?;
-        longer.push(more)?;
+    for action in &ACTIONS {
+        let choice = (thread, *action);
+        if let Some(event) = next_event(alloc, program, case, path, choice, count, found)? {
+            made.push(event)?;
+        }
     }
     Ok(())
 }
 
-pub(crate) fn compare_at(
+/// Compares World with the twin after the list of these choices.
+fn compare_at(
     alloc: Global,
     program: &Program,
     case: &Case,
     path: &[Choice],
-    longer: &mut Vec<Vec<Choice>>,
-) -> Result<usize, AllocError> {
+    found: &mut Found,
+) -> Result<(), AllocError> {
     let list = events_of(alloc, program, &case.mains, path)?;
-    let mut next = Vec::new(alloc);
     let mut made = Vec::new(alloc);
-    next_choices(alloc, program, &case.mains, path, &mut next, &mut made)?;
-    push_longer(alloc, path, next.as_slice(), longer)?;
-    differences(alloc, program, case, list.as_slice(), made.as_slice())
+    for thread in 0..2 {
+        add_next(
+            alloc,
+            program,
+            case,
+            path,
+            thread,
+            list.len(),
+            found,
+            &mut made,
+        )?;
+    }
+    found.lists = found.lists.saturating_add(1);
+    compare_events(alloc, program.len(), case, &list, &made, found)
 }
 
-/// Whether World and the twin judge each event alike after each of at least 200 lists.
-pub(crate) fn agrees(
+/// Compares them on each event after this list, where World makes these.
+fn compare_events(
+    alloc: Global,
+    classes: usize,
+    case: &Case,
+    list: &[Made],
+    made: &[Made],
+    found: &mut Found,
+) -> Result<(), AllocError> {
+    for class in 0..classes {
+        let of_first = count_differences(alloc, case, list, made, 0, class)?;
+        let of_second = count_differences(alloc, case, list, made, 1, class)?;
+        found.differ = found
+            .differ
+            .saturating_add(of_first)
+            .saturating_add(of_second);
+    }
+    Ok(())
+}
+
+/// Compares them after the lists of these choices.
+fn compare_all(
     alloc: Global,
     program: &Program,
     case: &Case,
-    depth: usize,
-) -> Result<bool, AllocError> {
-    let (lists, differ) = compared(alloc, program, case, depth)?;
-    Ok(lists >= 200 && differ == 0)
+    paths: &[Vec<Choice>],
+    found: &mut Found,
+) -> Result<(), AllocError> {
+    for path in paths {
+        compare_at(alloc, program, case, path.as_slice(), found)?;
+    }
+    Ok(())
 }
 
-/// Whether they judge an event otherwise after one of at most two events.
-pub(crate) fn differs(alloc: Global, program: &Program, case: &Case) -> Result<bool, AllocError> {
-    let (_, differ) = compared(alloc, program, case, 3)?;
-    Ok(differ > 0)
+/// Whether World and the twin, on every list of fewer events than the depth, judge as the case says.
+pub(crate) fn is_as_compared(
+    alloc: Global,
+    program: &Program,
+    case: &Case,
+) -> Result<bool, AllocError> {
+    let mut found = Found {
+        longer: Vec::new(alloc),
+        lists: 0,
+        differ: 0,
+    };
+    let mut paths = Vec::new(alloc);
+    paths.push(Vec::new(alloc))?;
+    for _ in 0..case.depth {
+        compare_all(alloc, program, case, paths.as_slice(), &mut found)?;
+        paths = mem::replace(&mut found.longer, Vec::new(alloc));
+    }
+    Ok(found.lists == case.lists && found.differ == case.differ)
 }

@@ -1,12 +1,41 @@
-//! Runs of instructions within a frame.
+//! Runs of instructions within a frame, calls and returns.
 
-use crate::frame_steps::{Reason, begin, drop_operands, method, push_all, reason_of};
-use frames::{Cell, Frames};
-use hierarchy::{BuiltIn, Op};
-use std::alloc::{AllocError, Global};
+use crate::frame_steps::{Deed, begin, call, drop_operands, push};
+use crate::programs::{Question, Row, are_so};
+use frames::{Cell, FramePlace, Frames, Stop};
+use hierarchy::{BuiltIn, MethodCode, Op};
+use std::alloc::AllocError;
+
+/// Why a run of instructions stops.
+#[derive(Clone, Copy, PartialEq, Eq)]
+enum Reason {
+    Limit,
+    PastTheEnd,
+    Throws(BuiltIn),
+    Calls(u16, u16),
+    ReturnsInt,
+    Other,
+}
+
+/// Instructions that are run in a frame with two locals and four operands at the most, and what comes of it.
+#[derive(Clone, Copy)]
+pub(crate) struct Run {
+    ops: &'static [Op],
+    locals: &'static [Cell],
+    /// So many are done at the most.
+    limit: u64,
+    /// How many are done.
+    done: u64,
+    /// Why no more.
+    reason: Reason,
+    /// The place of the next one.
+    place: usize,
+    /// What is on top then.
+    top: Cell,
+}
 
 /// Adds up the numbers from 1 to that in the first local.
-const SUM: [Op; 12] = [
+const SUM: &[Op] = &[
     Op::PushInt(0),
     Op::StoreInt(1),
     Op::LoadInt(0),
@@ -21,134 +50,260 @@ const SUM: [Op; 12] = [
     Op::ReturnInt,
 ];
 
-/// How many instructions are done in a frame, why no more, the place, and the operand on top.
-type Ran = (u64, Reason, Option<usize>, Option<Cell>);
+/// A loop of ints adds up.
+const ADDS_UP: Run = Run {
+    ops: SUM,
+    locals: &[Cell::Int(10)],
+    limit: 1000,
+    done: 85,
+    reason: Reason::ReturnsInt,
+    place: 11,
+    top: Cell::Int(55),
+};
 
-/// How many instructions are done, and why no more, where each is asked for alone.
-fn go_singly(frames: &mut Frames, ops: &[Op], limit: u64) -> (u64, Reason) {
-    for done in 0..limit {
-        let (one, stop) = frames.go_on(ops, 1);
-        if one == 0 {
+/// It goes on as far as its limit.
+const ADDS_ONCE: Run = Run {
+    ops: SUM,
+    locals: &[Cell::Int(10)],
+    limit: 7,
+    done: 7,
+    reason: Reason::Limit,
+    place: 7,
+    top: Cell::Int(10),
+};
+
+/// The same, further on.
+const ADDS_SOMETIMES: Run = Run {
+    ops: SUM,
+    locals: &[Cell::Int(10)],
+    limit: 33,
+    done: 33,
+    reason: Reason::Limit,
+    place: 9,
+    top: Cell::Unset,
+};
+
+/// Zero divides nothing.
+const DIVIDES: Run = Run {
+    ops: &[Op::PushInt(5), Op::PushInt(0), Op::Remainder],
+    locals: &[],
+    limit: 1000,
+    done: 2,
+    reason: Reason::Throws(BuiltIn::ArithmeticException),
+    place: 2,
+    top: Cell::Int(0),
+};
+
+/// No instruction is past the end.
+const SHIFTS: Run = Run {
+    ops: &[
+        Op::PushInt(-8),
+        Op::PushInt(33),
+        Op::ShiftRight,
+        Op::Dup,
+        Op::ToChar,
+    ],
+    locals: &[],
+    limit: 1000,
+    done: 5,
+    reason: Reason::PastTheEnd,
+    place: 5,
+    top: Cell::Int(65532),
+};
+
+/// Operands are at most as many as the limit.
+const DUPLICATES: Run = Run {
+    ops: &[
+        Op::PushNull,
+        Op::PushText(7),
+        Op::DupX1,
+        Op::Dup2X1,
+        Op::Nop,
+    ],
+    locals: &[],
+    limit: 1000,
+    done: 3,
+    reason: Reason::Throws(BuiltIn::VerifyError),
+    place: 3,
+    top: Cell::Reference(7),
+};
+
+fn reason_of(stop: Stop) -> Reason {
+    match stop {
+        Stop::Limit => Reason::Limit,
+        Stop::PastTheEnd => Reason::PastTheEnd,
+        Stop::Throws(class) => Reason::Throws(class),
+        Stop::LeadsOut(Op::InvokeStatic(class, method)) => Reason::Calls(class, method),
+        Stop::LeadsOut(Op::ReturnInt) => Reason::ReturnsInt,
+        Stop::LeadsOut(_) => Reason::Other,
+    }
+}
+
+/// How many instructions are done, and why no more, where at most so many are asked for at once.
+fn go(frames: &mut Frames, run: &Run, step: u64) -> (u64, Reason) {
+    let mut done = 0u64;
+    for _ in 0..run.limit {
+        let (count, stop) = frames.go_on(run.ops, step);
+        done = done.saturating_add(count);
+        if count < step || done >= run.limit {
             return (done, reason_of(stop));
         }
     }
-    (limit, Reason::Limit)
+    (done, Reason::Other)
 }
 
-/// How many instructions are done, and why no more.
-fn go(frames: &mut Frames, ops: &[Op], limit: u64, singly: bool) -> (u64, Reason) {
-    if singly {
-        return go_singly(frames, ops, limit);
+/// Whether the innermost frame stands at a place, with this on top.
+fn stands(frames: &Frames, place: usize, top: Cell) -> bool {
+    match frames.at() {
+        Some(at) => at.place == place && frames.operand(0).unwrap_or(Cell::Unset) == top,
+        None => false,
     }
-    let (done, stop) = frames.go_on(ops, limit);
-    (done, reason_of(stop))
 }
 
-fn place_of(frames: &Frames) -> Option<usize> {
-    Some(frames.at()?.place)
+/// Whether the run in the innermost frame comes to what it must.
+fn comes_to(frames: &mut Frames, run: &Run, step: u64) -> bool {
+    let (done, reason) = go(frames, run, step);
+    done == run.done && reason == run.reason && stands(frames, run.place, run.top)
 }
 
-/// The run of these instructions in a frame with two locals and four operands at the most, each asked for alone or not.
-fn run_of(
-    alloc: Global,
-    ops: &[Op],
-    locals: &[Cell],
-    limit: u64,
-    singly: bool,
-) -> Result<Ran, AllocError> {
-    let code = method(alloc, 4, 2, ops)?;
-    let mut frames = Frames::new(alloc);
-    begin(&mut frames, 0, &code, locals)?;
-    let (done, reason) = go(&mut frames, ops, limit, singly);
-    Ok((done, reason, place_of(&frames), frames.operand(0)))
-}
-
-/// Whether the run of these instructions comes to this.
-fn runs_as(
-    alloc: Global,
-    ops: &[Op],
-    locals: &[Cell],
-    limit: u64,
-    wanted: Ran,
-) -> Result<bool, AllocError> {
-    Ok(run_of(alloc, ops, locals, limit, false)? == wanted)
-}
-
-/// Whether a loop comes to the same, where each instruction is asked for alone.
-fn is_as_singly(alloc: Global, limit: u64) -> Result<bool, AllocError> {
-    let locals = [Cell::Int(10)];
-    let whole = run_of(alloc, &SUM, &locals, limit, false)?;
-    Ok(whole == run_of(alloc, &SUM, &locals, limit, true)?)
-}
-
-#[test]
-fn a_loop_is_its_instructions_one_by_one(rt: HostRuntime) {
-    assert!(rt; is_as_singly(rt.alloc(), 1000) == Ok(true));
-    assert!(rt; is_as_singly(rt.alloc(), 33) == Ok(true));
-}
-
-#[test]
-fn a_loop_of_ints_adds_up(rt: HostRuntime) {
-    let sum = Some(Cell::Int(55));
-    let wanted = (85, Reason::ReturnsInt, Some(11), sum);
-    assert!(rt; runs_as(rt.alloc(), &SUM, &[Cell::Int(10)], 1000, wanted) == Ok(true));
-}
-
-#[test]
-fn a_loop_goes_on_as_far_as_its_limit(rt: HostRuntime) {
-    let wanted = (7, Reason::Limit, Some(7), Some(Cell::Int(10)));
-    assert!(rt; runs_as(rt.alloc(), &SUM, &[Cell::Int(10)], 7, wanted) == Ok(true));
-}
-
-const DIVIDES: [Op; 3] = [Op::PushInt(5), Op::PushInt(0), Op::Remainder];
-
-#[test]
-fn zero_divides_nothing(rt: HostRuntime) {
-    let thrown = Reason::Throws(BuiltIn::ArithmeticException);
-    let wanted = (2, thrown, Some(2), Some(Cell::Int(0)));
-    assert!(rt; runs_as(rt.alloc(), &DIVIDES, &[], 1000, wanted) == Ok(true));
-}
-
-const SHIFTS: [Op; 5] = [
-    Op::PushInt(-8),
-    Op::PushInt(33),
-    Op::ShiftRight,
-    Op::Dup,
-    Op::ToChar,
-];
-
-#[test]
-fn no_instruction_is_past_the_end(rt: HostRuntime) {
-    let wanted = (5, Reason::PastTheEnd, Some(5), Some(Cell::Int(65532)));
-    assert!(rt; runs_as(rt.alloc(), &SHIFTS, &[], 1000, wanted) == Ok(true));
-}
-
-const DUPLICATES: [Op; 5] = [
-    Op::PushNull,
-    Op::PushText(7),
-    Op::DupX1,
-    Op::Dup2X1,
-    Op::Nop,
-];
-
-#[test]
-fn operands_are_at_most_as_many_as_the_limit(rt: HostRuntime) {
-    let thrown = Reason::Throws(BuiltIn::VerifyError);
-    let wanted = (3, thrown, Some(3), Some(Cell::Reference(7)));
-    assert!(rt; runs_as(rt.alloc(), &DUPLICATES, &[], 1000, wanted) == Ok(true));
+/// Whether a run comes to what it must, where its instructions are asked for at once and where each is asked for alone.
+pub(crate) fn runs(frames: &mut Frames, code: &MethodCode, run: &Run) -> Result<bool, AllocError> {
+    begin(frames, 0, code, run.locals)?;
+    let at_once = comes_to(frames, run, run.limit);
+    begin(frames, 0, code, run.locals)?;
+    Ok(at_once && comes_to(frames, run, 1))
 }
 
 /// Whether the first of three operands is left where two are dropped.
-fn drops_two(alloc: Global) -> Result<bool, AllocError> {
-    let code = method(alloc, 3, 0, &[])?;
-    let mut frames = Frames::new(alloc);
-    begin(&mut frames, 0, &code, &[])?;
-    push_all(&mut frames, &[Cell::Int(1), Cell::Int(2), Cell::Int(3)]);
-    drop_operands(&mut frames, 2);
+pub(crate) fn drops_two(frames: &mut Frames, code: &MethodCode) -> Result<bool, AllocError> {
+    begin(frames, 0, code, &[])?;
+    for number in 1..4 {
+        push(frames, Cell::Int(number));
+    }
+    drop_operands(frames, 2);
     Ok(frames.operand(0) == Some(Cell::Int(1)) && frames.operand(1).is_none())
 }
 
+/// Pushes 7 and 3 and calls a method with them, at place 2.
+const CALL: Run = Run {
+    ops: &[
+        Op::PushInt(7),
+        Op::PushInt(3),
+        Op::InvokeStatic(0, 1),
+        Op::ReturnInt,
+    ],
+    locals: &[],
+    limit: 100,
+    done: 2,
+    reason: Reason::Calls(0, 1),
+    place: 2,
+    top: Cell::Int(3),
+};
+
+/// Subtracts the second argument from the first.
+const SUBTRACT: Run = Run {
+    ops: &[Op::LoadInt(0), Op::LoadInt(1), Op::Subtract, Op::ReturnInt],
+    locals: &[],
+    limit: 100,
+    done: 3,
+    reason: Reason::ReturnsInt,
+    place: 3,
+    top: Cell::Int(4),
+};
+
+/// Leaves the innermost frame with its result, and goes on past the call.
+fn come_back(frames: &mut Frames) {
+    let result = frames.operand(0).unwrap_or(Cell::Unset);
+    if frames.has_room_below() {
+        frames.leave();
+        push(frames, result);
+        frames.step_over();
+    }
+}
+
+/// Whether a call gives its result to the place after it.
+pub(crate) fn calls(frames: &mut Frames, code: &MethodCode) -> Result<bool, AllocError> {
+    begin(frames, 0, code, &[])?;
+    let is_called = comes_to(frames, &CALL, 100);
+    call(frames, 1, code, 2)?;
+    let returns = comes_to(frames, &SUBTRACT, 100);
+    come_back(frames);
+    let after = FramePlace {
+        class: 0,
+        method: 0,
+        place: 3,
+        is_first: true,
+    };
+    let result = frames.operand(0) == Some(Cell::Int(4));
+    Ok(is_called && returns && result && frames.at() == Some(after))
+}
+
+/// Begins a body and calls methods, each with one operand, until there are so many frames.
+fn go_down(frames: &mut Frames, code: &MethodCode, depth: usize) -> Result<(), AllocError> {
+    begin(frames, 0, code, &[Cell::Null])?;
+    for number in 1..depth {
+        push(frames, Cell::Int(5));
+        call(frames, number, code, 1)?;
+    }
+    Ok(())
+}
+
+/// Whether so many frames are reached by a large method, without memory, where so many of a small one were reached and left.
+pub(crate) fn reaches_again(
+    frames: &mut Frames,
+    small: &MethodCode,
+    large: &MethodCode,
+    depth: usize,
+) -> Result<bool, AllocError> {
+    go_down(frames, small, depth)?;
+    for _ in 0..depth {
+        frames.leave();
+    }
+    let are_left = frames.len() == 0;
+    let is_reached = go_down(frames, large, depth).is_ok();
+    Ok(are_left && is_reached && frames.len() == depth)
+}
+
+const ROWS: &[Row] = &[
+    Row {
+        files: &[],
+        question: Question::Frames(Deed::Runs(ADDS_UP)),
+    },
+    Row {
+        files: &[],
+        question: Question::Frames(Deed::Runs(ADDS_ONCE)),
+    },
+    Row {
+        files: &[],
+        question: Question::Frames(Deed::Runs(ADDS_SOMETIMES)),
+    },
+    Row {
+        files: &[],
+        question: Question::Frames(Deed::Runs(DIVIDES)),
+    },
+    Row {
+        files: &[],
+        question: Question::Frames(Deed::Runs(SHIFTS)),
+    },
+    Row {
+        files: &[],
+        question: Question::Frames(Deed::Runs(DUPLICATES)),
+    },
+    Row {
+        files: &[],
+        question: Question::Frames(Deed::DropsTwo),
+    },
+    Row {
+        files: &[],
+        question: Question::Frames(Deed::Calls),
+    },
+    Row {
+        files: &[],
+        question: Question::Frames(Deed::ReachesAgain(20)),
+    },
+];
+
 #[test]
-fn operands_are_dropped_from_the_top(rt: HostRuntime) {
-    assert!(rt; drops_two(rt.alloc()) == Ok(true));
+fn frames_are_run_called_and_left(rt: HostRuntime) {
+    are_so(&rt, rt.alloc(), ROWS);
 }

@@ -1,29 +1,61 @@
 //! What tests do to frames, where it may be done.
 
-use frames::{Cell, Frames, Stop};
-use hierarchy::{BuiltIn, MethodCode, Op};
+use crate::frame_runs::{Run, calls, drops_two, reaches_again, runs};
+use crate::frame_throws::{Throw, comes_out};
+use frames::{Cell, Frames};
+use hierarchy::{MethodCode, Program};
 use sequence::Sequence;
 use std::alloc::{AllocError, Global};
 
-/// A method of these instructions.
-pub(crate) fn method(
-    alloc: Global,
-    stack: u16,
-    locals: u16,
-    instructions: &[Op],
-) -> Result<MethodCode, AllocError> {
-    let mut ops = Sequence::new(alloc);
-    for op in instructions {
-        ops.push(*op)?;
-    }
-    Ok(MethodCode {
+/// What is done in frames. They are held in one function alone, since each one that holds them costs its proof.
+#[derive(Clone, Copy)]
+pub(crate) enum Deed {
+    /// Instructions are run, all at once and each alone.
+    Runs(Run),
+    /// Two of three operands are dropped.
+    DropsTwo,
+    /// A method is called, and returns.
+    Calls,
+    /// This depth is reached twice.
+    ReachesAgain(usize),
+    /// An object is thrown.
+    Throws(Throw),
+}
+
+/// A method with room for so much. Its instructions are handed in where it is run.
+fn method(alloc: Global, stack: u16, locals: u16) -> MethodCode {
+    MethodCode {
         stack,
         locals,
         synchronized: false,
         parameters: Sequence::new(alloc),
         result: None,
-        ops,
-    })
+        ops: Sequence::new(alloc),
+    }
+}
+
+/// Whether what is done in new frames comes to what it must.
+pub(crate) fn is_done(alloc: Global, program: &Program, deed: &Deed) -> Result<bool, AllocError> {
+    let code = method(alloc, 4, 2);
+    let large = method(alloc, 1_024, 1_024);
+    let mut frames = Frames::new(alloc);
+    does(&mut frames, program, &code, &large, deed)
+}
+
+fn does(
+    frames: &mut Frames,
+    program: &Program,
+    code: &MethodCode,
+    large: &MethodCode,
+    deed: &Deed,
+) -> Result<bool, AllocError> {
+    match deed {
+        Deed::Runs(run) => runs(frames, code, run),
+        Deed::DropsTwo => drops_two(frames, code),
+        Deed::Calls => calls(frames, code),
+        Deed::ReachesAgain(depth) => reaches_again(frames, code, large, *depth),
+        Deed::Throws(throw) => comes_out(frames, code, program, throw),
+    }
 }
 
 /// Begins a body, where the method has locals for the arguments.
@@ -63,13 +95,6 @@ pub(crate) fn push(frames: &mut Frames, value: Cell) {
     }
 }
 
-/// Pushes these operands, where they have room.
-pub(crate) fn push_all(frames: &mut Frames, values: &[Cell]) {
-    for value in values {
-        push(frames, *value);
-    }
-}
-
 /// Drops so many operands, where they are there.
 #[tactic(auto, using(std::proofs::lemmas::Option::slice_get_within))]
 pub(crate) fn drop_operands(frames: &mut Frames, count: usize) {
@@ -78,27 +103,5 @@ pub(crate) fn drop_operands(frames: &mut Frames, count: usize) {
     }
     if let Some(_) = frames.operand(count - 1) {
         frames.drop_operands(count);
-    }
-}
-
-/// Why a run of instructions stops.
-#[derive(Clone, Copy, PartialEq, Eq)]
-pub(crate) enum Reason {
-    Limit,
-    PastTheEnd,
-    Throws(BuiltIn),
-    Calls(u16, u16),
-    ReturnsInt,
-    Other,
-}
-
-pub(crate) fn reason_of(stop: Stop) -> Reason {
-    match stop {
-        Stop::Limit => Reason::Limit,
-        Stop::PastTheEnd => Reason::PastTheEnd,
-        Stop::Throws(class) => Reason::Throws(class),
-        Stop::LeadsOut(Op::InvokeStatic(class, method)) => Reason::Calls(class, method),
-        Stop::LeadsOut(Op::ReturnInt) => Reason::ReturnsInt,
-        Stop::LeadsOut(_) => Reason::Other,
     }
 }

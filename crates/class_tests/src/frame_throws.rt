@@ -1,11 +1,10 @@
 //! Where thrown objects are caught in the frames of a thread.
 
-use crate::frame_steps::{begin, call, method, push};
-use crate::programs::{Question, is_so};
+use crate::frame_steps::{Deed, begin, call, push};
+use crate::programs::{Question, Row, are_so};
 use frames::{Cell, FramePlace, Frames, Thrown};
 use hierarchy::{MethodCode, Program};
-use std::alloc::{AllocError, Global};
-use std::process::Abort;
+use std::alloc::AllocError;
 
 /// Three methods: the first catches exceptions at its places 1 and 2, at place 3; the second at place 1 alone; the third none.
 const CATCHING: &[u8] = b".class C\n.method static a()V\nnop\nA:\nnop\nnop\nH:\nreturn
@@ -13,7 +12,7 @@ const CATCHING: &[u8] = b".class C\n.method static a()V\nnop\nA:\nnop\nnop\nH:\n
 .catch java/lang/Exception from A to B using A\n.end method\n.method static c()V\nreturn\n.end method";
 
 /// An object that the third method throws, called by the second at a place, and what comes of it.
-#[derive(Clone, Copy, Drop)]
+#[derive(Clone, Copy)]
 pub(crate) struct Throw {
     /// The class of the object.
     name: &'static [u8],
@@ -46,35 +45,29 @@ fn stand(frames: &mut Frames, code: &MethodCode, throw: &Throw) -> Result<(), Al
     call(frames, 2, code, 1)
 }
 
-/// Whether what is thrown in these frames comes to what it must.
-fn comes_out(frames: &mut Frames, program: &Program, throw: &Throw) -> bool {
+/// Whether what is thrown comes to what it must.
+pub(crate) fn comes_out(
+    frames: &mut Frames,
+    code: &MethodCode,
+    program: &Program,
+    throw: &Throw,
+) -> Result<bool, AllocError> {
+    stand(frames, code, throw)?;
     let Some(class) = program.class_named(throw.name) else {
-        return false;
+        return Ok(false);
     };
-    let thrown = Thrown {
-        reference: 6,
-        class,
-    };
-    frames.catch(program, thrown) == throw.caught
-        && frames.at() == throw.at
-        && frames.operand(0) == throw.top
-        && frames.len() == throw.left
+    let reference = 6;
+    let caught = frames.catch(program, Thrown { reference, class });
+    Ok(caught == throw.caught && is_left(frames, throw))
 }
 
-pub(crate) fn throws(alloc: Global, program: &Program, throw: &Throw) -> Result<bool, AllocError> {
-    let code = method(alloc, 1, 1, &[])?;
-    let mut frames = Frames::new(alloc);
-    stand(&mut frames, &code, throw)?;
-    Ok(comes_out(&mut frames, program, throw))
+/// Whether these frames are left.
+fn is_left(frames: &Frames, throw: &Throw) -> bool {
+    frames.at() == throw.at && frames.operand(0) == throw.top && frames.len() == throw.left
 }
 
-/// The object is thrown, and what comes of it is right.
-fn is_right(rt: &impl Abort, alloc: Global, throw: Throw) -> Result<(), AllocError> {
-    assert!(rt; is_so(alloc, &[CATCHING], &Question::Throws(throw))?);
-    Ok(())
-}
-
-const BY_THE_FIRST: Throw = Throw {
+/// Two frames are left.
+const TWO_FRAMES: Throw = Throw {
     name: b"java/lang/ArithmeticException",
     place: 0,
     within: false,
@@ -89,12 +82,8 @@ const BY_THE_FIRST: Throw = Throw {
     left: 1,
 };
 
-#[test]
-fn two_frames_are_left(rt: HostRuntime) -> Result<(), AllocError> {
-    is_right(&rt, rt.alloc(), BY_THE_FIRST)
-}
-
-const BY_THE_SECOND: Throw = Throw {
+/// One frame is left.
+const ONE_FRAME: Throw = Throw {
     name: b"java/lang/ArithmeticException",
     place: 1,
     within: false,
@@ -109,12 +98,8 @@ const BY_THE_SECOND: Throw = Throw {
     left: 2,
 };
 
-#[test]
-fn one_frame_is_left(rt: HostRuntime) -> Result<(), AllocError> {
-    is_right(&rt, rt.alloc(), BY_THE_SECOND)
-}
-
-const BY_NONE: Throw = Throw {
+/// All frames are left.
+const ALL_FRAMES: Throw = Throw {
     name: b"java/lang/VerifyError",
     place: 1,
     within: false,
@@ -124,12 +109,8 @@ const BY_NONE: Throw = Throw {
     left: 0,
 };
 
-#[test]
-fn all_frames_are_left(rt: HostRuntime) -> Result<(), AllocError> {
-    is_right(&rt, rt.alloc(), BY_NONE)
-}
-
-const BY_NONE_OF_A_BODY: Throw = Throw {
+/// A body is left.
+const A_BODY: Throw = Throw {
     name: b"java/lang/ArithmeticException",
     place: 0,
     within: true,
@@ -144,7 +125,26 @@ const BY_NONE_OF_A_BODY: Throw = Throw {
     left: 1,
 };
 
+const THROWS: &[Row] = &[
+    Row {
+        files: &[CATCHING],
+        question: Question::Frames(Deed::Throws(TWO_FRAMES)),
+    },
+    Row {
+        files: &[CATCHING],
+        question: Question::Frames(Deed::Throws(ONE_FRAME)),
+    },
+    Row {
+        files: &[CATCHING],
+        question: Question::Frames(Deed::Throws(ALL_FRAMES)),
+    },
+    Row {
+        files: &[CATCHING],
+        question: Question::Frames(Deed::Throws(A_BODY)),
+    },
+];
+
 #[test]
-fn a_body_is_left(rt: HostRuntime) -> Result<(), AllocError> {
-    is_right(&rt, rt.alloc(), BY_NONE_OF_A_BODY)
+fn frames_are_left(rt: HostRuntime) {
+    are_so(&rt, rt.alloc(), THROWS);
 }

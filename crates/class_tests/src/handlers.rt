@@ -1,6 +1,6 @@
 //! Which row of a handler table catches an object, and step 11.
 
-use crate::programs::{Question, is_so};
+use crate::programs::{Question, Row, are_so};
 use exceptions::{handler_at, replacement};
 use hierarchy::{ClassId, Program};
 
@@ -46,8 +46,12 @@ pub(crate) fn handlers(program: &Program) -> bool {
         )
 }
 
+const ROWS: &[Row] = &[Row {
+    files: &[HANDLERS],
+    question: Question::Handlers,
+}];
+
 #[test]
 fn the_first_row_that_fits_catches(rt: HostRuntime) {
-    let caught = is_so(rt.alloc(), &[HANDLERS], &Question::Handlers);
-    assert!(rt; caught == Ok(true));
+    are_so(&rt, rt.alloc(), ROWS);
 }

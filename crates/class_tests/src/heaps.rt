@@ -1,15 +1,10 @@
 //! The heap of a program without classes, and its monitors.
 
+use crate::programs::{Question, Row, are_so};
 use descriptors::BaseType;
 use heap::{Entry, Heap, Holder, Monitor, Monitors, no_class, out_of_memory};
-use hierarchy::{BuiltIn, Element, Program, ResolvedType, Value, link};
-use std::alloc::Global;
-
-/// What any reference other than null fits.
-const ANY: ResolvedType = ResolvedType {
-    dimensions: 0,
-    element: Element::Any,
-};
+use hierarchy::{BuiltIn, Element, Program, ResolvedType, Value};
+use std::alloc::{AllocError, Global};
 
 /// The type of bytes.
 const BYTE: ResolvedType = ResolvedType {
@@ -17,143 +12,164 @@ const BYTE: ResolvedType = ResolvedType {
     element: Element::Base(BaseType::Byte),
 };
 
-/// The type of arrays of bytes.
-const BYTES: ResolvedType = ResolvedType {
-    dimensions: 1,
-    element: Element::Base(BaseType::Byte),
-};
-
-fn class_type(program: &Program, class: BuiltIn) -> ResolvedType {
-    ResolvedType {
-        dimensions: 0,
-        element: Element::Class((program.built_in(class).number % 65536) as u16),
-    }
-}
-
 /// What is looked at.
 #[derive(Clone, Copy)]
-enum Part {
+pub(crate) enum Part {
     Throws,
     Types,
     Bytes,
     Full,
+    Monitors,
 }
 
 /// Whether thrown objects get the next references, and are found by them.
-fn throws(program: &Program, heap: &mut Heap) -> Option<bool> {
-    let thrown = heap.throwable(program, BuiltIn::VerifyError).ok()?;
-    let wrapped = heap.initializer_error(program).ok()?;
-    let object = heap.new_object(program, thrown.class).ok()??;
-    Some(
-        thrown.reference == 3
-            && thrown.class == program.built_in(BuiltIn::VerifyError)
-            && wrapped.reference == 4
-            && object == 5
-            && heap.class_of(program, 4) == Some(wrapped.class)
-            && heap.class_of(program, 6).is_none()
-            && out_of_memory(program).reference == 1
-            && no_class(program).reference == 2,
-    )
+fn throws(program: &Program, heap: &mut Heap) -> Result<bool, AllocError> {
+    let thrown = heap.throwable(program, BuiltIn::VerifyError)?;
+    let wrapped = heap.initializer_error(program)?;
+    let object = heap.new_object(program, thrown.class)?;
+    let are_next = thrown.reference == 3 && wrapped.reference == 4 && object == Some(5);
+    let are_found = heap.class_of(program, 3) == Some(program.built_in(BuiltIn::VerifyError))
+        && heap.class_of(program, 4) == Some(wrapped.class)
+        && heap.class_of(program, 6).is_none();
+    let are_ready = out_of_memory(program).reference == 1 && no_class(program).reference == 2;
+    Ok(are_next && are_found && are_ready)
 }
 
-/// Whether an object fits what it is, and has no field where its class has none.
-fn types(program: &Program, heap: &mut Heap) -> Option<bool> {
-    heap.throwable(program, BuiltIn::VerifyError).ok()?;
-    Some(
-        heap.is_instance(program, class_type(program, BuiltIn::Error), 3)
-            && !heap.fits(program, class_type(program, BuiltIn::Exception), 3)
-            && heap.fits(program, ANY, 0)
-            && !heap.fits(program, ANY, 6)
-            && heap.field(program, BYTE, 3, 0).is_none()
-            && !heap.put_field(program, BYTE, 3, 0, Value::Int(1)),
-    )
+/// A type, by its dimensions and its element, a reference, whether that refers to an instance of the type, and whether it fits it.
+/// A built-in class is its own number where no file has a class.
+type Fitting = (u8, Element, u32, bool, bool);
+
+/// An error is at reference 3, an array of bytes at 4.
+const FITTINGS: &[Fitting] = &[
+    (0, Element::Class(BuiltIn::Error as u16), 3, true, true),
+    (
+        0,
+        Element::Class(BuiltIn::Exception as u16),
+        3,
+        false,
+        false,
+    ),
+    (0, Element::Any, 0, false, true),
+    (0, Element::Any, 6, false, false),
+    (1, Element::Base(BaseType::Byte), 4, true, true),
+    (0, Element::Class(BuiltIn::Object as u16), 4, true, true),
+    (0, Element::Class(BuiltIn::String as u16), 4, false, false),
+];
+
+/// Whether references fit types as they must.
+fn are_fitting(program: &Program, heap: &Heap) -> bool {
+    for (dimensions, element, reference, is_instance, fits) in FITTINGS {
+        let wanted = ResolvedType {
+            dimensions: *dimensions,
+            element: *element,
+        };
+        if heap.is_instance(program, wanted, *reference) != *is_instance
+            || heap.fits(program, wanted, *reference) != *fits
+        {
+            return false;
+        }
+    }
+    true
+}
+
+/// Whether objects and arrays fit what they are, and have no field where their class has none.
+fn types(program: &Program, heap: &mut Heap) -> Result<bool, AllocError> {
+    heap.throwable(program, BuiltIn::VerifyError)?;
+    heap.new_array(program, BYTE, 2)?;
+    let has_field = heap.field(program, BYTE, 3, 0).is_some()
+        || heap.put_field(program, BYTE, 3, 0, Value::Int(1));
+    Ok(!has_field && are_fitting(program, heap))
 }
 
 /// Whether an array holds defaults and what is written to it, as its type keeps it.
-fn keeps_bytes(program: &Program, heap: &mut Heap) -> Option<bool> {
-    let bytes = heap.new_array(program, BYTE, 2).ok()??;
-    Some(
-        heap.element_type(program, bytes) == Some(BYTE)
-            && heap.length(program, bytes) == Some(2)
-            && heap.put_element(program, bytes, 1, Value::Int(200))
-            && !heap.put_element(program, bytes, 2, Value::Int(200))
-            && heap.element(program, bytes, 0) == Some(Value::Int(0))
-            && heap.element(program, bytes, 1) == Some(Value::Int(-56))
-            && heap.is_instance(program, BYTES, bytes)
-            && heap.is_instance(program, class_type(program, BuiltIn::Object), bytes)
-            && !heap.is_instance(program, class_type(program, BuiltIn::String), bytes)
-            && heap.class_of(program, bytes) == Some(program.built_in(BuiltIn::Object)),
-    )
+fn keeps_bytes(program: &Program, heap: &mut Heap) -> Result<bool, AllocError> {
+    let bytes = heap.new_array(program, BYTE, 2)?;
+    let is_made = bytes == Some(3)
+        && heap.element_type(program, 3) == Some(BYTE)
+        && heap.length(program, 3) == Some(2)
+        && heap.class_of(program, 3) == Some(program.built_in(BuiltIn::Object));
+    let is_put = heap.put_element(program, 3, 1, Value::Int(200))
+        && !heap.put_element(program, 3, 2, Value::Int(200));
+    let is_kept = heap.element(program, 3, 0) == Some(Value::Int(0))
+        && heap.element(program, 3, 1) == Some(Value::Int(-56));
+    Ok(is_made && is_put && is_kept)
 }
 
 /// Whether nothing is made where there is no room.
-fn is_full(program: &Program, heap: &mut Heap) -> Option<bool> {
-    let huge = heap.new_array(program, BYTE, usize::MAX).ok()?;
-    let most = heap.new_array(program, BYTE, 999_996).ok()?;
-    let more = heap.new_array(program, BYTE, 0).ok()?;
-    let thrown = heap.throwable(program, BuiltIn::VerifyError).ok()?;
-    Some(huge.is_none() && most == Some(3) && more.is_none() && thrown.reference == 1)
+fn is_full(program: &Program, heap: &mut Heap) -> Result<bool, AllocError> {
+    let huge = heap.new_array(program, BYTE, usize::MAX)?;
+    let most = heap.new_array(program, BYTE, 999_996)?;
+    let more = heap.new_array(program, BYTE, 0)?;
+    let thrown = heap.throwable(program, BuiltIn::VerifyError)?;
+    Ok(huge.is_none() && most == Some(3) && more.is_none() && thrown.reference == 1)
 }
 
-/// Whether a part of the heap is right, over a program without classes.
-fn is_right(alloc: Global, part: Part) -> Option<bool> {
-    let program = link(alloc, Vec::new(alloc)).ok()?;
-    let mut heap = Heap::new(alloc);
-    match part {
-        Part::Throws => throws(&program, &mut heap),
-        Part::Types => types(&program, &mut heap),
-        Part::Bytes => keeps_bytes(&program, &mut heap),
-        Part::Full => is_full(&program, &mut heap),
-    }
+const MONITOR: Monitor = Monitor::Object(7);
+
+/// Whether thread 1 enters the monitor twice, and thread 2 doesn't.
+fn enters(monitors: &mut Monitors) -> Result<bool, AllocError> {
+    let first = monitors.enter(1, MONITOR)?;
+    let again = monitors.enter(1, MONITOR)?;
+    let other = monitors.enter(2, MONITOR)?;
+    let holder = Holder {
+        thread: 1,
+        count: 2,
+    };
+    let are_right = first == Entry::Entered && again == Entry::Entered && other == Entry::Busy;
+    Ok(are_right && monitors.holder(MONITOR) == Some(holder))
+}
+
+/// Whether thread 1 leaves the monitor, and thread 2 doesn't.
+fn leaves(monitors: &mut Monitors) -> bool {
+    let left = monitors.exit(1, MONITOR);
+    let not_left = monitors.exit(2, MONITOR);
+    monitors.release_all(1);
+    left && !not_left && monitors.holder(MONITOR).is_none()
 }
 
 /// Whether a monitor is held by one thread, as often as it entered it.
-fn is_held(alloc: Global) -> Option<bool> {
+fn is_held(alloc: Global) -> Result<bool, AllocError> {
     let mut monitors = Monitors::new(alloc);
-    let monitor = Monitor::Object(7);
-    let first = monitors.enter(1, monitor).ok()?;
-    let again = monitors.enter(1, monitor).ok()?;
-    let other = monitors.enter(2, monitor).ok()?;
-    let held = monitors.holder(monitor);
-    let left = monitors.exit(1, monitor);
-    let not_left = monitors.exit(2, monitor);
-    monitors.release_all(1);
-    Some(
-        first == Entry::Entered
-            && again == Entry::Entered
-            && other == Entry::Busy
-            && held
-                == Some(Holder {
-                    thread: 1,
-                    count: 2,
-                })
-            && left
-            && !not_left
-            && monitors.holder(monitor).is_none(),
-    )
+    let is_entered = enters(&mut monitors)?;
+    Ok(is_entered && leaves(&mut monitors))
 }
 
-#[test]
-fn thrown_objects_are_found_by_their_references(rt: HostRuntime) {
-    assert!(rt; is_right(rt.alloc(), Part::Throws) == Some(true));
+/// Whether a part of a new heap is right, over a program without classes.
+pub(crate) fn is_right(alloc: Global, program: &Program, part: Part) -> Result<bool, AllocError> {
+    let mut heap = Heap::new(alloc);
+    match part {
+        Part::Throws => throws(program, &mut heap),
+        Part::Types => types(program, &mut heap),
+        Part::Bytes => keeps_bytes(program, &mut heap),
+        Part::Full => is_full(program, &mut heap),
+        Part::Monitors => is_held(alloc),
+    }
 }
 
-#[test]
-fn objects_fit_what_they_are(rt: HostRuntime) {
-    assert!(rt; is_right(rt.alloc(), Part::Types) == Some(true));
-}
+const ROWS: &[Row] = &[
+    Row {
+        files: &[],
+        question: Question::Heap(Part::Throws),
+    },
+    Row {
+        files: &[],
+        question: Question::Heap(Part::Types),
+    },
+    Row {
+        files: &[],
+        question: Question::Heap(Part::Bytes),
+    },
+    Row {
+        files: &[],
+        question: Question::Heap(Part::Full),
+    },
+    Row {
+        files: &[],
+        question: Question::Heap(Part::Monitors),
+    },
+];
 
 #[test]
-fn arrays_keep_narrowed_values(rt: HostRuntime) {
-    assert!(rt; is_right(rt.alloc(), Part::Bytes) == Some(true));
-}
-
-#[test]
-fn a_full_heap_makes_nothing(rt: HostRuntime) {
-    assert!(rt; is_right(rt.alloc(), Part::Full) == Some(true));
-}
-
-#[test]
-fn a_monitor_is_held_by_one_thread(rt: HostRuntime) {
-    assert!(rt; is_held(rt.alloc()) == Some(true));
+fn heaps_and_monitors(rt: HostRuntime) {
+    are_so(&rt, rt.alloc(), ROWS);
 }

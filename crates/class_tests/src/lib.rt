@@ -5,8 +5,6 @@
 #[cfg(test)]
 mod comparing;
 #[cfg(test)]
-mod frame_calls;
-#[cfg(test)]
 mod frame_runs;
 #[cfg(test)]
 mod frame_steps;
@@ -26,10 +24,6 @@ mod records;
 mod resolved;
 #[cfg(test)]
 mod schedules;
-#[cfg(test)]
-mod static_values;
-#[cfg(test)]
-mod traces;
 #[cfg(test)]
 mod twin;
 #[cfg(test)]

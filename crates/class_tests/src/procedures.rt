@@ -3,11 +3,10 @@
 ghost use Rattle.std.specs.Prelude.{◌≡◌, [], None};
 ghost use Rattle.init_core.specs.Leads.{standing};
 
-use crate::programs::{Question, is_so};
+use crate::programs::{Question, Row, are_so};
 use hierarchy::{BuiltIn, ClassId, Program};
 use init_core::{Answer, Completed, Decision, Ending, Next, Outcome, Procedure};
 use std::alloc::{AllocError, Global};
-use std::test::Fail;
 
 const CLASS: ClassId = ClassId { number: 0 };
 
@@ -87,47 +86,86 @@ fn begins(alloc: Global, program: &Program, procedure: &mut Procedure) -> Result
     Ok(next == Next::Body(CLASS))
 }
 
-fn is_refused(alloc: Global, program: &Program) -> Result<bool, AllocError> {
-    let outcome = Outcome::Abrupt(program.built_in(BuiltIn::NoClassDefFoundError));
-    let mut procedure = Procedure::new(alloc);
-    let is_so = refuses(alloc, program, &mut procedure);
-    let was_completed = is_completed(&procedure, outcome);
-    procedure.forget_last();
-    Ok(was_completed && procedure.last().is_none() && is_so?)
+/// What a procedure is asked and told.
+#[derive(Clone, Copy)]
+pub(crate) enum Course {
+    Refuses,
+    GivesUp,
+    WaitsAndGivesUp,
+    Throws,
 }
 
-fn is_given_up(alloc: Global, program: &Program) -> Result<bool, AllocError> {
-    let error = program.built_in(BuiltIn::OutOfMemoryError);
-    let mut procedure = Procedure::new(alloc);
-    let is_so = gives_up(alloc, program, &mut procedure);
-    Ok(is_completed(&procedure, Outcome::Ended(error)) && is_so?)
+/// Whether the procedure stands as its answers say until it is completed.
+fn goes(
+    alloc: Global,
+    program: &Program,
+    procedure: &mut Procedure,
+    course: Course,
+) -> Result<bool, AllocError>
+    requires { procedure.old ≡ standing [] None }
+{
+    match course {
+        Course::Refuses => refuses(alloc, program, procedure),
+        Course::GivesUp => gives_up(alloc, program, procedure),
+        Course::WaitsAndGivesUp => waits_and_gives_up(alloc, program, procedure),
+        Course::Throws => begins(alloc, program, procedure),
+    }
 }
 
-fn is_given_up_in_waiting(alloc: Global, program: &Program) -> Result<bool, AllocError> {
-    let error = program.built_in(BuiltIn::InternalError);
-    let mut procedure = Procedure::new(alloc);
-    let is_so = waits_and_gives_up(alloc, program, &mut procedure);
-    Ok(is_completed(&procedure, Outcome::Ended(error)) && is_so?)
+/// Whether the procedure is completed as it must be.
+fn ends(program: &Program, procedure: &mut Procedure, course: Course) -> bool {
+    match course {
+        Course::Refuses => {
+            let refused = program.built_in(BuiltIn::NoClassDefFoundError);
+            let was_completed = is_completed(procedure, Outcome::Abrupt(refused));
+            procedure.forget_last();
+            was_completed && procedure.last().is_none()
+        }
+        Course::GivesUp => {
+            let error = program.built_in(BuiltIn::OutOfMemoryError);
+            is_completed(procedure, Outcome::Ended(error))
+        }
+        Course::WaitsAndGivesUp => {
+            let error = program.built_in(BuiltIn::InternalError);
+            is_completed(procedure, Outcome::Ended(error))
+        }
+        Course::Throws => runs_a_body(procedure) && throws(procedure),
+    }
 }
 
-fn is_thrown(alloc: Global, program: &Program) -> Result<bool, AllocError> {
+/// Whether a new procedure goes this course.
+pub(crate) fn is_gone(
+    alloc: Global,
+    program: &Program,
+    course: Course,
+) -> Result<bool, AllocError> {
     let mut procedure = Procedure::new(alloc);
-    let is_begun = begins(alloc, program, &mut procedure);
-    Ok(runs_a_body(&mut procedure) && throws(&mut procedure) && is_begun?)
+    let goes = goes(alloc, program, &mut procedure, course)?;
+    Ok(goes && ends(program, &mut procedure, course))
 }
 
-/// Whether each procedure stands as its answers say.
-pub(crate) fn procedures(alloc: Global, program: &Program) -> Result<bool, AllocError> {
-    Ok(
-        is_refused(alloc, program)?
-            && is_given_up(alloc, program)?
-            && is_given_up_in_waiting(alloc, program)?
-            && is_thrown(alloc, program)?,
-    )
-}
+const SOLO: &[&[u8]] = &[b".class Solo"];
+
+const COURSES: &[Row] = &[
+    Row {
+        files: SOLO,
+        question: Question::Procedure(Course::Refuses),
+    },
+    Row {
+        files: SOLO,
+        question: Question::Procedure(Course::GivesUp),
+    },
+    Row {
+        files: SOLO,
+        question: Question::Procedure(Course::WaitsAndGivesUp),
+    },
+    Row {
+        files: SOLO,
+        question: Question::Procedure(Course::Throws),
+    },
+];
 
 #[test]
-fn steps_of_one_class(rt: HostRuntime) -> Result<(), Fail> {
-    assert!(rt; is_so(rt.alloc(), &[b".class Solo"], &Question::Procedures)?);
-    Ok(())
+fn steps_of_one_class(rt: HostRuntime) {
+    are_so(&rt, rt.alloc(), COURSES);
 }

@@ -1,63 +1,59 @@
 //! Programs for tests, from the texts of their classes. A program is held in one function alone, since each one that
 //! holds it costs its proof.
 
-use crate::comparing::{Case, agrees, differs};
-use crate::frame_throws::{Throw, throws};
+use crate::comparing::{Case, is_as_compared};
+use crate::frame_steps::{Deed, is_done};
 use crate::handlers::handlers;
-use crate::procedures::procedures;
-use crate::records::records;
+use crate::heaps::{Part, is_right};
+use crate::procedures::{Course, is_gone};
+use crate::records::{Story, is_told};
 use crate::resolved::resolved;
-use crate::traces::traces;
-use crate::worlds::{a_thread_ends, a_waiter_ends, superclass_is_first, two_threads_end};
+use crate::worlds::{Scene, is_as_played};
 use hierarchy::{Program, link};
 use jasmin_reader::read_class;
 use jasmin_text::ClassText;
 use std::alloc::{AllocError, Global};
+use std::process::Abort;
 
 /// What is asked of a program.
-#[derive(Clone, Copy, Drop)]
+#[derive(Clone, Copy)]
 pub(crate) enum Question {
-    /// Records of one class.
-    Records,
+    /// What is done to the record of a class.
+    Record(Story),
     /// One thread's procedure for one class.
-    Procedures,
+    Procedure(Course),
     /// Handler tables, and step 11.
     Handlers,
-    /// An object is thrown in frames.
-    Throws(Throw),
+    /// What is done in frames.
+    Frames(Deed),
+    /// A part of the heap.
+    Heap(Part),
     /// Resolved instructions.
     Resolved,
-    /// The text of traces.
-    Traces,
-    /// World and the twin judge alike to this depth.
-    Agrees(Case, usize),
-    /// World and the twin judge otherwise somewhere.
-    Differs(Case),
-    /// A superclass is initialized before its subclass.
-    SuperclassFirst,
-    /// Two threads end with one class.
-    TwoThreads,
-    /// The machine ends a thread in a body.
-    ThreadEnds,
-    /// The machine ends a thread that waits.
-    WaiterEnds,
+    /// World beside the twin.
+    Compared(Case),
+    /// Two threads, turn by turn.
+    Played(Scene),
+}
+
+/// The files of a program, and what is asked of it.
+#[derive(Clone, Copy)]
+pub(crate) struct Row {
+    pub files: &'static [&'static [u8]],
+    pub question: Question,
 }
 
 /// Whether the program's answer is as the question says.
 fn answers(alloc: Global, program: &Program, question: &Question) -> Result<bool, AllocError> {
     match question {
-        Question::Records => records(alloc, program),
-        Question::Procedures => procedures(alloc, program),
+        Question::Record(story) => is_told(alloc, program, story),
+        Question::Procedure(course) => is_gone(alloc, program, *course),
         Question::Handlers => Ok(handlers(program)),
-        Question::Throws(throw) => throws(alloc, program, throw),
+        Question::Frames(deed) => is_done(alloc, program, deed),
+        Question::Heap(part) => is_right(alloc, program, *part),
         Question::Resolved => Ok(resolved(program)),
-        Question::Traces => traces(alloc, program),
-        Question::Agrees(case, depth) => agrees(alloc, program, case, *depth),
-        Question::Differs(case) => differs(alloc, program, case),
-        Question::SuperclassFirst => superclass_is_first(alloc, program),
-        Question::TwoThreads => two_threads_end(alloc, program),
-        Question::ThreadEnds => a_thread_ends(alloc, program),
-        Question::WaiterEnds => a_waiter_ends(alloc, program),
+        Question::Compared(case) => is_as_compared(alloc, program, case),
+        Question::Played(scene) => is_as_played(alloc, program, scene),
     }
 }
 
@@ -80,19 +76,19 @@ fn class_texts(alloc: Global, files: &[&[u8]]) -> Result<Vec<ClassText>, AllocEr
 }
 
 /// Whether all files are classes, which link, and the program's answer is as the question says.
-pub(crate) fn is_so(
-    alloc: Global,
-    files: &[&[u8]],
-    question: &Question,
-) -> Result<bool, AllocError> {
-    match link(alloc, class_texts(alloc, files)?) {
+fn is_so(alloc: Global, row: &Row) -> Result<bool, AllocError> {
+    match link(alloc, class_texts(alloc, row.files)?) {
         Ok(program) => {
-            if program.len() == files.len() {
-                answers(alloc, &program, question)
-            } else {
-                Ok(false)
-            }
+            let is_whole = program.len() == row.files.len();
+            Ok(is_whole && answers(alloc, &program, &row.question)?)
         }
         Err(_) => Ok(false),
+    }
+}
+
+/// All programs answer as their questions say.
+pub(crate) fn are_so(rt: &impl Abort, alloc: Global, rows: &[Row]) {
+    for (place, row) in rows.iter().enumerate() {
+        assert!(rt; is_so(alloc, row) == Ok(true), "row {place}");
     }
 }

@@ -1,212 +1,331 @@
 //! One class's record, by one thread and by two.
 
-ghost use Rattle.std.specs.Prelude.{◌<◌};
-ghost use Rattle.init_core.specs.Numbers.{IsInRange};
-
-use crate::programs::{Question, is_so};
-use crate::static_values::{CONSTANTS, FIELDS, constants, within_step_7, writes};
-use hierarchy::{ClassId, Program};
-use init_core::{CLASS_NUMBERS, ClassRecord, Decision, Event, Kind, Label, THREADS};
+use crate::programs::{Question, Row, are_so};
+use hierarchy::{ClassId, Program, Value};
+use init_core::{CLASS_NUMBERS, ClassRecord, Decision, Ending, Event, Kind, Label, THREADS};
 use sequence::Text;
 use std::alloc::{AllocError, Global};
-use std::test::Fail;
+use trace::write_trace;
 
-const FILES: [&[u8]; 3] = [b".class Solo", CONSTANTS, FIELDS];
-
-const CLASS: ClassId = ClassId { number: 0 };
+/// A class without fields, one whose static fields have constants, with an instance field between them, and one with a constant
+/// before a field without one.
+const FILES: &[&[u8]] = &[
+    b".class Solo",
+    b".class C\n.field static b B = 300\n.field static z Z = 2\n.field static s Ljava/lang/String; = \"a\"\n.field static n I",
+    b".class D\n.field static k I = 5\n.field static n S",
+];
 
 const ERROR: ClassId = ClassId { number: 7 };
 
-/// What is done to a record.
-#[derive(Clone, Copy, Drop)]
+/// What is done to a record, where it may be done.
+#[derive(Clone, Copy)]
 enum Deed {
-    Completes,
-    Fails { by_super: bool },
-    Begins,
-    Constants,
-    WithinStep7,
-    Writes,
+    /// Room is made for an event.
+    Reserves,
+    /// This thread looks at the class, and finds this.
+    Finds(usize, Decision),
+    /// The owner ends the class so.
+    Ends(Ending),
+    /// Thread 0 reads a static field, by its place, and gets this.
+    Gets(usize, Value),
+    /// Thread 0 writes a static field, by its place.
+    Puts(usize, Value),
 }
 
-fn event(thread: usize, kind: Kind) -> Event
-    requires thread { thread < THREADS }
-    requires kind { IsInRange kind }
-{
-    Event::new(thread, CLASS, kind)
+/// What is done to the record of a class, and what comes of it.
+#[derive(Clone, Copy)]
+pub(crate) struct Story {
+    class: usize,
+    deeds: &'static [Deed],
+    label: Label,
+    owner: Option<usize>,
+    failure: Option<ClassId>,
+    /// What the static fields hold.
+    values: &'static [Value],
+    /// The events, as a trace.
+    trace: &'static [u8],
 }
 
-/// Whether two events are alike.
-pub(crate) fn alike(one: &Event, other: &Event) -> Result<bool, AllocError> {
-    Ok(
-        one.thread() == other.thread()
-            && one.class() == other.class()
-            && one.kind()? == other.kind()?,
-    )
+/// A record to which nothing is done.
+const PREPARED: Story = Story {
+    class: 0,
+    deeds: &[],
+    label: Label::Prepared,
+    owner: None,
+    failure: None,
+    values: &[],
+    trace: b"",
+};
+
+/// A thread has begun to initialize the class in reserved room.
+const BEGUN: Story = Story {
+    deeds: &[Deed::Reserves, Deed::Finds(0, Decision::Begins)],
+    label: Label::InProgress(0),
+    owner: Some(0),
+    trace: b"0 t0 step6 Solo\n",
+    ..PREPARED
+};
+
+const COMPLETED: Story = Story {
+    deeds: &[
+        Deed::Finds(0, Decision::Begins),
+        Deed::Finds(0, Decision::Recurs),
+        Deed::Finds(1, Decision::Waits { first: true }),
+        Deed::Finds(1, Decision::Waits { first: false }),
+        Deed::Ends(Ending::Completes),
+        Deed::Finds(1, Decision::FindsInitialized),
+    ],
+    label: Label::Initialized,
+    trace: b"0 t0 step6 Solo\n1 t0 step3 Solo\n2 t1 step2 Solo\n3 t0 step10 Solo\n4 t1 step4 Solo\n",
+    ..PREPARED
+};
+
+const FAILED: Story = Story {
+    deeds: &[
+        Deed::Finds(3, Decision::Begins),
+        Deed::Ends(Ending::Fails(ERROR)),
+        Deed::Finds(3, Decision::FindsErroneous),
+        Deed::Finds(0, Decision::FindsErroneous),
+    ],
+    label: Label::Erroneous,
+    failure: Some(ERROR),
+    trace: b"0 t3 step6 Solo\n1 t3 step12 Solo java/lang/Throwable\n2 t3 step5 Solo\n3 t0 step5 Solo\n",
+    ..PREPARED
+};
+
+const FAILED_BY_SUPER: Story = Story {
+    deeds: &[
+        Deed::Finds(3, Decision::Begins),
+        Deed::Ends(Ending::SuperFails(ERROR)),
+        Deed::Finds(3, Decision::FindsErroneous),
+        Deed::Finds(0, Decision::FindsErroneous),
+    ],
+    trace: b"0 t3 step6 Solo\n1 t3 step7 Solo java/lang/Throwable\n2 t3 step5 Solo\n3 t0 step5 Solo\n",
+    ..FAILED
+};
+
+/// Before step 6 no constant is there.
+const DEFAULTS: Story = Story {
+    class: 1,
+    values: &[Value::Int(0), Value::Int(0), Value::Null, Value::Int(0)],
+    ..PREPARED
+};
+
+/// Constants are narrowed to their field's type.
+const NARROWED: Story = Story {
+    class: 1,
+    deeds: &[
+        Deed::Finds(0, Decision::Begins),
+        Deed::Gets(0, Value::Int(44)),
+        Deed::Gets(1, Value::Int(0)),
+        Deed::Gets(2, Value::Reference(3)),
+        Deed::Gets(3, Value::Int(0)),
+    ],
+    values: &[
+        Value::Int(44),
+        Value::Int(0),
+        Value::Reference(3),
+        Value::Int(0),
+    ],
+    trace: b"0 t0 step6 C\n1 t0 get C b:B 44\n2 t0 get C z:Z 0\n3 t0 get C s:Ljava/lang/String; #3\n4 t0 get C n:I 0\n",
+    ..BEGUN
+};
+
+/// From step 6 on constants are there, before anything that the class needs is done.
+const WITHIN_STEP_7: Story = Story {
+    class: 2,
+    deeds: &[
+        Deed::Finds(0, Decision::Begins),
+        Deed::Finds(0, Decision::Recurs),
+        Deed::Gets(0, Value::Int(5)),
+        Deed::Finds(0, Decision::Recurs),
+        Deed::Gets(1, Value::Int(0)),
+    ],
+    values: &[Value::Int(5), Value::Int(0)],
+    trace: b"0 t0 step6 D\n1 t0 step3 D\n2 t0 get D k:I 5\n3 t0 step3 D\n4 t0 get D n:S 0\n",
+    ..BEGUN
+};
+
+/// A field holds what was written last, as the field keeps it.
+const WRITTEN: Story = Story {
+    class: 2,
+    deeds: &[
+        Deed::Finds(0, Decision::Begins),
+        Deed::Puts(0, Value::Int(-9)),
+        Deed::Puts(1, Value::Int(32768)),
+        Deed::Gets(0, Value::Int(-9)),
+        Deed::Gets(1, Value::Int(-32768)),
+        Deed::Puts(0, Value::Int(8)),
+        Deed::Gets(0, Value::Int(8)),
+        Deed::Gets(1, Value::Int(-32768)),
+    ],
+    values: &[Value::Int(8), Value::Int(-32768)],
+    trace: b"0 t0 step6 D\n1 t0 put D k:I -9\n2 t0 put D n:S -32768\n3 t0 get D k:I -9\n4 t0 get D n:S -32768\n5 t0 put D k:I 8\n6 t0 get D k:I 8\n7 t0 get D n:S -32768\n",
+    ..BEGUN
+};
+
+const STORIES: &[Row] = &[
+    Row {
+        files: FILES,
+        question: Question::Record(PREPARED),
+    },
+    Row {
+        files: FILES,
+        question: Question::Record(BEGUN),
+    },
+    Row {
+        files: FILES,
+        question: Question::Record(COMPLETED),
+    },
+    Row {
+        files: FILES,
+        question: Question::Record(FAILED),
+    },
+    Row {
+        files: FILES,
+        question: Question::Record(FAILED_BY_SUPER),
+    },
+    Row {
+        files: FILES,
+        question: Question::Record(DEFAULTS),
+    },
+    Row {
+        files: FILES,
+        question: Question::Record(NARROWED),
+    },
+    Row {
+        files: FILES,
+        question: Question::Record(WITHIN_STEP_7),
+    },
+    Row {
+        files: FILES,
+        question: Question::Record(WRITTEN),
+    },
+];
+
+/// The owner ends the class, where it fails by the error.
+fn ends(record: &mut ClassRecord, ending: &Ending) -> bool {
+    let Label::InProgress(owner) = record.label() else {
+        return false;
+    };
+    match ending {
+        Ending::Completes => record.complete(owner),
+        Ending::SuperFails(_) => record.super_failed(owner, ERROR),
+        Ending::Fails(_) => record.fail(owner, ERROR),
+    }
+    true
 }
 
-/// Whether each thread in turn that looks at the class finds this.
-pub(crate) fn finds(
-    record: &mut ClassRecord,
-    looks: &[(usize, Decision)],
-) -> Result<bool, AllocError> {
-    for (thread, decision) in looks {
-        if *thread >= THREADS || record.enter(*thread)? != *decision {
+/// Thread 0 reads a static field.
+fn gets(record: &mut ClassRecord, place: usize, value: Value) -> Result<bool, AllocError> {
+    if let Label::InProgress(0) = record.label() {
+        if place < record.static_fields() {
+            return Ok(record.read_static(0, place)? == value);
+        }
+    }
+    Ok(false)
+}
+
+/// Thread 0 writes a static field.
+fn puts(record: &mut ClassRecord, place: usize, value: Value) -> Result<bool, AllocError> {
+    if let Label::InProgress(0) = record.label() {
+        if place < record.static_fields() {
+            record.write_static(0, place, value)?;
+            return Ok(true);
+        }
+    }
+    Ok(false)
+}
+
+/// Whether this can be done, and comes to what it must.
+fn does(record: &mut ClassRecord, deed: &Deed) -> Result<bool, AllocError> {
+    match deed {
+        Deed::Reserves => {
+            record.reserve()?;
+            Ok(true)
+        }
+        Deed::Finds(thread, decision) => {
+            Ok(*thread < THREADS && record.enter(*thread)? == *decision)
+        }
+        Deed::Ends(ending) => Ok(ends(record, ending)),
+        Deed::Gets(place, value) => gets(record, *place, *value),
+        Deed::Puts(place, value) => puts(record, *place, *value),
+    }
+}
+
+fn does_all(record: &mut ClassRecord, deeds: &[Deed]) -> Result<bool, AllocError> {
+    for deed in deeds {
+        if !does(record, deed)? {
             return Ok(false);
         }
     }
     Ok(true)
 }
 
-const BESIDE_THE_OWNER: [(usize, Decision); 4] = [
-    (0, Decision::Begins),
-    (0, Decision::Recurs),
-    (1, Decision::Waits { first: true }),
-    (1, Decision::Waits { first: false }),
-];
-
-/// Whether the record is of the class, and nothing was done yet.
-fn is_prepared(record: &ClassRecord) -> bool {
-    record.label() == Label::Prepared && record.class() == CLASS
-}
-
-/// Its owner completes the class.
-fn ends(record: &mut ClassRecord) -> bool {
-    let was_owned = record.owner() == Some(0);
-    let Label::InProgress(0) = record.label() else {
-        return false;
-    };
-    record.complete(0);
-    was_owned && record.label() == Label::Initialized
-}
-
-/// Whether these are the events of the record.
-fn has_history(record: &ClassRecord, events: &[Event]) -> Result<bool, AllocError> {
-    for (place, event) in events.iter().enumerate() {
-        if place >= record.len() || !alike(&record.event(place)?, event)? {
-            return Ok(false);
+/// Whether each field holds its value. None is read.
+fn holds(record: &ClassRecord, values: &[Value]) -> bool {
+    for (place, value) in values.iter().enumerate() {
+        if place >= record.static_fields() || record.value(place) != *value {
+            return false;
         }
     }
-    Ok(record.len() == events.len())
+    record.static_fields() == values.len()
 }
 
-fn is_kept(record: &ClassRecord) -> Result<bool, AllocError> {
-    let events = [
-        event(0, Kind::Begins),
-        event(0, Kind::Recurs),
-        event(1, Kind::Waits),
-        event(0, Kind::Completes),
-        event(1, Kind::FindsInitialized),
-    ];
-    Ok(
-        record.owner().is_none()
-            && record.failure().is_none()
-            && has_history(record, events.as_slice())?,
-    )
+/// Whether the record stands as it must.
+fn stands(record: &ClassRecord, story: &Story) -> bool {
+    record.class().number == story.class
+        && record.label() == story.label
+        && record.owner() == story.owner
+        && record.failure() == story.failure
+        && holds(record, story.values)
 }
 
-fn completes(record: &mut ClassRecord) -> Result<bool, AllocError> {
-    Ok(
-        is_prepared(record)
-            && finds(record, &BESIDE_THE_OWNER)?
-            && ends(record)
-            && finds(record, &[(1, Decision::FindsInitialized)])?
-            && is_kept(record)?,
-    )
-}
-
-/// Its owner fails.
-fn is_failed(record: &mut ClassRecord, by_super: bool) -> bool {
-    let Label::InProgress(3) = record.label() else {
-        return false;
-    };
-    if by_super {
-        record.super_failed(3, ERROR);
-    } else {
-        record.fail(3, ERROR);
+/// The events of a record.
+fn history(alloc: Global, record: &ClassRecord) -> Result<Vec<Event>, AllocError> {
+    let mut events = Vec::new(alloc);
+    for place in 0..record.len() {
+        events.push(record.event(place)?)?;
     }
-    record.label() == Label::Erroneous && record.failure() == Some(ERROR)
+    Ok(events)
 }
 
-const ERRONEOUS: [(usize, Decision); 2] = [
-    (3, Decision::FindsErroneous),
-    (0, Decision::FindsErroneous),
-];
-
-fn fails(record: &mut ClassRecord, by_super: bool) -> Result<bool, AllocError> {
-    Ok(
-        finds(record, &[(3, Decision::Begins)])?
-            && is_failed(record, by_super)
-            && finds(record, &ERRONEOUS)?
-            && record.len() == 4,
-    )
-}
-
-/// A class begins in reserved room.
-fn begins(record: &mut ClassRecord) -> Result<bool, AllocError> {
-    record.reserve()?;
-    Ok(record.enter(0)?.kind() == Kind::Begins)
-}
-
-fn does(
-    alloc: Global,
-    program: &Program,
-    record: &mut ClassRecord,
-    deed: Deed,
-) -> Result<bool, AllocError> {
-    match deed {
-        Deed::Completes => completes(record),
-        Deed::Fails { by_super } => fails(record, by_super),
-        Deed::Begins => begins(record),
-        Deed::Constants => constants(alloc, program, record),
-        Deed::WithinStep7 => within_step_7(record),
-        Deed::Writes => writes(record),
-    }
-}
-
-fn is_done(alloc: Global, program: &Program, class: usize, deed: Deed) -> Result<bool, AllocError> {
-    if class >= CLASS_NUMBERS {
+/// Whether the story of a new record comes to what it must.
+pub(crate) fn is_told(alloc: Global, program: &Program, story: &Story) -> Result<bool, AllocError> {
+    if story.class >= CLASS_NUMBERS {
         return Ok(false);
     }
-    let class = ClassId { number: class };
+    let class = ClassId {
+        number: story.class,
+    };
     let mut record = ClassRecord::new(alloc, program, class)?;
-    does(alloc, program, &mut record, deed)
-}
-
-const DEEDS: [(usize, Deed); 7] = [
-    (0, Deed::Completes),
-    (0, Deed::Fails { by_super: false }),
-    (0, Deed::Fails { by_super: true }),
-    (0, Deed::Begins),
-    (1, Deed::Constants),
-    (2, Deed::WithinStep7),
-    (2, Deed::Writes),
-];
-
-/// Whether what is done to the record of each class comes out so.
-pub(crate) fn records(alloc: Global, program: &Program) -> Result<bool, AllocError> {
-    for (class, deed) in DEEDS {
-        if !is_done(alloc, program, class, deed)? {
-            return Ok(false);
-        }
-    }
-    Ok(true)
+    let is_done = does_all(&mut record, story.deeds)?;
+    let events = history(alloc, &record)?;
+    let text = write_trace(alloc, program, events.as_slice())?;
+    Ok(is_done && stands(&record, story) && text.as_slice() == story.trace)
 }
 
 #[test]
-fn records_of_classes(rt: HostRuntime) -> Result<(), Fail> {
-    assert!(rt; is_so(rt.alloc(), &FILES, &Question::Records)?);
-    Ok(())
+fn records_of_classes(rt: HostRuntime) {
+    are_so(&rt, rt.alloc(), STORIES);
 }
 
-/// Whether the event and its copy are alike.
+/// Whether the copy of an event is like it.
 fn is_copied(event: &Event) -> Result<bool, AllocError> {
-    alike(&event.clone()?, event)
+    let copy = event.clone()?;
+    let alike = copy.thread() == event.thread() && copy.class() == event.class();
+    Ok(alike && copy.kind()? == event.kind()?)
+}
+
+/// Whether a print of a text is copied.
+fn is_print_copied(alloc: Global) -> Result<bool, AllocError> {
+    let printed = Event::print(alloc, 2, Text::copied(alloc, b"2\n")?)?;
+    Ok(is_copied(&printed)? && printed.text() == Some(b"2\n".as_slice()))
 }
 
 #[test]
-fn events_are_copied(rt: HostRuntime) -> Result<(), Fail> {
-    let printed = Event::print(rt.alloc(), 2, Text::copied(rt.alloc(), b"2\n")?)?;
-    assert!(rt; is_copied(&printed)?);
-    assert!(rt; is_copied(&event(1, Kind::Fails(ERROR)))?);
-    Ok(())
+fn events_are_copied(rt: HostRuntime) {
+    assert!(rt; is_print_copied(rt.alloc()) == Ok(true));
+    let failed = Event::new(1, ClassId { number: 0 }, Kind::Fails(ERROR));
+    assert!(rt; is_copied(&failed) == Ok(true));
 }

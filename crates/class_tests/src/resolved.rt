@@ -1,6 +1,6 @@
 //! Instructions as they are resolved, and what else running a class needs.
 
-use crate::programs::{Question, is_so};
+use crate::programs::{Question, Row, are_so};
 use hierarchy::{
     BuiltIn, BuiltInMethod, Element, ElementKind, MethodCode, Op, Printed, Program, ResolvedType,
     static_count,
@@ -27,66 +27,141 @@ fn method(program: &Program, class: usize, place: usize) -> Option<&MethodCode> 
     program.code(class)?.methods.as_slice().get(place)
 }
 
-fn op(code: &MethodCode, place: usize) -> Option<Op> {
-    code.ops.as_slice().get(place).copied()
+/// An instruction as it was resolved: its name, and its numbers, also that of an error, of an array's elements or of a type.
+type Seen = (&'static str, i64, i64, i64);
+
+/// The number of a built-in method, of those that are called here.
+fn number_of(method: BuiltInMethod) -> i64 {
+    if method == BuiltInMethod::PrintLine(Printed::Int) {
+        1
+    } else if method == BuiltInMethod::Init {
+        2
+    } else {
+        0
+    }
 }
 
-/// The instructions of main up to the jump.
-fn starts(code: &MethodCode) -> bool {
-    matches!(op(code, 0), Some(Op::GetStatic(0, 1)))
-        && matches!(op(code, 1), Some(Op::PushInt(1)))
-        && matches!(op(code, 2), Some(Op::Subtract))
-        && matches!(op(code, 3), Some(Op::PutStatic(0, 0)))
-        && matches!(op(code, 4), Some(Op::PushText(3)))
-        && matches!(op(code, 5), Some(Op::InvokeStatic(0, 2)))
-        && matches!(op(code, 6), Some(Op::Goto(13)))
+/// The class within all dimensions of a type, if there is one.
+fn class_in(of: ResolvedType) -> i64 {
+    match of.element {
+        Element::Class(class) => class as i64,
+        _ => -1,
+    }
 }
 
-/// The instructions after it.
-fn ends(code: &MethodCode) -> bool {
-    matches!(op(code, 7), Some(Op::InvokeStatic(0, 3)))
-        && matches!(op(code, 8), Some(Op::Fails(BuiltIn::NoClassDefFoundError)))
-        && matches!(
-            op(code, 9),
-            Some(Op::Fails(BuiltIn::IncompatibleClassChangeError))
-        )
-        && matches!(op(code, 10), Some(Op::GetOut))
-        && matches!(
-            op(code, 11),
-            Some(Op::InvokeBuiltIn(_, BuiltInMethod::PrintLine(Printed::Int)))
-        )
-        && matches!(op(code, 12), Some(Op::ArrayLength))
-        && matches!(op(code, 13), Some(Op::Return))
-        && op(code, 14).is_none()
+/// An instruction that names a field, a method or a class.
+fn seen(op: Op) -> Seen {
+    match op {
+        Op::GetStatic(class, field) => ("getstatic", class as i64, field as i64, 0),
+        Op::PutStatic(class, field) => ("putstatic", class as i64, field as i64, 0),
+        Op::GetField(class, field, cell) => {
+            ("getfield", class as i64, field as i64, cell as i64)
+        }
+        Op::PutField(class, field, cell) => {
+            ("putfield", class as i64, field as i64, cell as i64)
+        }
+        Op::GetOut => ("get out", 0, 0, 0),
+        Op::InvokeStatic(class, method) => ("invokestatic", class as i64, method as i64, 0),
+        Op::InvokeVirtual(class, method, words) => {
+            ("invokevirtual", class as i64, method as i64, words as i64)
+        }
+        Op::InvokeSpecialFails(error, class, method, _) => {
+            (
+                "invokespecial fails",
+                error as i64,
+                class as i64,
+                method as i64,
+            )
+        }
+        Op::InvokeBuiltIn(_, method) => ("invoke built-in", number_of(method), 0, 0),
+        Op::InvokeSpecialBuiltIn(_, method) => ("invokespecial built-in", number_of(method), 0, 0),
+        Op::Fails(error) => ("fails", error as i64, 0, 0),
+        Op::New(class) => ("new", class as i64, 0, 0),
+        Op::NewArray(of) => ("new array", of.dimensions as i64, class_in(of), 0),
+        Op::CheckCast(of) => ("checkcast", of.dimensions as i64, class_in(of), 0),
+        Op::InstanceOfMissing => ("instanceof missing", 0, 0, 0),
+        _ => seen_within(op),
+    }
 }
 
-/// The instructions on objects, arrays and types.
-fn makes(code: &MethodCode) -> bool {
-    matches!(op(code, 0), Some(Op::New(0)))
-        && matches!(op(code, 1), Some(Op::GetField(1, 0, 1)))
-        && matches!(op(code, 2), Some(Op::PutField(0, 0, 0)))
-        && matches!(op(code, 3), Some(Op::NewArray(CLASSES)))
-        && matches!(op(code, 4), Some(Op::LoadElement(ElementKind::Byte)))
-        && matches!(op(code, 5), Some(Op::StoreElement(ElementKind::Reference)))
-        && matches!(op(code, 6), Some(Op::CheckCast(CLASS)))
-        && matches!(op(code, 7), Some(Op::InstanceOfMissing))
+/// An instruction that touches its frame or an object alone.
+fn seen_within(op: Op) -> Seen {
+    match op {
+        Op::PushInt(value) => ("push int", value as i64, 0, 0),
+        Op::PushText(text) => ("push text", text as i64, 0, 0),
+        Op::LoadInt(local) => ("load int", local as i64, 0, 0),
+        Op::Increment(local, by) => ("increment", local as i64, by as i64, 0),
+        Op::Subtract => ("subtract", 0, 0, 0),
+        Op::Goto(place) => ("goto", place as i64, 0, 0),
+        Op::ArrayLength => ("arraylength", 0, 0, 0),
+        Op::LoadElement(kind) => ("load element", kind as i64, 0, 0),
+        Op::StoreElement(kind) => ("store element", kind as i64, 0, 0),
+        Op::Throw => ("athrow", 0, 0, 0),
+        Op::EnterMonitor => ("monitorenter", 0, 0, 0),
+        Op::ExitMonitor => ("monitorexit", 0, 0, 0),
+        Op::ReturnInt => ("ireturn", 0, 0, 0),
+        Op::Return => ("return", 0, 0, 0),
+        _ => ("another", 0, 0, 0),
+    }
 }
 
-/// The calls by a receiver, and what comes after them.
-fn calls(code: &MethodCode) -> bool {
-    matches!(op(code, 8), Some(Op::InvokeVirtual(1, 0, 0)))
-        && matches!(
-            op(code, 9),
-            Some(Op::InvokeSpecialFails(BuiltIn::AbstractMethodError, 0, 0, 0))
-        )
-        && matches!(
-            op(code, 10),
-            Some(Op::InvokeSpecialBuiltIn(_, BuiltInMethod::Init))
-        )
-        && matches!(op(code, 11), Some(Op::Throw))
-        && matches!(op(code, 12), Some(Op::EnterMonitor))
-        && matches!(op(code, 13), Some(Op::ExitMonitor))
-        && op(code, 14).is_none()
+/// The instructions of main.
+const MAIN_OPS: &[Seen] = &[
+    ("getstatic", 0, 1, 0),
+    ("push int", 1, 0, 0),
+    ("subtract", 0, 0, 0),
+    ("putstatic", 0, 0, 0),
+    ("push text", 3, 0, 0),
+    ("invokestatic", 0, 2, 0),
+    ("goto", 13, 0, 0),
+    ("invokestatic", 0, 3, 0),
+    ("fails", BuiltIn::NoClassDefFoundError as i64, 0, 0),
+    ("fails", BuiltIn::IncompatibleClassChangeError as i64, 0, 0),
+    ("get out", 0, 0, 0),
+    ("invoke built-in", 1, 0, 0),
+    ("arraylength", 0, 0, 0),
+    ("return", 0, 0, 0),
+];
+
+/// The instructions on objects, arrays and types, with calls by a receiver; class 1 is C.
+const OBJECT_OPS: &[Seen] = &[
+    ("new", 0, 0, 0),
+    ("getfield", 1, 0, 1),
+    ("putfield", 0, 0, 0),
+    ("new array", 1, 1, 0),
+    ("load element", ElementKind::Byte as i64, 0, 0),
+    ("store element", ElementKind::Reference as i64, 0, 0),
+    ("checkcast", 0, 1, 0),
+    ("instanceof missing", 0, 0, 0),
+    ("invokevirtual", 1, 0, 0),
+    (
+        "invokespecial fails",
+        BuiltIn::AbstractMethodError as i64,
+        0,
+        0,
+    ),
+    ("invokespecial built-in", 2, 0, 0),
+    ("athrow", 0, 0, 0),
+    ("monitorenter", 0, 0, 0),
+    ("monitorexit", 0, 0, 0),
+];
+
+/// The instructions of the method with limits, parameters and a result.
+const DECLARED_OPS: &[Seen] = &[
+    ("load int", 8, 0, 0),
+    ("increment", 3, -2, 0),
+    ("ireturn", 0, 0, 0),
+];
+
+/// Whether these are the instructions.
+fn are(ops: &[Op], wanted: &[Seen]) -> bool {
+    for (place, row) in wanted.iter().enumerate() {
+        match ops.get(place) {
+            Some(op) if seen(*op) == *row => {}
+            _ => return false,
+        }
+    }
+    ops.len() == wanted.len()
 }
 
 /// Whether a type is no array, of these elements.
@@ -96,17 +171,6 @@ fn is_plain(found: Option<&ResolvedType>, element: Element) -> bool {
         None => false,
     }
 }
-
-/// An element is C, or an array of C.
-const CLASS: ResolvedType = ResolvedType {
-    dimensions: 0,
-    element: Element::Class(1),
-};
-
-const CLASSES: ResolvedType = ResolvedType {
-    dimensions: 1,
-    element: Element::Class(1),
-};
 
 const INT: Element = Element::Base(descriptors::BaseType::Int);
 
@@ -119,9 +183,6 @@ fn is_as_declared(code: &MethodCode) -> bool {
         && is_plain(code.parameters.as_slice().first(), INT)
         && is_plain(code.parameters.as_slice().get(1), Element::Any)
         && is_plain(code.result.as_ref(), INT)
-        && matches!(op(code, 0), Some(Op::LoadInt(8)))
-        && matches!(op(code, 1), Some(Op::Increment(3, -2)))
-        && matches!(op(code, 2), Some(Op::ReturnInt))
 }
 
 /// The types of the static fields, and the places of the methods that start.
@@ -145,35 +206,48 @@ fn has_places(program: &Program) -> bool {
         && main.cells_above == 2
 }
 
+/// Whether a method has these instructions.
+fn has_ops(program: &Program, class: usize, place: usize, wanted: &[Seen]) -> bool {
+    match method(program, class, place) {
+        Some(code) => are(code.ops.as_slice(), wanted),
+        None => false,
+    }
+}
+
+/// Whether the methods have their limits and types, and the one that takes a monitor says so.
+fn has_methods(program: &Program) -> bool {
+    match (method(program, 0, 2), method(program, 0, 3)) {
+        (Some(declared), Some(locked)) => is_as_declared(declared) && locked.synchronized,
+        _ => false,
+    }
+}
+
+/// Whether the first class has two static fields.
+fn has_statics(program: &Program) -> bool {
+    match program.classes().first() {
+        Some(class) => static_count(class.fields.as_slice()) == 2,
+        None => false,
+    }
+}
+
 /// Whether the classes are resolved exactly, and no class beside them.
 pub(crate) fn resolved(program: &Program) -> bool {
-    let (Some(main), Some(declared)) = (method(program, 1, 1), method(program, 0, 2)) else {
-        return false;
-    };
-    let (Some(objects), Some(empty), Some(locked)) = (
-        method(program, 1, 2),
-        method(program, 0, 0),
-        method(program, 0, 3),
-    ) else {
-        return false;
-    };
-    let Some(class) = program.classes().first() else {
-        return false;
-    };
-    starts(main)
-        && ends(main)
-        && is_as_declared(declared)
+    has_ops(program, 1, 1, MAIN_OPS)
+        && has_ops(program, 1, 2, OBJECT_OPS)
+        && has_ops(program, 0, 2, DECLARED_OPS)
+        && has_ops(program, 0, 0, &[])
+        && has_methods(program)
         && has_places(program)
-        && makes(objects)
-        && calls(objects)
-        && empty.ops.is_empty()
-        && locked.synchronized
+        && has_statics(program)
         && program.code(2).is_none()
-        && static_count(class.fields.as_slice()) == 2
 }
+
+const ROWS: &[Row] = &[Row {
+    files: &[MEMBERS, MAIN],
+    question: Question::Resolved,
+}];
 
 #[test]
 fn instructions_are_resolved_once(rt: HostRuntime) {
-    let found = is_so(rt.alloc(), &[MEMBERS, MAIN], &Question::Resolved);
-    assert!(rt; found == Ok(true));
+    are_so(&rt, rt.alloc(), ROWS);
 }

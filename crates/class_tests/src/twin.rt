@@ -1,12 +1,15 @@
 //! A plain, slow judge of interleavings, straight from the definitions: the words of one thread are found by
-//! trying each form of the procedure at each place of its list, the labels by a search of each class's history.
+//! following the forms of the procedure from each place of its list, the labels by a search of each class's history.
+//!
+//! The first event of a word names its class, and each event tells which form goes on. So at most one word begins at a place.
 //!
 //! It judges lists without reads, writes and prints in which no thread is ended by the machine, of programs
-//! that are handed in as what each class needs.
+//! that are handed in as what each class needs, in order.
 
+use hierarchy::BuiltIn;
 use std::alloc::{AllocError, Global};
 
-/// What an event does.
+/// What an event does. A throwable is of a built-in class.
 #[derive(Clone, Copy, PartialEq, Eq)]
 pub enum Act {
     Waits,
@@ -14,10 +17,10 @@ pub enum Act {
     FindsInitialized,
     FindsErroneous,
     Begins,
-    SuperFails(usize),
+    SuperFails(BuiltIn),
     Runs,
     Completes,
-    Fails(usize),
+    Fails(BuiltIn),
 }
 
 /// An event: its thread and class by number, and what it does.
@@ -28,41 +31,17 @@ pub struct Made {
     pub act: Act,
 }
 
-/// How a procedure completes.
-#[derive(Clone, Copy, PartialEq, Eq)]
-pub enum Completion {
-    Normal,
-    Abrupt(usize),
-}
-
-/// The procedure for a class is done by the events from here to there.
-#[derive(Clone, Copy, PartialEq, Eq)]
-pub struct Word {
-    class: usize,
-    from: usize,
-    to: usize,
-    completion: Completion,
-}
-
-/// The events from here to the end begin the procedure for a class.
-#[derive(Clone, Copy, PartialEq, Eq)]
-pub struct Beginning {
-    class: usize,
-    from: usize,
-}
-
-/// What was found of one thread's list so far, from its end.
-#[derive(Drop)]
-pub struct Found {
-    words: Vec<Word>,
-    beginnings: Vec<Beginning>,
-}
-
-/// A program: what each class needs, in order, and the throwable of step 5.
+/// What the events from one place on are of the procedure for a class.
 #[derive(Clone, Copy)]
-pub struct Small {
-    pub needs: &'static [&'static [usize]],
-    pub refused: usize,
+enum Word {
+    /// They don't begin with a word of it, and don't begin one.
+    None,
+    /// All of them begin one.
+    Begun,
+    /// A word of them ends before this place, and completes normally.
+    Normal(usize),
+    /// A word of them ends before this place, and completes abruptly by this throwable.
+    Abrupt(usize, BuiltIn),
 }
 
 fn act_at(list: &[Made], at: usize, class: usize) -> Option<Act> {
@@ -72,323 +51,140 @@ fn act_at(list: &[Made], at: usize, class: usize) -> Option<Act> {
     }
 }
 
-impl Found {
-    fn words_at(&self, alloc: Global, class: usize, at: usize) -> Result<Vec<Word>, AllocError> {
-        let mut there = Vec::new(alloc);
-        for word in self.words.as_slice() {
-            if word.class == class && word.from == at {
-                there.push(*word)?;
-            }
-        }
-        Ok(there)
+/// The word of a class from a place on, by the words that were found from there on.
+fn word_at(list: &[Made], words: &[Word], at: usize, class: usize) -> Word {
+    if at >= list.len() {
+        return Word::Begun;
     }
-
-    fn begins_at(&self, class: usize, at: usize) -> bool {
-        let mut begins = false;
-        for beginning in self.beginnings.as_slice() {
-            begins = begins || (beginning.class == class && beginning.from == at);
-        }
-        begins
-    }
-
-    fn any_begins_at(&self, at: usize) -> bool {
-        let mut begins = false;
-        for beginning in self.beginnings.as_slice() {
-            begins = begins || beginning.from == at;
-        }
-        begins
-    }
-
-    /// The places that the words of any classes, one after the other, lead to from here.
-    fn behind_items(&self, alloc: Global, start: usize) -> Result<Vec<usize>, AllocError> {
-        let mut reached = Vec::new(alloc);
-        reached.push(start)?;
-        // The words were found from the list's end.
-        for word in self.words.as_slice().iter().rev() {
-            if has(reached.as_slice(), word.from) && !has(reached.as_slice(), word.to) {
-                reached.push(word.to)?;
-            }
-        }
-        Ok(reached)
+    match (act_at(list, at, class), words.get(at)) {
+        (Some(_), Some(word)) => *word,
+        _ => Word::None,
     }
 }
 
-fn has(places: &[usize], place: usize) -> bool {
-    let mut there = false;
-    for other in places {
-        there = there || *other == place;
-    }
-    there
-}
-
-/// One class's procedure from one place.
-#[derive(Clone, Copy)]
-struct Place {
-    class: usize,
-    from: usize,
-}
-
-fn add_word(
-    found: &mut Found,
-    place: Place,
-    to: usize,
-    completion: Completion,
-) -> Result<(), AllocError> {
-    found.words.push(Word {
-        class: place.class,
-        from: place.from,
-        to,
-        completion,
-    })?;
-    Ok(())
-}
-
-fn add_beginning(found: &mut Found, place: Place) -> Result<(), AllocError> {
-    found.beginnings.push(Beginning {
-        class: place.class,
-        from: place.from,
-    })?;
-    Ok(())
-}
-
-/// Behind the body's items: the end of the list, step 10 or step 12.
-fn find_ends(
-    list: &[Made],
-    found: &mut Found,
-    place: Place,
-    places: &[usize],
-) -> Result<(), AllocError> {
-    for at in places {
-        if *at == list.len() || found.any_begins_at(*at) {
-            add_beginning(found, place)?;
-        }
-        match act_at(list, *at, place.class) {
-            Some(Act::Completes) => add_word(
-                found,
-                place,
-                at.saturating_add(1),
-                Completion::Normal,
-            )?,
-            Some(Act::Fails(thrown)) => add_word(
-                found,
-                place,
-                at.saturating_add(1),
-                Completion::Abrupt(thrown),
-            )?,
-            _ => (),
+/// The place behind the words of any classes, one after the other, from here.
+fn behind_items(words: &[Word], start: usize) -> usize {
+    let mut at = start;
+    for _ in start..words.len() {
+        if let Some(Word::Normal(to)) | Some(Word::Abrupt(to, _)) = words.get(at) {
+            at = *to;
         }
     }
-    Ok(())
+    at
 }
 
-/// Behind what is needed: the end of the list, or step 9 and a body.
-fn find_bodies(
-    alloc: Global,
-    list: &[Made],
-    found: &mut Found,
-    place: Place,
-    places: &[usize],
-) -> Result<(), AllocError> {
-    for at in places {
-        if *at == list.len() {
-            add_beginning(found, place)?;
-        }
-        if let Some(Act::Runs) = act_at(list, *at, place.class) {
-            let reached = found.behind_items(alloc, at.saturating_add(1))?;
-            find_ends(list, found, place, reached.as_slice())?;
-        }
+/// Whether the list ends here, or in a word that begins here.
+fn is_open_at(words: &[Word], at: usize) -> bool {
+    match words.get(at) {
+        Some(word) => matches!(word, Word::Begun),
+        None => true,
     }
-    Ok(())
+}
+
+/// Behind what is needed: the end of the list, or step 9, a body's items, and step 10 or step 12.
+fn body_at(list: &[Made], words: &[Word], start: usize, class: usize) -> Word {
+    if start >= list.len() {
+        return Word::Begun;
+    }
+    if act_at(list, start, class) != Some(Act::Runs) {
+        return Word::None;
+    }
+    let at = behind_items(words, start.saturating_add(1));
+    if is_open_at(words, at) {
+        return Word::Begun;
+    }
+    match act_at(list, at, class) {
+        Some(Act::Completes) => Word::Normal(at.saturating_add(1)),
+        Some(Act::Fails(thrown)) => Word::Abrupt(at.saturating_add(1), thrown),
+        _ => Word::None,
+    }
 }
 
 /// Behind an abrupt word of a needed class: the end of the list, or step 7.
-fn find_failure(
-    list: &[Made],
-    found: &mut Found,
-    place: Place,
-    at: usize,
-    thrown: usize,
-) -> Result<(), AllocError> {
-    if at == list.len() {
-        add_beginning(found, place)?;
+fn failure_at(list: &[Made], at: usize, class: usize, thrown: BuiltIn) -> Word {
+    if at >= list.len() {
+        return Word::Begun;
     }
-    if act_at(list, at, place.class) == Some(Act::SuperFails(thrown)) {
-        add_word(
-            found,
-            place,
-            at.saturating_add(1),
-            Completion::Abrupt(thrown),
-        )?;
+    if act_at(list, at, class) == Some(Act::SuperFails(thrown)) {
+        Word::Abrupt(at.saturating_add(1), thrown)
+    } else {
+        Word::None
     }
-    Ok(())
-}
-
-/// The places behind the words of a needed class from this place.
-fn behind_need(
-    alloc: Global,
-    list: &[Made],
-    found: &mut Found,
-    place: Place,
-    need: usize,
-    at: usize,
-    behind: &mut Vec<usize>,
-) -> Result<(), AllocError> {
-    if found.begins_at(need, at) {
-        add_beginning(found, place)?;
-    }
-    let words = found.words_at(alloc, need, at)?;
-    for word in words.as_slice() {
-        match word.completion {
-            Completion::Normal => behind.push(word.to)?,
-            Completion::Abrupt(thrown) => find_failure(list, found, place, word.to, thrown)?,
-        }
-    }
-    Ok(())
-}
-
-fn behind_needs(
-    alloc: Global,
-    list: &[Made],
-    found: &mut Found,
-    place: Place,
-    need: usize,
-    places: &[usize],
-) -> Result<Vec<usize>, AllocError> {
-    let mut behind = Vec::new(alloc);
-    for at in places {
-        behind_need(alloc, list, found, place, need, *at, &mut behind)?;
-    }
-    Ok(behind)
 }
 
 /// Behind step 6: the words of the needed classes, in order, then step 9.
-fn find_begun(
-    alloc: Global,
-    needs: &[usize],
-    list: &[Made],
-    found: &mut Found,
-    place: Place,
-    start: usize,
-) -> Result<(), AllocError> {
-    let mut places = Vec::new(alloc);
-    places.push(start)?;
+fn begun_at(needs: &[usize], list: &[Made], words: &[Word], start: usize, class: usize) -> Word {
+    let mut at = start;
     for need in needs {
-        places = behind_needs(alloc, list, found, place, *need, places.as_slice())?;
+        match word_at(list, words, at, *need) {
+            Word::Normal(to) => at = to,
+            Word::Abrupt(to, thrown) => return failure_at(list, to, class, thrown),
+            other => return other,
+        }
     }
-    find_bodies(alloc, list, found, place, places.as_slice())
+    body_at(list, words, at, class)
 }
 
-/// Behind the step 2, if there is one.
-fn find_word(
-    alloc: Global,
-    small: &Small,
+/// The word of a class from a place on: behind its step 2, if there is one, its step 3, 4, 5 or 6.
+fn found_at(
+    all_needs: &[&[usize]],
     list: &[Made],
-    found: &mut Found,
-    place: Place,
-) -> Result<(), AllocError> {
-    let mut start = place.from;
-    if act_at(list, start, place.class) == Some(Act::Waits) {
-        start = start.saturating_add(1);
-    }
-    if start == list.len() {
-        add_beginning(found, place)?;
-    }
-    let next = start.saturating_add(1);
-    match act_at(list, start, place.class) {
-        Some(Act::Recurs) | Some(Act::FindsInitialized) => add_word(
-            found,
-            place,
-            next,
-            Completion::Normal,
-        ),
-        Some(Act::FindsErroneous) => add_word(
-            found,
-            place,
-            next,
-            Completion::Abrupt(small.refused),
-        ),
-        Some(Act::Begins) => match small.needs.get(place.class) {
-            Some(needs) => find_begun(alloc, needs, list, found, place, next),
-            None => Ok(()),
-        },
-        _ => Ok(()),
-    }
-}
-
-fn find_words_at(
-    alloc: Global,
-    small: &Small,
-    list: &[Made],
-    found: &mut Found,
+    words: &[Word],
     from: usize,
-) -> Result<(), AllocError> {
-    for class in 0..small.needs.len() {
-        find_word(alloc, small, list, found, Place { class, from })?;
+    class: usize,
+) -> Word {
+    let mut at = from;
+    if act_at(list, at, class) == Some(Act::Waits) {
+        at = at.saturating_add(1);
     }
-    Ok(())
+    if at >= list.len() {
+        return Word::Begun;
+    }
+    let next = at.saturating_add(1);
+    match act_at(list, at, class) {
+        Some(Act::Recurs) | Some(Act::FindsInitialized) => Word::Normal(next),
+        Some(Act::FindsErroneous) => Word::Abrupt(next, BuiltIn::NoClassDefFoundError),
+        Some(Act::Begins) => match all_needs.get(class) {
+            Some(needs) => begun_at(needs, list, words, next, class),
+            None => Word::None,
+        },
+        _ => Word::None,
+    }
 }
 
-/// Finds all words and beginnings, from the list's end.
-fn find_all(
-    alloc: Global,
-    small: &Small,
-    list: &[Made],
-    found: &mut Found,
-) -> Result<(), AllocError> {
-    find_words_at(alloc, small, list, found, list.len())?;
+/// Finds the word from one place on, where the words behind it were found.
+fn find_at(all_needs: &[&[usize]], list: &[Made], words: &mut [Word], from: usize, class: usize) {
+    let word = found_at(all_needs, list, words, from, class);
+    if from < words.len() {
+        words[from] = word;
+    }
+}
+
+/// Finds the word from each place on, from the list's end.
+fn find_all(all_needs: &[&[usize]], list: &[Made], words: &mut [Word]) {
     for from in (0..list.len()).rev() {
-        find_words_at(alloc, small, list, found, from)?;
+        find_at(all_needs, list, words, from, list[from].class);
     }
-    Ok(())
 }
 
-/// Whether this list of one thread begins its word: the procedure for its main class, and then a body.
+/// Whether this list of one thread begins its word: the procedure for its main class, and then a body, if that was normal.
 pub(crate) fn begins_thread_word(
     alloc: Global,
-    small: &Small,
+    all_needs: &[&[usize]],
     main: usize,
     list: &[Made],
 ) -> Result<bool, AllocError> {
-    let mut found = Found {
-        words: Vec::new(alloc),
-        beginnings: Vec::new(alloc),
-    };
-    find_all(alloc, small, list, &mut found)?;
-    begins_word(alloc, main, list, &found)
+    let mut found = vec![in alloc; Word::None; list.len()]?;
+    find_all(all_needs, list, &mut found);
+    Ok(is_thread_word(list, &found, main))
 }
 
-/// Whether the list begins the word, by what was found.
-fn begins_word(
-    alloc: Global,
-    main: usize,
-    list: &[Made],
-    found: &Found,
-) -> Result<bool, AllocError> {
-    let words = found.words_at(alloc, main, 0)?;
-    let mut begins = found.begins_at(main, 0);
-    for word in words.as_slice() {
-        begins = begins || is_finished(alloc, list, found, word)?;
+/// Whether the list begins the word, by the words that were found.
+fn is_thread_word(list: &[Made], words: &[Word], main: usize) -> bool {
+    match word_at(list, words, 0, main) {
+        Word::None => false,
+        Word::Begun => true,
+        Word::Normal(to) => is_open_at(words, behind_items(words, to)),
+        Word::Abrupt(to, _) => to >= list.len(),
     }
-    Ok(begins)
-}
-
-/// Whether what stands behind the main class's procedure begins a body, if it was normal, or is nothing.
-fn is_finished(
-    alloc: Global,
-    list: &[Made],
-    found: &Found,
-    word: &Word,
-) -> Result<bool, AllocError> {
-    if word.to == list.len() {
-        return Ok(true);
-    }
-    if word.completion != Completion::Normal {
-        return Ok(false);
-    }
-    let reached = found.behind_items(alloc, word.to)?;
-    let mut begins = false;
-    for at in reached.as_slice() {
-        begins = begins || *at == list.len() || found.any_begins_at(*at);
-    }
-    Ok(begins)
 }
