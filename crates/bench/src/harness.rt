@@ -109,8 +109,8 @@ pub(crate) struct Row {
     pub repeats: usize,
 }
 
-fn add_often(count: usize) {
-    let word = AtomicU64::new(0);
+/// Makes so many `fetch_add`s on a word.
+pub(crate) fn add_often(word: &AtomicU64, count: usize) {
     for _ in 0..count {
         word.fetch_add(1, Ordering::SeqCst);
     }
@@ -118,8 +118,9 @@ fn add_often(count: usize) {
 
 // The time of one of so many `fetch_add`s on a word of their own.
 fn add_time(rt: &impl Clock, count: usize) -> Result<u128, Failure> {
+    let word = AtomicU64::new(0);
     let watch = Watch::start(rt);
-    add_often(count);
+    add_often(&word, count);
     watch.share(rt, count)
 }
 
