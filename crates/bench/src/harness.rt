@@ -109,8 +109,8 @@ pub(crate) struct Row {
     pub repeats: usize,
 }
 
-/// Makes so many `fetch_add`s on a word.
-pub(crate) fn add_often(word: &AtomicU64, count: usize) {
+fn add_often(count: usize) {
+    let word = AtomicU64::new(0);
     for _ in 0..count {
         word.fetch_add(1, Ordering::SeqCst);
     }
@@ -118,9 +118,8 @@ pub(crate) fn add_often(word: &AtomicU64, count: usize) {
 
 // The time of one of so many `fetch_add`s on a word of their own.
 fn add_time(rt: &impl Clock, count: usize) -> Result<u128, Failure> {
-    let word = AtomicU64::new(0);
     let watch = Watch::start(rt);
-    add_often(&word, count);
+    add_often(count);
     watch.share(rt, count)
 }
 

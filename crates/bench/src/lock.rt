@@ -1,4 +1,4 @@
-//! Times of the lock, a round, beside the `fetch_add`s of as many threads on one word.
+//! Times of the lock, a round, beside one thread.
 //!
 //! Each thread draws so many events, each under a lock: it takes a record, adds to its history, draws, and gives the
 //! record back. A time is that of all threads, divided by the rounds of one.
@@ -7,7 +7,7 @@ ghost use Rattle.std.specs.Prelude.{◌≡◌, ◌<◌, ◌≤◌, IfOk};
 ghost use Rattle.std.specs.List.{AllByRecursion};
 ghost use Rattle.bench.specs.Ready.{IsReady};
 
-use crate::harness::{Failure, Row, Watch, add_often, mean_time};
+use crate::harness::{Failure, Row, Watch, mean_time};
 use crate::history::{History, four_histories};
 use crate::rounds::in_threads;
 use crate::sample::Sample;
@@ -15,8 +15,6 @@ use init_lock::{InitTable, Pass};
 use std::alloc::{AllocError, Global};
 use std::rt::Clock;
 use std::sync::Wait;
-use std::sync::atomic::AtomicU64;
-use std::thread;
 use std::thread::Threads;
 
 // The C library keeps freed blocks once one of this size was freed, and hands them out again. So all but the first
@@ -30,65 +28,70 @@ pub(crate) struct Contest {
     records: usize,
 }
 
-/// Each contest beside as many threads that add to one word, with the number of rounds that is asked for, at most a million.
+const ALONE: Contest = Contest {
+    threads: 1,
+    records: 1,
+};
+
+/// Each contest beside one thread, with the number of rounds that is asked for, at most a million.
 pub(crate) const ROWS: &[Row] = &[
     Row {
-        what: "rounds of 1 thread on 1 record, beside its additions",
+        what: "rounds of 1 thread on 1 record, beside 1 thread",
         sample: Sample::Lock(Contest {
             threads: 1,
             records: 1,
         }),
         sizes: &[1],
         most: 1_000_000,
-        unit: Sample::Additions(1),
+        unit: Sample::Lock(ALONE),
         unit_size: None,
         repeats: 20,
     },
     Row {
-        what: "rounds of 2 threads on 1 record, beside their additions",
+        what: "rounds of 2 threads on 1 record, beside 1 thread",
         sample: Sample::Lock(Contest {
             threads: 2,
             records: 1,
         }),
         sizes: &[1],
         most: 1_000_000,
-        unit: Sample::Additions(2),
+        unit: Sample::Lock(ALONE),
         unit_size: None,
         repeats: 20,
     },
     Row {
-        what: "rounds of 2 threads on 2 records, beside their additions",
+        what: "rounds of 2 threads on 2 records, beside 1 thread",
         sample: Sample::Lock(Contest {
             threads: 2,
             records: 2,
         }),
         sizes: &[1],
         most: 1_000_000,
-        unit: Sample::Additions(2),
+        unit: Sample::Lock(ALONE),
         unit_size: None,
         repeats: 20,
     },
     Row {
-        what: "rounds of 4 threads on 1 record, beside their additions",
+        what: "rounds of 4 threads on 1 record, beside 1 thread",
         sample: Sample::Lock(Contest {
             threads: 4,
             records: 1,
         }),
         sizes: &[1],
         most: 1_000_000,
-        unit: Sample::Additions(4),
+        unit: Sample::Lock(ALONE),
         unit_size: None,
         repeats: 20,
     },
     Row {
-        what: "rounds of 4 threads on 4 records, beside their additions",
+        what: "rounds of 4 threads on 4 records, beside 1 thread",
         sample: Sample::Lock(Contest {
             threads: 4,
             records: 4,
         }),
         sizes: &[1],
         most: 1_000_000,
-        unit: Sample::Additions(4),
+        unit: Sample::Lock(ALONE),
         unit_size: None,
         repeats: 20,
     },
@@ -133,35 +136,4 @@ pub(crate) fn time<R: Clock + Threads + Wait + Sync>(
     rounds: usize,
 ) -> Result<u128, Failure> {
     mean_time(|| round_time(rt, alloc, contest, rounds))
-}
-
-// The time of an addition, where so many threads make so many on one word.
-fn addition_time<R: Clock + Threads + Wait + Sync>(
-    rt: &R,
-    alloc: Global,
-    threads: usize,
-    additions: usize,
-) -> Result<u128, Failure> {
-    let word = AtomicU64::new(0);
-    let counts = vec![in alloc; additions; threads.min(4)]?;
-    let watch = Watch::start(rt);
-    thread::map_vec(
-        rt,
-        counts,
-        &|count: usize| -> usize {
-            add_often(&word, count);
-            count
-        },
-    )?;
-    watch.share(rt, additions)
-}
-
-/// The mean time of an addition, where so many threads make so many on one word.
-pub(crate) fn additions_time<R: Clock + Threads + Wait + Sync>(
-    rt: &R,
-    alloc: Global,
-    threads: usize,
-    additions: usize,
-) -> Result<u128, Failure> {
-    mean_time(|| addition_time(rt, alloc, threads, additions))
 }

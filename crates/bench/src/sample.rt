@@ -23,8 +23,6 @@ pub(crate) enum Sample {
     Pushes,
     /// Rounds under the lock, so many in each thread: a round.
     Lock(Contest),
-    /// So many threads that each add so often to one word: an addition.
-    Additions(usize),
     /// Reading a file of so many parts: a part.
     Read(Part),
     /// Reading a file of about so many bytes: a byte.
@@ -137,7 +135,6 @@ impl Sample {
         match self {
             Sample::Pushes => looks::push_time(rt, alloc, size),
             Sample::Lock(contest) => lock::time(rt, alloc, contest, size),
-            Sample::Additions(threads) => lock::additions_time(rt, alloc, threads, size),
             Sample::Read(part) => reader::time(rt, alloc, part, size),
             Sample::ReadBytes(part) => reader::byte_time(rt, alloc, part, size),
             Sample::PassBytes(part) => reader::pass_time(rt, alloc, part, size),
