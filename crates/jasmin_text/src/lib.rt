@@ -16,8 +16,6 @@ pub mod instruction;
 mod keyword;
 pub mod laws;
 mod mark;
-mod spellable;
-mod spellable_code;
 pub mod table;
 pub mod text;
 mod word;

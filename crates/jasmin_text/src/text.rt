@@ -1,12 +1,10 @@
 //! Class texts: parts that a file can spell.
 
 ghost use Rattle.std.specs.Prelude.{◌≡◌, IfOk};
-ghost use Rattle.std.specs.Option.{SomeIff};
 ghost use Rattle.jasmin_text.specs.Spellable.{IsSpellable};
 ghost use Rattle.jasmin_text.specs.Canonical.{canonical_text};
 
 use crate::class_text::ClassParts;
-use crate::spellable_code::spellable;
 use crate::write::write_parts;
 use std::alloc::{AllocError, Global};
 use std::marker::Model;
@@ -42,17 +40,6 @@ impl ClassText {
         ensures { result ≡ parts }
     {
         Self { parts }
-    }
-
-    /// The class text of these parts, or `None` where no file spells them. An `Err` is want of memory.
-    pub fn new(alloc: Global, parts: ClassParts) -> Result<Option<Self>, AllocError>
-        ensures { IfOk result (λ text. SomeIff text (IsSpellable parts) parts) }
-    {
-        if spellable(alloc, &parts)? {
-            Ok(Some(ClassText::from_parts(parts)))
-        } else {
-            Ok(None)
-        }
     }
 
     /// The parts. A file can spell them.
