@@ -41,15 +41,6 @@ fn a_trace_is_judged(rt: HostRuntime) -> Result<(), Fail> {
     assert_eq!(rt; status_of_verdict(judged.verdict), 1);
     let line = write_judged(alloc, &judged, false)?;
     assert!(rt; line.as_slice() == b"illegal at 2: end\n".as_slice());
-    Ok(())
-}
-
-#[test]
-fn events_are_judged(rt: HostRuntime) -> Result<(), Fail> {
-    let alloc = rt.alloc();
-    let Ok(judged) = check_named(alloc, &mut BrokenOff, &["Solo.j"], Some("Solo"), "trace") else {
-        return Err(Fail::from("not judged"));
-    };
     let verdict = check(alloc, &judged.program, &judged.mains, &judged.events)?;
     assert!(rt; verdict == BROKEN_OFF);
     let none = check(alloc, &judged.program, &judged.mains, &[])?;

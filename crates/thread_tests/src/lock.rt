@@ -135,6 +135,7 @@ fn finish_both(
 #[test]
 fn two_passes(rt: HostRuntime) -> Result<(), Fail> {
     let (table, mut first, mut second) = two_of_each(rt.alloc(), 4)?;
+    assert!(rt; first.number() == 0 && second.number() == 1);
     assert!(rt; draw_on(&table, &mut first, 0, 5) == Some(0));
     assert!(rt; table.draw(&mut first, 6) == 1);
     assert!(rt; draw_on(&table, &mut second, 0, 7) == Some(1));
@@ -169,45 +170,6 @@ fn merges_two_journals(rt: HostRuntime) -> Result<(), Fail> {
 }
 
 #[test]
-fn takes_alone(rt: HostRuntime) -> Result<(), Fail> {
-    let alloc = rt.alloc();
-    let records = vec![in alloc; empty(alloc)]?;
-    let (table, mut passes) = InitTable::new(alloc, records, 1)?;
-    let Some(mut pass) = passes.pop() else {
-        unreachable!()
-    };
-    assert!(rt; pass.number() == 0);
-    let Some(mut held) = table.try_take(&mut pass, 0) else {
-        panic!(rt; "the lock of a table with one pass isn't free");
-    };
-    assert!(rt; held.kept().events.is_empty());
-    let again = table.try_take(&mut pass, 0);
-    let refused = match again {
-        None => true,
-        Some(second) => {
-            table.give_back(&mut pass, second);
-            false
-        }
-    };
-    table.give_back(&mut pass, held);
-    assert!(rt; refused);
-    Ok(())
-}
-
-#[test]
-fn finds_what_another_gave_back(rt: HostRuntime) -> Result<(), Fail> {
-    let (table, mut first, mut second) = two_of_each(rt.alloc(), 1)?;
-    assert!(rt; draw_on(&table, &mut first, 0, 5) == Some(0));
-    let Some(mut held) = table.try_take(&mut second, 0) else {
-        panic!(rt; "the record was given back");
-    };
-    let found = held.kept().events.as_slice() == [5].as_slice();
-    table.give_back(&mut second, held);
-    assert!(rt; found);
-    Ok(())
-}
-
-#[test]
 fn gives_up_and_goes_on(rt: HostRuntime) -> Result<(), Fail> {
     let (table, mut first, mut second) = two_of_each(rt.alloc(), 1)?;
     let Ok(held) = table.take(&rt, &mut first, 1, 0) else {
@@ -226,39 +188,6 @@ fn gives_up_and_goes_on(rt: HostRuntime) -> Result<(), Fail> {
         panic!(rt; "the lock is free");
     };
     table.give_back(&mut second, held);
-    Ok(())
-}
-
-#[test]
-fn has_two_records_at_once(rt: HostRuntime) -> Result<(), Fail> {
-    let (table, mut first, second) = two_of_each(rt.alloc(), 2)?;
-    let Some(mut low) = table.try_take(&mut first, 0) else {
-        panic!(rt; "record 0 is free");
-    };
-    let Some(high) = table.try_take(&mut first, 1) else {
-        table.give_back(&mut first, low);
-        panic!(rt; "record 1 is free");
-    };
-    let pushed = low.kept().events.push(8).is_ok();
-    if pushed {
-        table.draw_held(&mut first, &mut low, 8);
-    }
-    table.give_back(&mut first, low);
-    table.give_back(&mut first, high);
-    let closed = finish_both(rt.alloc(), table, first, second)?;
-    assert!(rt; pushed && closed.records[0].events.as_slice() == [8].as_slice());
-    assert!(rt; closed.records[1].events.is_empty());
-    Ok(())
-}
-
-#[test]
-fn finishes_in_any_order(rt: HostRuntime) -> Result<(), Fail> {
-    let (table, mut first, second) = two_of_each(rt.alloc(), 1)?;
-    table.draw(&mut first, 9);
-    let passes = vec![in rt.alloc(); second, first]?;
-    let closed = table.finish(passes);
-    assert!(rt; closed.journals.len() == 2);
-    assert!(rt; closed.journals[0].is_empty() && closed.journals[1].len() == 1);
     Ok(())
 }
 

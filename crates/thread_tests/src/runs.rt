@@ -148,17 +148,6 @@ const CHAIN: [&[u8]; 5] = [
     b".interface J\n.method m()V\nreturn\n.end method",
 ];
 
-#[test]
-fn one_thread_makes_each_event_once(rt: HostRuntime) {
-    let mains = [ClassId { number: 2 }];
-    let ran = run_of(&rt, rt.alloc(), &CHAIN, &mains, &NoGate);
-    let report = ran.expect(&rt, "there is a run");
-    let steps = steps_of(report.events.as_slice()).expect(&rt, "no event is a print");
-    assert!(rt; is_whole(&report) && report.events.len() == 19);
-    assert!(rt; steps.begins == 5 && steps.runs == 5 && steps.completes == 5);
-    assert!(rt; steps.finds_initialized == 4);
-}
-
 /// Counts the events.
 #[derive(Drop)]
 struct Counting {

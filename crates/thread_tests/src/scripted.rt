@@ -251,7 +251,7 @@ fn what_an_initializer_throws_is_replaced(rt: HostRuntime) {
 }
 
 /// The ordered run of a main class by such bodies.
-fn ordered_run_of(alloc: Global, throws: bool) -> Option<Report> {
+fn ordered_run_of(alloc: Global) -> Option<Report> {
     let files: [&[u8]; 2] = [b".class A\n.field static n I", b".class B"];
     let program = linked(alloc, &files)?;
     let main = ClassId { number: 1 };
@@ -259,23 +259,15 @@ fn ordered_run_of(alloc: Global, throws: bool) -> Option<Report> {
         return None;
     }
     let mut bodies = Vec::new(alloc);
-    bodies.push(Scripted::new(throws)).ok()?;
+    bodies.push(Scripted::new(false)).ok()?;
     run_ordered(alloc, &program, &[main], &[], bodies, ()).ok()
 }
 
 #[test]
 fn in_order_what_waits_gives_up(rt: HostRuntime) {
-    let report = ordered_run_of(rt.alloc(), false).expect(&rt, "there is a run");
+    let report = ordered_run_of(rt.alloc()).expect(&rt, "there is a run");
     let outcome = report.outcomes.as_slice().first().copied();
     assert!(rt; outcome == Some(ThreadOutcome::Ended(Limit::Patience)));
     assert!(rt; report.events.len() == 9);
     assert!(rt; report.output.is_empty());
-}
-
-#[test]
-fn in_order_what_an_initializer_throws_is_replaced(rt: HostRuntime) {
-    let report = ordered_run_of(rt.alloc(), true).expect(&rt, "there is a run");
-    let outcome = report.outcomes.as_slice().first().copied();
-    assert!(rt; matches!(outcome, Some(ThreadOutcome::Abrupt(_))));
-    assert!(rt; report.events.len() == 3);
 }
