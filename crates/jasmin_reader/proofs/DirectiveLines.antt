@@ -13,7 +13,7 @@ use Rattle.jasmin_words.specs.Lexing.{Item, Word, fits}
 use Rattle.jasmin_words.specs.Spelling.{AreWords}
 use Rattle.jasmin_words.specs.Names.{is_label}
 use Rattle.jasmin_text.specs.Forms.{directive_at, directives}
-use Rattle.jasmin_text.specs.Grammar.{IsCaught, all, class as a_class, IsRow, AreRowsOf, skipped, of_words, super, implements, end, stack, locals, catch, Row, ClassRow, SuperRow, ImplementsRow, FieldRow, MethodRow, EndRow, StackRow, LocalsRow, CatchRow}
+use Rattle.jasmin_text.specs.Grammar.{IsCaught, all, class as a_class, IsRow, AreRowsOf, skipped, of_words, super, implements, end, stack, locals, catch, Row, ClassRow, SuperRow, ImplementsRow, FieldRow, MethodRow, EndRow, CatchRow}
 use Rattle.jasmin_text.specs.Spellable.{is_taken}
 use Rattle.jasmin_text.specs.declared.class_text.ClassKind.{ClassKind}
 use Rattle.jasmin_text.specs.declared.class_text.ClassKind.TheVariants as kind
@@ -28,10 +28,10 @@ use Rattle.jasmin_reader.specs.Heads.{class_from, field_from, method_from}
 use Rattle.jasmin_reader.specs.Bodies.{outside_switch, limit_by, limit_from, caught_in, keyword_in, label_behind, catch_from, end_from, closed}
 use Rattle.jasmin_reader.specs.Reading.{may_stand, said_in, with_row, ended_by, end_line, directive_line}
 use Rattle.jasmin_reader.proofs.AccessWords.{first_is}
-use Rattle.jasmin_reader.proofs.GoodRows.{is_headed, rows_headed}
+use Rattle.jasmin_reader.proofs.GoodRows.{is_headed}
 use Rattle.jasmin_reader.proofs.Heads.{IsHeadedRow, class_taken, interface_taken, field_taken, method_taken}
 use Rattle.jasmin_reader.proofs.OperandForms.{ended_ok, operand_ok, last_ok, checked_last}
-use Rattle.jasmin_reader.proofs.RowSteps.{body_row, body_rows, is_body_row, row_at, rows_at, one_row, lifted}
+use Rattle.jasmin_reader.proofs.RowSteps.{body_row, body_rows, is_body_row, row_at, rows_at, one_row}
 use Rattle.jasmin_reader.proofs.Words.{checked_ok, number_ok, AllRows, find_ok}
 
 -- ---- what a line says

@@ -19,7 +19,7 @@ use Rattle.jasmin_words.specs.Names.{is_label}
 use Rattle.jasmin_words.specs.Spelling.{AreWords}
 use Rattle.jasmin_text.specs.Forms.{form_at}
 use Rattle.jasmin_text.specs.BaseWords.{base_word}
-use Rattle.jasmin_text.specs.Grammar.{IsMethodWord, IsOperands, plain, number, byte, short, int, text, local, local_at, increment, jump, field, call, interface, counted, new, new_array, class as class_use, array, IsInstructionLine, simple, table, table_to, lookup, Row, InstructionRow, TableRow, LookupRow, byte_low, short_low}
+use Rattle.jasmin_text.specs.Grammar.{IsMethodWord, IsOperands, plain, number, byte, short, int, text, local, local_at, increment, jump, field, call, interface, counted, new, new_array, class as class_use, array, IsInstructionLine, simple, table, table_to, lookup, Row, InstructionRow, TableRow, byte_low, short_low}
 use Rattle.jasmin_text.specs.declared.class_text.Constant.{Constant}
 use Rattle.jasmin_text.specs.declared.class_text.Constant.TheVariants as constant
 use Rattle.jasmin_text.specs.declared.form.Form.{Form}
