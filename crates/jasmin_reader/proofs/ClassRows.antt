@@ -23,14 +23,14 @@ use Rattle.jasmin_reader.specs.declared.body.Body.{Body}
 use Rattle.jasmin_reader.specs.declared.fault.ReadFault.{ReadFault}
 use Rattle.jasmin_reader.specs.declared.head.HeadWords.{HeadWords}
 use Rattle.jasmin_reader.specs.declared.reader.Reader.{Reader}
-use Rattle.jasmin_reader.specs.Bodies.{outside_switch, closed}
+use Rattle.jasmin_reader.specs.Bodies.{outside_switch, with_setting, closed}
 use Rattle.jasmin_reader.specs.Reading.{allowed, is_in_header, member_room, empty_body, line_at}
 use Rattle.jasmin_reader.specs.File.{Reads, fault_at, object_name, parts_of, finished, rest_at, empty_reader, class_at}
 use Rattle.jasmin_reader.proofs.BodyRows.{added, outside_ok, body_taken, holding, body_read}
 use Rattle.jasmin_reader.proofs.GoodRows.{is_head, is_good_row, is_headed, field_headed, rows_headed}
 use Rattle.jasmin_reader.proofs.MethodEnds.{IsGoodBody, all_push, body_good, closed_good, list_empty, closed_ok, body_fits, closed_read, method_facts}
 use Rattle.jasmin_reader.proofs.ReadFile.{file_tells, rows_said}
-use Rattle.jasmin_reader.proofs.RowSteps.{body_row, body_rows, is_body_row, row_at, rows_at, rows_append, rows_in_method}
+use Rattle.jasmin_reader.proofs.RowSteps.{may_set, body_rows, is_body_row, row_at, rows_at, rows_append, rows_in_method}
 
 -- a class in between: its head, what stands in it, and the method that is open
 abbrev mid : HeadWords × List ℕ → Members → Option Body → Reader
@@ -165,10 +165,11 @@ members_taken (EndRow ∷ rows) (Some b) head m last closes good f w o e =
 members_taken (row ∷ rows) (Some b) head m last closes good f w o e =
     let q = and_parts (is_good_row row) (list_all is_good_row rows) good in
     let one = bind_ok (row_at (mid head m (Some b)) row) _ last e in
-    let c = bind_ok (body_row b row) _ one.0 one.1 in
-    let rest = members_taken rows (Some c.0) head m last closes q.1 f w o in
-    let ih = given (λ (r : Reader). rows_at r rows ≡ Ok last → InMethod head m c.0 rows last) c.2 rest one.2 in
-    let runs = ap (λ (x : Result Body FaultKind). x >>= λ d. body_rows d ih.body) c.1 ∙ ih.runs in
+    let may = bind_ok (may_set b row) _ one.0 one.1 in
+    let c : Body = with_setting b row in
+    let rest = members_taken rows (Some c) head m last closes q.1 f w o in
+    let ih = given (λ (r : Reader). rows_at r rows ≡ Ok last → InMethod head m c rows last) may.2 rest one.2 in
+    let runs = ap (λ (x : Result (Unit {0}) FaultKind). (x >>= λ _. done c) >>= λ d. body_rows d ih.body) may.1 ∙ ih.runs in
     let parts = ap (λ (rs : List Row). row ∷ rs) ih.parts in
     let all_good = and_from (is_good_row row) _ q.0 ih.good in
     record { body = row ∷ ih.body; rest = ih.rest; parts = parts; ended = ih.ended; good = all_good; runs = runs; outside = ih.outside; whole = ih.whole; closes = ih.closes; next = ih.next }

@@ -13,7 +13,7 @@ use Rattle.jasmin_words.specs.Lexing.{Item, Word, fits}
 use Rattle.jasmin_words.specs.Spelling.{AreWords}
 use Rattle.jasmin_words.specs.Names.{is_label}
 use Rattle.jasmin_text.specs.Forms.{directive_at, directives}
-use Rattle.jasmin_text.specs.Grammar.{IsCaught, all, class as a_class, IsRow, AreRowsOf, skipped, of_words, super, implements, end, stack, locals, catch, Row, ClassRow, SuperRow, ImplementsRow, FieldRow, MethodRow, EndRow, StackRow, LocalsRow, CatchRow}
+use Rattle.jasmin_text.specs.Grammar.{IsCaught, all, class as a_class, IsRow, AreRowsOf, skipped, of_words, super, implements, end, stack, locals, catch, Row, ClassRow, SuperRow, ImplementsRow, FieldRow, MethodRow, EndRow, CatchRow}
 use Rattle.jasmin_text.specs.Spellable.{is_taken}
 use Rattle.jasmin_text.specs.declared.class_text.ClassKind.{ClassKind}
 use Rattle.jasmin_text.specs.declared.class_text.ClassKind.TheVariants as kind
@@ -25,13 +25,13 @@ use Rattle.jasmin_reader.specs.declared.reader.Reader.{Reader}
 use Rattle.jasmin_reader.specs.Places.{word_of, next_word, operand, ended_at, first_word}
 use Rattle.jasmin_reader.specs.Operands.{label_in, class_name_in, limit_in, last_operand}
 use Rattle.jasmin_reader.specs.Heads.{class_from, field_from, method_from}
-use Rattle.jasmin_reader.specs.Bodies.{outside_switch, limit_by, limit_from, caught_in, keyword_in, label_behind, catch_from, with_setting, end_from, closed}
-use Rattle.jasmin_reader.specs.Reading.{may_stand, said_in, with_row, in_body, ended_by, end_line, directive_line}
+use Rattle.jasmin_reader.specs.Bodies.{outside_switch, limit_by, limit_from, caught_in, keyword_in, label_behind, catch_from, end_from, closed}
+use Rattle.jasmin_reader.specs.Reading.{may_stand, said_in, with_row, ended_by, end_line, directive_line}
 use Rattle.jasmin_reader.proofs.AccessWords.{first_is}
-use Rattle.jasmin_reader.proofs.GoodRows.{is_headed, rows_headed}
+use Rattle.jasmin_reader.proofs.GoodRows.{is_headed}
 use Rattle.jasmin_reader.proofs.Heads.{IsHeadedRow, class_taken, interface_taken, field_taken, method_taken}
 use Rattle.jasmin_reader.proofs.OperandForms.{ended_ok, operand_ok, last_ok, checked_last}
-use Rattle.jasmin_reader.proofs.RowSteps.{body_row, body_rows, is_body_row, row_at, rows_at, one_row, lifted, set_in_body}
+use Rattle.jasmin_reader.proofs.RowSteps.{body_row, body_rows, is_body_row, row_at, rows_at, one_row}
 use Rattle.jasmin_reader.proofs.Words.{checked_ok, number_ok, AllRows, find_ok}
 
 -- ---- what a line says
@@ -58,13 +58,6 @@ single_row b c row e = rw e refl
 
 pub one_said : (b c : Body) {items : List Item} (row : Row) → AreRowsOf items (row ∷ []) → is_body_row row ≡ true → body_row b row ≡ Ok c → BodySays b items c
 one_said b c row is are e = record { rows = row ∷ []; is_row = is; does = single_row b c row e; are = and_from _ _ are refl }
-
-pub in_body_ok : (r s : Reader) (items : List Item) (add : Body → Result Body FaultKind) → ((b c : Body) → add b ≡ Ok c → BodySays b items c) → (o : Option Body) → r.body ≡ o → in_body r o add ≡ Ok s → Says r items s
-in_body_ok r s items add h None p e = absurd cc
-in_body_ok r s items add h (Some b) p e =
-    let one = bind_ok (add b) _ s e in
-    let t = h b one.0 one.1 in
-    record { rows = t.rows; is_row = t.is_row; does = lifted t.rows t.are r b one.0 p t.does ∙ one.2; headed = rows_headed t.rows t.are }
 
 -- ---- outside of methods
 
@@ -113,11 +106,11 @@ limit_ok r items row e =
     by w rest true t p q e =
         let n = bind_ok (last_operand limit_in rest) _ row e in
         let a = last_ok limit_in rest n.0 n.1 in
-        rw ((bytes_eq-Decides w (codes "stack")).0 p, a.parts) (given (Taken r directive.Limit _) n.2 ((of_words (refl, (refl, (a.short, tt))) (stack (number_ok 0 1024 fault.LimitExceeded a.word n.0 a.value)), refl), set_in_body r (λ b. with_setting b (StackRow n.0)) r.body))
+        rw ((bytes_eq-Decides w (codes "stack")).0 p, a.parts) (given (Taken r directive.Limit _) n.2 ((of_words (refl, (refl, (a.short, tt))) (stack (number_ok 0 1024 fault.LimitExceeded a.word n.0 a.value)), refl), refl))
     by w rest false true p q e =
         let n = bind_ok (last_operand limit_in rest) _ row e in
         let a = last_ok limit_in rest n.0 n.1 in
-        rw ((bytes_eq-Decides w (codes "locals")).0 q, a.parts) (given (Taken r directive.Limit _) n.2 ((of_words (refl, (refl, (a.short, tt))) (locals (number_ok 0 1024 fault.LimitExceeded a.word n.0 a.value)), refl), set_in_body r (λ b. with_setting b (LocalsRow n.0)) r.body))
+        rw ((bytes_eq-Decides w (codes "locals")).0 q, a.parts) (given (Taken r directive.Limit _) n.2 ((of_words (refl, (refl, (a.short, tt))) (locals (number_ok 0 1024 fault.LimitExceeded a.word n.0 a.value)), refl), refl))
     by w rest false false p q e = absurd cc
 
 -- ---- handler tables
@@ -161,7 +154,7 @@ catch_ok r items x e =
     let ends = ended_ok four.0.1 five.0 five.1 in
     let parts : items ≡ Word a.word ∷ Word (codes "from") ∷ Word two.0.0 ∷ Word (codes "to") ∷ Word three.0.0 ∷ Word (codes "using") ∷ Word four.0.0 ∷ [] = cc (a.parts, b.0, c.0, d.0, ends) in
     given (Taken r directive.Catch (Word (codes ".catch") ∷ items)) five.2
-    ((subst (λ (l : List Item). AreRowsOf (Word (codes ".catch") ∷ l) (CatchRow one.0.0 two.0.0 three.0.0 four.0.0 ∷ [])) (sym parts) (of_words (refl, (a.short, (refl, (b.2, (refl, (c.2, (refl, (d.2, tt)))))))) (catch (caught_ok a.word one.0.0 a.value) b.1 c.1 d.1)), refl), set_in_body r (λ b. with_setting b (CatchRow one.0.0 two.0.0 three.0.0 four.0.0)) r.body)
+    ((subst (λ (l : List Item). AreRowsOf (Word (codes ".catch") ∷ l) (CatchRow one.0.0 two.0.0 three.0.0 four.0.0 ∷ [])) (sym parts) (of_words (refl, (a.short, (refl, (b.2, (refl, (c.2, (refl, (d.2, tt)))))))) (catch (caught_ok a.word one.0.0 a.value) b.1 c.1 d.1)), refl), refl)
 
 caught_read : (w : List ℕ) (c : Option (List ℕ)) → IsCaught w c → caught_in w ≡ Ok c
 caught_read w c all = refl

@@ -2,7 +2,6 @@ pub mod GoodRows
 pub mod Lines
 pub mod LabelTables
 pub mod Gathered
-pub mod Keys
 pub mod RowSteps
 pub mod Words
 pub mod OperandForms

@@ -19,7 +19,7 @@ use Rattle.jasmin_words.specs.Names.{is_label}
 use Rattle.jasmin_words.specs.Spelling.{AreWords}
 use Rattle.jasmin_text.specs.Forms.{form_at}
 use Rattle.jasmin_text.specs.BaseWords.{base_word}
-use Rattle.jasmin_text.specs.Grammar.{IsMethodWord, IsOperands, plain, number, byte, short, int, text, local, local_at, increment, jump, field, call, interface, counted, new, new_array, class as class_use, array, IsInstructionLine, simple, table, table_to, lookup, Row, InstructionRow, TableRow, LookupRow, byte_low, short_low}
+use Rattle.jasmin_text.specs.Grammar.{IsMethodWord, IsOperands, plain, number, byte, short, int, text, local, local_at, increment, jump, field, call, interface, counted, new, new_array, class as class_use, array, IsInstructionLine, simple, table, table_to, lookup, Row, InstructionRow, TableRow, byte_low, short_low}
 use Rattle.jasmin_text.specs.declared.class_text.Constant.{Constant}
 use Rattle.jasmin_text.specs.declared.class_text.Constant.TheVariants as constant
 use Rattle.jasmin_text.specs.declared.form.Form.{Form}
@@ -29,16 +29,14 @@ use Rattle.jasmin_text.specs.declared.instruction.Instruction.TheVariants as ins
 use Rattle.jasmin_text.specs.declared.instruction.ReferenceType.{ReferenceType}
 use Rattle.jasmin_text.specs.declared.instruction.ReferenceType.TheVariants as reference
 use Rattle.jasmin_text.specs.declared.instruction.MethodReference.{MethodReference}
-use Rattle.jasmin_reader.specs.declared.operands.Begun.{Begun}
-use Rattle.jasmin_reader.specs.declared.operands.Begun.TheVariants as begun
 use Rattle.jasmin_reader.specs.declared.table.BaseWord.{BaseWord}
 use Rattle.jasmin_reader.specs.declared.table.BaseWord.TheVariants as word
 use Rattle.jasmin_reader.specs.Places.{within_limit, operand, ended_at}
-use Rattle.jasmin_reader.specs.Operands.{checked, label_in, class_name_in, integer_in, int_in, local_in, count_in, type_in, member_in, method_in, base_of, base_in, begins_with, reference_in, last_operand, count_at, labels_between, room_in, room_at, table_of, raw, begun_at}
+use Rattle.jasmin_reader.specs.Operands.{checked, label_in, class_name_in, integer_in, int_in, local_in, count_in, type_in, member_in, method_in, base_of, base_in, begins_with, reference_in, last_operand, count_at, labels_between, high_in, high_at, raw, begun_at}
 use Rattle.jasmin_reader.specs.Table.{base_at, base_words}
-use Rattle.jasmin_reader.specs.Listing.{Listing, has_room, with_begun}
+use Rattle.jasmin_reader.specs.Listing.{has_room}
 use Rattle.jasmin_reader.proofs.AccessWords.{within_ok}
-use Rattle.jasmin_reader.proofs.RowSteps.{plain_row}
+use Rattle.jasmin_reader.proofs.RowSteps.{may_list}
 use Rattle.jasmin_reader.proofs.Words.{checked_ok, integer_ok, int_ok, int_read, number_ok, number_read, type_ok, type_read, lacks, class_lacks, member_ok, member_read, method_ok, method_read, find_ok}
 
 -- ---- places
@@ -143,51 +141,51 @@ labels_counted low high n e =
     let far : (high +ℤ pos 1) -ℤ low ≡ pos n = omega (arith, ints) in
     rw (far, labels_between) refl
 
--- a row that begins as was read
-pub record Begins (f : Form) (items : List Item) (b : Begun) : Type 0 where
-  pub row : Row
+-- the row that a line says, and where it may stand
+pub record Begins (f : Form) (items : List Item) (row : Row) : Type 0 where
   pub words : AreWords items
   pub line : (w : List ℕ) → form_at w ≡ Some f → IsInstructionLine (Word w ∷ items) row
-  pub adds : (l m : Listing) → (has_room l.room >>= λ _. Ok (with_begun l b)) ≡ Ok m → plain_row l row ≡ Ok m
+  pub may : (room : ℕ) → has_room room ≡ Ok tt → may_list room None row ≡ Ok tt
 
-table_ok : (items : List Item) (b : Begun) → begun_at form.TableSwitch items ≡ Ok b → Begins form.TableSwitch items b
-unfolding begun_at room_in
-table_ok items b e =
-    let one = bind_ok (operand integer_in items) _ b e in
-    let two = bind_ok (room_at one.0.0 one.0.1) _ b one.2 in
+table_ok : (items : List Item) (row : Row) → begun_at form.TableSwitch items ≡ Ok row → Begins form.TableSwitch items row
+unfolding begun_at high_in
+table_ok items row e =
+    let one = bind_ok (operand integer_in items) _ row e in
+    let two = bind_ok (high_at one.0.0 one.0.1) _ row one.2 in
     let a = operand_ok integer_in items one.0 one.1 in
     given (Begins form.TableSwitch items) two.2 (by a.word one.0.0 one.0.1 a.parts (integer_ok a.word one.0.0 a.value) a.short two.0 two.1)
   where
-    by : (v : List ℕ) (low : ℤ) (rest : List Item) → items ≡ Word v ∷ rest → integer_of v ≡ Some low → fits v ≡ true → (room : Option ℕ) → room_at low rest ≡ Ok room → Begins form.TableSwitch items (begun.Opens (table_of low room))
-    by v low [] parts from fit room h =
-        rw parts (given (λ (r : Option ℕ). Begins form.TableSwitch (Word v ∷ []) (begun.Opens (table_of low r))) h (record { row = TableRow low None; words = (fit, tt); line = λ w at. table at from; adds = λ l m done. done }))
-    by v low (t ∷ rest) parts from fit room h =
-        let one = bind_ok (last_operand (room_in low) (t ∷ rest)) _ room h in
-        let b = last_ok (room_in low) (t ∷ rest) one.0 one.1 in
+    by : (v : List ℕ) (low : ℤ) (rest : List Item) → items ≡ Word v ∷ rest → integer_of v ≡ Some low → fits v ≡ true → (high : Option ℤ) → high_at low rest ≡ Ok high → Begins form.TableSwitch items (TableRow low high)
+    by v low [] parts from fit high h =
+        rw parts (given (λ (o : Option ℤ). Begins form.TableSwitch (Word v ∷ []) (TableRow low o)) h (record { words = (fit, tt); line = λ w at. table at from; may = λ room k. rw k refl }))
+    by v low (t ∷ rest) parts from fit high h =
+        let one = bind_ok (last_operand (high_in low) (t ∷ rest)) _ high h in
+        let b = last_ok (high_in low) (t ∷ rest) one.0 one.1 in
         let two = bind_ok (integer_in b.word) _ one.0 b.value in
-        let far : labels_between low two.0 ≡ Ok one.0 = two.2 in
+        let three = bind_ok (labels_between low two.0) _ one.0 two.2 in
+        let same : two.0 ≡ one.0 = cc three.2 in
         let items_are : items ≡ Word v ∷ Word b.word ∷ [] = cc (parts, b.parts) in
-        rw items_are (given (λ (r : Option ℕ). Begins form.TableSwitch (Word v ∷ Word b.word ∷ []) (begun.Opens (table_of low r))) one.2
-        (record { row = TableRow low (Some two.0); words = (fit, (b.short, tt)); line = λ w at. table_to at from (integer_ok b.word two.0 two.1); adds = λ l m done. rw far done }))
+        rw items_are (given (λ (o : Option ℤ). Begins form.TableSwitch (Word v ∷ Word b.word ∷ []) (TableRow low o)) one.2
+        (subst (λ (n : ℤ). Begins form.TableSwitch (Word v ∷ Word b.word ∷ []) (TableRow low (Some n))) same (record { words = (fit, (b.short, tt)); line = λ w at. table_to at from (integer_ok b.word two.0 two.1); may = λ room k. rw (k, three.1) refl })))
 
 -- ---- all forms that are read
 
-whole : {f : Form} {items : List Item} {i : Instruction (List ℕ)} → AreWords items → IsOperands f items i → Begins f items (begun.Whole i)
-whole {i} words is = record { row = InstructionRow i; words = words; line = λ w h. simple h is; adds = λ l m h. h }
+whole : {f : Form} {items : List Item} {i : Instruction (List ℕ)} → AreWords items → IsOperands f items i → Begins f items (InstructionRow i)
+whole {i} words is = record { words = words; line = λ w h. simple h is; may = λ room h. h }
 
-nothing : {f : Form} (items : List Item) (a b : Begun) → Begins f [] a → (ended_at items >>= λ _. Ok a) ≡ Ok b → Begins f items b
+nothing : {f : Form} (items : List Item) (a b : Row) → Begins f [] a → (ended_at items >>= λ _. Ok a) ≡ Ok b → Begins f items b
 nothing {f} items a b is e =
     let one = bind_ok (ended_at items) _ b e in
     rw (ended_ok items one.0 one.1) (given (Begins f []) one.2 is)
 
-last : {A : Type 0} (f : Form) (items : List Item) (read : List ℕ → Result A FaultKind) (build : A → Instruction (List ℕ)) (b : Begun) → ((w : List ℕ) (x : A) → read w ≡ Ok x → IsOperands f (Word w ∷ []) (build x))
+last : {A : Type 0} (f : Form) (items : List Item) (read : List ℕ → Result A FaultKind) (build : A → Instruction (List ℕ)) (b : Row) → ((w : List ℕ) (x : A) → read w ≡ Ok x → IsOperands f (Word w ∷ []) (build x))
     → (last_operand read items >>= λ x. raw (build x)) ≡ Ok b → Begins f items b
 last f items read build b is e =
     let one = bind_ok (last_operand read items) _ b e in
     let t = last_ok read items one.0 one.1 in
     rw t.parts (given (Begins f _) one.2 (whole (t.short, tt) (is t.word one.0 t.value)))
 
-two : {A B : Type 0} (f : Form) (items : List Item) (read : List ℕ → Result A FaultKind) (more : List ℕ → Result B FaultKind) (build : A → B → Instruction (List ℕ)) (b : Begun)
+two : {A B : Type 0} (f : Form) (items : List Item) (read : List ℕ → Result A FaultKind) (more : List ℕ → Result B FaultKind) (build : A → B → Instruction (List ℕ)) (b : Row)
     → ((v : List ℕ) (x : A) → read v ≡ Ok x → (w : List ℕ) (y : B) → more w ≡ Ok y → IsOperands f (Word v ∷ Word w ∷ []) (build x y))
     → (operand read items >>= λ x. last_operand more x.1 >>= λ y. raw (build x.0 y)) ≡ Ok b → Begins f items b
 two f items read more build b is e =
@@ -200,7 +198,7 @@ two f items read more build b is e =
 abbrev int_from : List Item → Result (Constant × List Item) FaultKind
 int_from items = operand integer_in items >>= λ n. Ok (constant.Int n.0, n.1)
 
-int_constant : (items : List Item) (b : Begun) → (int_from items >>= λ c. ended_at c.1 >>= λ _. raw (instruction.Constant c.0)) ≡ Ok b → Begins form.Constant items b
+int_constant : (items : List Item) (b : Row) → (int_from items >>= λ c. ended_at c.1 >>= λ _. raw (instruction.Constant c.0)) ≡ Ok b → Begins form.Constant items b
 int_constant items b e =
     let one = bind_ok (int_from items) _ b e in
     let two = bind_ok (operand integer_in items) _ one.0 one.1 in
@@ -210,7 +208,7 @@ int_constant items b e =
     let value : raw (instruction.Constant (constant.Int two.0.0)) ≡ raw (instruction.Constant one.0.0) = cc two.2 in
     rw parts (given (Begins form.Constant _) (value ∙ three.2) (whole (t.short, tt) (int (integer_ok t.word two.0.0 t.value))))
 
-pub begun_ok : (f : Form) (items : List Item) (b : Begun) → begun_at f items ≡ Ok b → Begins f items b
+pub begun_ok : (f : Form) (items : List Item) (b : Row) → begun_at f items ≡ Ok b → Begins f items b
 unfolding begun_at
 begun_ok (form.Plain p) items b e = nothing items _ b (whole tt plain) e
 begun_ok (form.Number n) items b e = nothing items _ b (whole tt number) e
@@ -227,7 +225,7 @@ begun_ok form.Increment items b e =
     two _ items local_in (int_in short_low (pos 32767)) _ b (λ v n h w by k. increment (number_ok 0 65535 fault.BadOperand v n h) (int_ok short_low (pos 32767) w by k)) e
 begun_ok (form.Jump j) items b e = last _ items label_in _ b (λ w x h. let is = checked_ok is_label w x h in rw is.1 (jump is.0)) e
 begun_ok form.TableSwitch items b e = table_ok items b e
-begun_ok form.LookupSwitch items b e = nothing items _ b (record { row = LookupRow; words = tt; line = λ w at. lookup at; adds = λ l m done. done }) e
+begun_ok form.LookupSwitch items b e = nothing items _ b (record { words = tt; line = λ w at. lookup at; may = λ room h. h }) e
 begun_ok (form.Field f) items b e = two _ items member_in type_in _ b (λ v m h w t k. field (member_ok v m h) (type_ok w t k)) e
 begun_ok (form.Call c) items b e = last _ items method_in _ b (λ w m h. call (method_ok w m h)) e
 begun_ok form.CallInterface items b e =
@@ -237,7 +235,7 @@ begun_ok form.CallInterface items b e =
     rw x.parts (given (Begins form.CallInterface _) two.2 (by one.0.1 two.0 two.1 x.word x.short (method_ok x.word one.0.0 x.value)))
   where
     by : (rest : List Item) (u : Unit {0}) → count_at rest ≡ Ok u → (w : List ℕ) → fits w ≡ true → {r : MethodReference}
-        → IsMethodWord w r.class r.name r.method_type → Begins form.CallInterface (Word w ∷ rest) (begun.Whole (instruction.CallInterface r))
+        → IsMethodWord w r.class r.name r.method_type → Begins form.CallInterface (Word w ∷ rest) (InstructionRow (instruction.CallInterface r))
     by [] u e w fit m = whole (fit, tt) (interface m)
     by (t ∷ rest) u e w fit {r} m =
         let one = bind_ok (last_operand count_in (t ∷ rest)) _ u e in
@@ -249,7 +247,7 @@ begun_ok (form.TypeUse t) items b e = last _ items reference_in _ b (reference_o
 
 -- ---- all operands of the grammar
 
-pub operands_read : (f : Form) (items : List Item) (i : Instruction (List ℕ)) → IsOperands f items i → AreWords items → begun_at f items ≡ Ok (begun.Whole i)
+pub operands_read : (f : Form) (items : List Item) (i : Instruction (List ℕ)) → IsOperands f items i → AreWords items → begun_at f items ≡ Ok (InstructionRow i)
 unfolding begun_at reference_in
 operands_read f items i (byte {w} {n} h) words = rw (int_read _ _ w n h, words.0) refl
 operands_read f items i (short {w} {n} h) words = rw (int_read _ _ w n h, words.0) refl

@@ -1,5 +1,5 @@
 -- All lines of a file, and the rows that they say. Both ways.
-use Rattle.std.proofs.Common.{◌≡◌, ℕ, ◌+◌, true, not, List, [], ◌∷◌, ◌++◌, Option, Some, None, Result, Ok, Err, refl, sym, ◌∙◌}
+use Rattle.std.proofs.Common.{◌≡◌, ℕ, ◌+◌, true, not, List, [], ◌∷◌, ◌++◌, Option, Some, None, Result, Ok, Err, refl, ◌∙◌}
 use Rattle.std.specs.List.{list_all}
 use Rattle.std.proofs.lemmas.Bool.{and_from, and_parts}
 use Rattle.std.proofs.lemmas.List.Folds.{list_all-append}
@@ -21,13 +21,13 @@ use Rattle.jasmin_reader.specs.declared.body.Body.{Body}
 use Rattle.jasmin_reader.specs.declared.reader.Reader.{Reader}
 use Rattle.jasmin_reader.specs.Places.{first_word}
 use Rattle.jasmin_reader.specs.Operands.{begins_with}
-use Rattle.jasmin_reader.specs.Bodies.{statement_at, with_setting, end_from}
+use Rattle.jasmin_reader.specs.Bodies.{statement_at, end_from}
 use Rattle.jasmin_reader.specs.Reading.{no_word, said_in, end_line, directive_line, statement_line, line_by, line_at}
 use Rattle.jasmin_reader.proofs.AccessWords.{first_is}
-use Rattle.jasmin_reader.proofs.DirectiveLines.{Says, in_body_ok, directive_ok, untaken, row_read}
-use Rattle.jasmin_reader.proofs.GoodRows.{is_good_row, is_typed, is_headed, rows_good}
+use Rattle.jasmin_reader.proofs.DirectiveLines.{Says, directive_ok, untaken, row_read}
+use Rattle.jasmin_reader.proofs.GoodRows.{is_good_row, is_typed, is_headed, rows_good, rows_headed}
 use Rattle.jasmin_reader.proofs.Heads.{class_head, interface_head, field_head, method_head}
-use Rattle.jasmin_reader.proofs.RowSteps.{row_at, rows_at, rows_append, set_in_body}
+use Rattle.jasmin_reader.proofs.RowSteps.{row_at, rows_at, rows_append, lifted}
 use Rattle.jasmin_reader.proofs.StatementLines.{statement_taken, label_said, labelled_said, operation_said, target_said, case_said, default_said}
 use Rattle.jasmin_reader.proofs.Words.{number_read}
 use Rattle.jasmin_reader.specs.File.{finished, then_lines, rest_at, empty_reader, class_at}
@@ -36,7 +36,10 @@ use Rattle.jasmin_reader.specs.File.{finished, then_lines, rest_at, empty_reader
 
 statement_ok : (r s : Reader) (w : List ℕ) (rest : List Item) → (o : Option Body) → r.body ≡ o → statement_line r w rest o ≡ Ok s → Says r (Word w ∷ rest) s
 statement_ok r s w rest None p e = absurd cc
-statement_ok r s w rest (Some b) p e = in_body_ok r s (Word w ∷ rest) (λ c. statement_at c w rest) (λ c d h. statement_taken c d w rest h) (Some b) p e
+statement_ok r s w rest (Some b) p e =
+    let one = bind_ok (statement_at b w rest) _ s e in
+    let t = statement_taken b one.0 w rest one.1 in
+    record { rows = t.rows; is_row = t.is_row; does = lifted t.rows t.are r b one.0 p t.does ∙ one.2; headed = rows_headed t.rows t.are }
 
 -- A line that is read is a line of the grammar, and its rows do what was read.
 pub line_taken : (r s : Reader) (items : List Item) → line_at r items ≡ Ok s → Says r items s
@@ -74,9 +77,9 @@ row_said r s items rows (field {items = i} {a} {name} {type} {value} access rest
     rw (field_head i access rest a name w type value e is h d v parts.0 parts.1 fit.1) (single r s (FieldRow (record { access = a; name = name; field_type = type; value = value })) done)
 row_said r s items rows (method {items = i} {a} {name} {type} access w e spelled is h m) fit headed done = rw (method_head i access w a name type e spelled is h m (and_parts _ true headed).0 fit.1) (single r s (MethodRow a name type) done)
 row_said r s items rows end fit headed done = single r s EndRow done
-row_said r s items rows (stack {w} {n} h) fit headed done = rw (number_read 0 1024 fault.LimitExceeded w n h, fit.1.1.0) (sym (set_in_body r (λ b. with_setting b (StackRow n)) r.body) ∙ single r s (StackRow n) done)
-row_said r s items rows (locals {w} {n} h) fit headed done = rw (number_read 0 1024 fault.LimitExceeded w n h, fit.1.1.0) (sym (set_in_body r (λ b. with_setting b (LocalsRow n)) r.body) ∙ single r s (LocalsRow n) done)
-row_said r s items rows (catch {w} {from} {to} {using} {class = k} h i j l) fit headed done = rw (row_read w from to using k h i j l (fit.1.0, (fit.1.1.1.0, (fit.1.1.1.1.1.0, (fit.1.1.1.1.1.1.1.0, tt))))) (sym (set_in_body r (λ b. with_setting b (CatchRow k from to using)) r.body) ∙ single r s (CatchRow k from to using) done)
+row_said r s items rows (stack {w} {n} h) fit headed done = rw (number_read 0 1024 fault.LimitExceeded w n h, fit.1.1.0) (single r s (StackRow n) done)
+row_said r s items rows (locals {w} {n} h) fit headed done = rw (number_read 0 1024 fault.LimitExceeded w n h, fit.1.1.0) (single r s (LocalsRow n) done)
+row_said r s items rows (catch {w} {from} {to} {using} {class = k} h i j l) fit headed done = rw (row_read w from to using k h i j l (fit.1.0, (fit.1.1.1.0, (fit.1.1.1.1.1.0, (fit.1.1.1.1.1.1.1.0, tt))))) (single r s (CatchRow k from to using) done)
 row_said r s items rows (label {l} h) fit headed done = label_said r s l h fit.0 (single r s (LabelRow l) done)
 row_said r s items rows (labelled {l} {items = i} {row} h is) fit headed done = labelled_said r s l i row h fit.0 is fit.1.1 (two_rows r s (LabelRow l) row done)
 row_said r s items rows (operation {items = i} {row} is) fit headed done = operation_said r s i row is fit (single r s row done)

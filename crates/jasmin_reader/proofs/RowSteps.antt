@@ -1,56 +1,49 @@
 -- What a row of the grammar does to what is read.
-use Rattle.std.proofs.Common.{◌≡◌, ℕ, ◌-◌, Bool, true, false, List, [], ◌∷◌, ◌++◌, Option, Some, None, is_some, Result, Ok, Err, ℤ, refl, ap, ◌∙◌}
+use Rattle.std.proofs.Common.{◌≡◌, ℕ, Bool, true, not, false, List, [], ◌∷◌, ◌++◌, length, Option, Some, None, is_some, Result, Ok, Err, ℤ, refl, ap, ◌∙◌}
 use Rattle.std.proofs.lemmas.Bool.{and_parts}
 use Rattle.std.specs.List.{list_all}
-use Rattle.std.specs.Option.{option_map}
 use Rattle.jasmin_words.specs.declared.fault.FaultKind.{FaultKind}
 use Rattle.jasmin_words.specs.declared.fault.FaultKind.TheVariants as fault
 use Rattle.sequence.specs.Gives.{◌>>=◌}
-use Rattle.sequence.proofs.Results.{bind_ok, done, given}
+use Rattle.sequence.proofs.Results.{bind_ok, done, given, then}
 use Rattle.jasmin_text.specs.Grammar.{Row, ClassRow, SuperRow, ImplementsRow, FieldRow, MethodRow, EndRow, StackRow, LocalsRow, CatchRow, LabelRow, InstructionRow, TableRow, LookupRow, TargetRow, CaseRow, DefaultRow, place_of}
 use Rattle.jasmin_text.specs.declared.form.Directive.TheVariants as directive
-use Rattle.jasmin_text.specs.declared.instruction.Instruction.TheVariants as instruction
 use Rattle.jasmin_reader.specs.declared.body.Body.{Body}
 use Rattle.jasmin_reader.specs.declared.reader.Reader.{Reader}
 use Rattle.jasmin_reader.specs.declared.switch.Switch.{Switch}
 use Rattle.jasmin_reader.specs.declared.switch.Switch.TheVariants as switch
-use Rattle.jasmin_reader.specs.Operands.{labels_between, table_of}
-use Rattle.jasmin_reader.specs.Listing.{Listing, has_room, with_instruction, with_switch, without_switch, less_room, is_full, with_target, new_key, case_of, with_key}
-use Rattle.jasmin_reader.specs.Bodies.{new_label, with_label, listed, outside_switch, with_setting}
-use Rattle.jasmin_reader.specs.Reading.{has_room_for, may_stand, open_at, with_row, in_body, ended_by}
+use Rattle.jasmin_reader.specs.Operands.{labels_between}
+use Rattle.jasmin_reader.specs.Listing.{has_room, takes_label, is_full, wanted, case_of}
+use Rattle.jasmin_reader.specs.Bodies.{new_label, outside_switch, with_setting}
+use Rattle.jasmin_reader.specs.Reading.{may_stand, with_row, ended_by}
 
--- ---- in a method
+-- ---- where a row may stand in a method
 
-abbrev pub room_of : ℤ → Option ℤ → Result (Option ℕ) FaultKind
-room_of low None = Ok None
-room_of low (Some high) = labels_between low high >>= λ n. Ok (Some n)
+-- a last key is at least just below the first
+abbrev pub may_reach : ℤ → Option ℤ → Result (Unit {0}) FaultKind
+may_reach low None = Ok tt
+may_reach low (Some high) = labels_between low high >>= λ _. Ok tt
 
-abbrev pub plain_row : Listing → Row → Result Listing FaultKind
-plain_row l (InstructionRow i) = has_room l.room >>= λ _. Ok (with_instruction l i (l.room - 1))
-plain_row l (TableRow low high) = has_room l.room >>= λ _. room_of low high >>= λ room. Ok (with_switch l (table_of low room))
-plain_row l LookupRow = has_room l.room >>= λ _. Ok (with_switch l (switch.Lookup []))
-plain_row l other = Err fault.Misplaced
+-- in the listing, by its room and the switch that is not at its end
+abbrev pub may_list : ℕ → Option Switch → Row → Result (Unit {0}) FaultKind
+may_list room None (InstructionRow i) = has_room room
+may_list room None (TableRow low high) = has_room room >>= λ _. may_reach low high
+may_list room None LookupRow = has_room room
+may_list room (Some (switch.Table t)) (TargetRow label) = takes_label t.low (length t.labels) t.high >>= λ _. has_room room
+may_list room (Some (switch.Table t)) (DefaultRow label) = is_full t.low (length t.labels) t.high
+may_list room (Some (switch.Lookup cases)) (CaseRow key label) = wanted (not (is_some (case_of cases key))) >>= λ _. has_room room
+may_list room (Some (switch.Lookup cases)) (DefaultRow label) = Ok tt
+may_list room o row = Err fault.Misplaced
 
-abbrev pub switch_row : Listing → Switch → Row → Result Listing FaultKind
-switch_row l (switch.Table t) (TargetRow label) = less_room t.room >>= λ room. has_room l.room >>= λ _. Ok (with_switch l (with_target t room label))
-switch_row l (switch.Table t) (DefaultRow label) = is_full t.room >>= λ _. Ok (with_instruction l (instruction.TableSwitch t.low t.labels label) l.room)
-switch_row l (switch.Lookup cases) (CaseRow key label) = new_key (is_some (case_of cases key)) >>= λ _. has_room l.room >>= λ _. Ok (with_switch l (switch.Lookup (with_key cases key label)))
-switch_row l (switch.Lookup cases) (DefaultRow label) = Ok (with_instruction l (instruction.LookupSwitch cases label) l.room)
-switch_row l s other = Err fault.Misplaced
-
-abbrev pub listing_by : Listing → Option Switch → Row → Result Listing FaultKind
-listing_by l None row = plain_row l row
-listing_by l (Some s) row = switch_row (without_switch l) s row
-
-abbrev pub listing_row : Listing → Row → Result Listing FaultKind
-listing_row l row = listing_by l l.switch row
+abbrev pub may_set : Body → Row → Result (Unit {0}) FaultKind
+may_set b (StackRow n) = outside_switch b
+may_set b (LocalsRow n) = outside_switch b
+may_set b (CatchRow class from to using) = outside_switch b
+may_set b (LabelRow l) = outside_switch b >>= λ _. new_label (place_of b.labels l)
+may_set b row = may_list b.listing.room b.listing.switch row
 
 abbrev pub body_row : Body → Row → Result Body FaultKind
-body_row b (StackRow n) = outside_switch b >>= λ _. Ok (with_setting b (StackRow n))
-body_row b (LocalsRow n) = outside_switch b >>= λ _. Ok (with_setting b (LocalsRow n))
-body_row b (CatchRow class from to using) = outside_switch b >>= λ _. Ok (with_setting b (CatchRow class from to using))
-body_row b (LabelRow l) = outside_switch b >>= λ _. new_label (place_of b.labels l) >>= λ _. Ok (with_label b l)
-body_row b row = listed b (listing_row b.listing row)
+body_row b row = may_set b row >>= λ _. Ok (with_setting b row)
 
 abbrev pub body_rows : Body → List Row → Result Body FaultKind
 body_rows b [] = Ok b
@@ -67,14 +60,24 @@ is_body_row (MethodRow a name type) = false
 is_body_row EndRow = false
 is_body_row other = true
 
+abbrev pub may_set_in : Option Body → Row → Result (Unit {0}) FaultKind
+may_set_in None row = Err fault.Misplaced
+may_set_in (Some b) row = may_set b row
+
+abbrev pub may_add : Reader → Row → Result (Unit {0}) FaultKind
+may_add r (ClassRow k a name) = may_stand r directive.Class
+may_add r (SuperRow name) = may_stand r directive.Super
+may_add r (ImplementsRow name) = may_stand r directive.Implements
+may_add r (FieldRow f) = may_stand r directive.Field
+may_add r (MethodRow a name type) = may_stand r directive.Method
+may_add r (StackRow n) = may_stand r directive.Limit
+may_add r (LocalsRow n) = may_stand r directive.Limit
+may_add r (CatchRow class from to using) = may_stand r directive.Catch
+may_add r row = may_set_in r.body row
+
 abbrev pub row_at : Reader → Row → Result Reader FaultKind
-row_at r (ClassRow k a name) = may_stand r directive.Class >>= λ _. Ok (with_row r (ClassRow k a name))
-row_at r (SuperRow name) = may_stand r directive.Super >>= λ _. Ok (with_row r (SuperRow name))
-row_at r (ImplementsRow name) = may_stand r directive.Implements >>= λ _. Ok (with_row r (ImplementsRow name))
-row_at r (FieldRow f) = may_stand r directive.Field >>= λ _. Ok (with_row r (FieldRow f))
-row_at r (MethodRow a name type) = may_stand r directive.Method >>= λ _. Ok (with_row r (MethodRow a name type))
 row_at r EndRow = ended_by r [] r.body
-row_at r row = in_body r r.body (λ b. body_row b row)
+row_at r row = may_add r row >>= λ _. Ok (with_row r row)
 
 abbrev pub rows_at : Reader → List Row → Result Reader FaultKind
 rows_at r [] = Ok r
@@ -91,14 +94,15 @@ rows_append r (x ∷ xs) ys = by (row_at r x) (λ s. rows_append s xs ys)
     by (Ok s) h = h s
     by (Err k) h = refl
 
-row_in_body : (row : Row) → is_body_row row ≡ true → (r : Reader) → row_at r row ≡ in_body r r.body (λ b. body_row b row)
-row_in_body (ClassRow k a name) h r = absurd cc
-row_in_body (SuperRow name) h r = absurd cc
-row_in_body (ImplementsRow name) h r = absurd cc
-row_in_body (FieldRow f) h r = absurd cc
-row_in_body (MethodRow a name type) h r = absurd cc
-row_in_body EndRow h r = absurd cc
-row_in_body row h r = refl
+-- a row in a method that stands open
+pub row_in_method : (row : Row) → is_body_row row ≡ true → (r : Reader) (b : Body) → row_at (record r { body = Some b }) row ≡ (may_set b row >>= λ _. done (record r { body = Some (with_setting b row) }))
+row_in_method (ClassRow k a name) h r b = absurd cc
+row_in_method (SuperRow name) h r b = absurd cc
+row_in_method (ImplementsRow name) h r b = absurd cc
+row_in_method (FieldRow f) h r b = absurd cc
+row_in_method (MethodRow a name type) h r b = absurd cc
+row_in_method EndRow h r b = absurd cc
+row_in_method row h r b = refl
 
 -- the rows of a method
 pub rows_in_method : (rows : List Row) → list_all is_body_row rows ≡ true → (r : Reader) (b last : Body) → body_rows b rows ≡ Ok last → rows_at (record r { body = Some b }) rows ≡ Ok (record r { body = Some last })
@@ -106,7 +110,9 @@ rows_in_method [] h r b last e = given (λ (x : Body). rows_at (record r { body 
 rows_in_method (row ∷ rows) h r b last e =
     let p = and_parts (is_body_row row) (list_all is_body_row rows) h in
     let one = bind_ok (body_row b row) _ last e in
-    let step : row_at (record r { body = Some b }) row ≡ Ok (record r { body = Some one.0 }) = row_in_body row p.0 (record r { body = Some b }) ∙ ap (λ (x : Result Body FaultKind). x >>= λ c. Ok (record r { body = Some c })) one.1 in
+    let may = bind_ok (may_set b row) _ one.0 one.1 in
+    let here = ap (λ (x : Result Body FaultKind). x >>= λ c. done (record r { body = Some c })) may.2 in
+    let step : row_at (record r { body = Some b }) row ≡ Ok (record r { body = Some one.0 }) = row_in_method row p.0 r b ∙ then (may_set b row) _ may.0 _ may.1 here in
     ap (λ (x : Result Reader FaultKind). x >>= λ s. rows_at s rows) step ∙ rows_in_method rows p.1 r one.0 last one.2
 
 -- the rows of a line in a method
@@ -114,18 +120,3 @@ pub lifted : (rows : List Row) → list_all is_body_row rows ≡ true → (r : R
 lifted rows h r b last here e =
     let same : r ≡ record r { body = Some b } = ap (λ (o : Option Body). record r { body = o }) here in
     ap (λ (x : Reader). rows_at x rows) same ∙ rows_in_method rows h r b last e
-
--- what is set in the method that stands open
-pub set_in_body : (r : Reader) (f : Body → Body) (o : Option Body) → in_body r o (λ b. outside_switch b >>= λ _. Ok (f b)) ≡ (open_at o >>= λ _. Ok (record r { body = option_map f o }))
-set_in_body r f None = refl
-set_in_body r f (Some b) = by (outside_switch b)
-  where
-    by : (x : Result (Unit {0}) FaultKind) → ((x >>= λ _. done (f b)) >>= λ c. done (record r { body = Some c })) ≡ (x >>= λ _. done (record r { body = Some (f b) }))
-    by (Ok u) = refl
-    by (Err k) = refl
-
--- ---- guards that were passed
-
-pub room_ok : {B : Type 0} (b : Bool) (f : Result B FaultKind) (y : B) → (has_room_for b >>= λ _. f) ≡ Ok y → (b ≡ true) × (f ≡ Ok y)
-room_ok true f y e = (refl, e)
-room_ok false f y e = absurd cc

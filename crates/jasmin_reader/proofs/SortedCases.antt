@@ -1,13 +1,15 @@
 -- Cases that are put in their places, one after the other.
-use Rattle.std.proofs.Common.{◌≡◌, ℕ, suc, Bool, true, false, ◌&&◌, ◌||◌, cond, List, [], ◌∷◌, length, Option, Some, None, is_some, Ok, Less, Equal, Greater, refl, ap, ◌∙◌}
+use Rattle.std.proofs.Common.{◌≡◌, ℕ, suc, Bool, true, not, false, ◌&&◌, ◌||◌, cond, List, [], ◌∷◌, length, Option, Some, None, is_some, Ok, Err, Less, Equal, Greater, refl, ap, ◌∙◌}
 use Rattle.std.proofs.lemmas.Bool.{and_parts}
 use Rattle.std.specs.Prelude.{ℤ, int_lt}
 use Rattle.std.specs.List.{list_all}
 use Rattle.std.specs.Ordering.{is_eq, match_ordering}
+use Rattle.jasmin_words.specs.declared.fault.FaultKind.TheVariants as fault
 use Rattle.jasmin_text.specs.Grammar.{Cases, with_case, lacks_key, Each, none, more, IsPlacedCase}
 use Rattle.jasmin_text.specs.Spellable.{rises, rises_from}
 use Rattle.jasmin_reader.proofs.GoodRows.{keys_rise_from, keys_rise}
-use Rattle.jasmin_reader.specs.Listing.{new_key, case_of, with_key}
+use Rattle.jasmin_reader.specs.Operands.{integer_in}
+use Rattle.jasmin_reader.specs.Listing.{wanted, case_of, with_key, key_in}
 
 -- ---- new keys
 
@@ -33,9 +35,12 @@ new_key_lacks (e ∷ es) key h = by (int_lt key e.0) (int_lt e.0 key) h (λ k. n
     by false false k rest = absurd cc
     by s t k rest = rest k
 
-pub new_key_ok : (o : Option (List ℕ)) (u : Unit {0}) → new_key (is_some o) ≡ Ok u → o ≡ None
+pub new_key_ok : (o : Option (List ℕ)) (u : Unit {0}) → wanted (not (is_some o)) ≡ Ok u → o ≡ None
 new_key_ok None u e = refl
 new_key_ok (Some label) u e = absurd cc
+
+pub repeated : (cases : Cases) (w : List ℕ) (key : ℤ) → integer_in w ≡ Ok key → true ≡ is_some (case_of cases key) → key_in cases w ≡ Err fault.BadOperand
+repeated cases w key i e = rw (i, ← e) refl
 
 -- ---- one case more
 

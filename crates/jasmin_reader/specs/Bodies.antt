@@ -8,7 +8,7 @@ use Rattle.sequence.specs.Gives.{◌>>=◌}
 use Rattle.jasmin_words.specs.Lexing.{Item}
 use Rattle.jasmin_words.specs.Names.{is_label}
 use Rattle.jasmin_text.specs.Forms.{directive_at}
-use Rattle.jasmin_text.specs.Grammar.{Row, StackRow, LocalsRow, CatchRow, place_of}
+use Rattle.jasmin_text.specs.Grammar.{Row, StackRow, LocalsRow, CatchRow, LabelRow, place_of}
 use Rattle.jasmin_text.specs.declared.class_text.Code.{Code}
 use Rattle.jasmin_text.specs.declared.class_text.Handler.{Handler}
 use Rattle.jasmin_text.specs.declared.class_text.Method.{Method}
@@ -21,7 +21,21 @@ use Rattle.jasmin_reader.specs.declared.body.Catch.{Catch}
 use Rattle.jasmin_reader.specs.declared.switch.Switch.{Switch}
 use Rattle.jasmin_reader.specs.Places.{within_limit, next_word, operand, ended_at, first_word}
 use Rattle.jasmin_reader.specs.Operands.{label_in, class_name_in, limit_in, last_operand, begins_with}
-use Rattle.jasmin_reader.specs.Listing.{Listing, without_switch, instruction_at, switch_at, behind_colon}
+use Rattle.jasmin_reader.specs.Listing.{with_listed, instruction_at, switch_at, behind_colon}
+
+-- ---- what a row adds
+
+-- an instruction, or a line of a switch
+abbrev pub listed_with : Body → Row → Body
+listed_with b row = record b { listing = with_listed b.listing row }
+
+-- The method with what a row says: the last limit counts, and a label stands before the next instruction.
+abbrev pub with_setting : Body → Row → Body
+with_setting b (StackRow n) = record b { stack = n }
+with_setting b (LocalsRow n) = record b { locals = n }
+with_setting b (CatchRow class from to handler) = record b { catches = b.catches ++ record { class = class; from = from; to = to; handler = handler } ∷ [] }
+with_setting b (LabelRow l) = record b { labels = b.labels ++ (l, length b.listing.instructions) ∷ [] }
+with_setting b row = listed_with b row
 
 -- ---- labels and instructions
 
@@ -29,17 +43,15 @@ abbrev pub new_label : Option ℕ → Result (Unit {0}) FaultKind
 new_label None = Ok tt
 new_label (Some place) = Err fault.RepeatedLabel
 
-abbrev pub with_label : Body → List ℕ → Body
-with_label b l = record b { labels = b.labels ++ (l, length b.listing.instructions) ∷ [] }
-
--- a label before the next instruction
-unfoldable pub label_at : Body → List ℕ → Result Body FaultKind
+-- a label that stands nowhere else
+unfoldable pub label_at : Body → List ℕ → Result Row FaultKind
 label_at b w =
-    if is_label w then (new_label (place_of b.labels w) >>= λ _. within_limit w >>= λ _. Ok (with_label b w))
+    if is_label w then (new_label (place_of b.labels w) >>= λ _. within_limit w >>= λ _. Ok (LabelRow w))
     else Err fault.UnknownInstruction
 
-abbrev pub listed : Body → Result Listing FaultKind → Result Body FaultKind
-listed b read = read >>= λ l. Ok (record b { listing = l })
+-- all faults of a line are found before what it says is added
+abbrev pub listed : Body → Result Row FaultKind → Result Body FaultKind
+listed b read = read >>= λ row. Ok (listed_with b row)
 
 -- what stands behind .end; whatever else than the word method stands there is left out
 unfoldable pub end_from : List Item → Result (List Item) FaultKind
@@ -54,7 +66,7 @@ no_directive other rest = fault.Misplaced
 
 abbrev pub labelled_by : Body → List ℕ → List Item → Option Directive → Result Body FaultKind
 labelled_by b w rest (Some d) = Err (no_directive d rest)
-labelled_by b w rest None = if begins_with 46 w then Err fault.UnknownDirective else listed b (instruction_at b.listing w rest)
+labelled_by b w rest None = if begins_with 46 w then Err fault.UnknownDirective else listed b (instruction_at b.listing.room w rest)
 
 -- what may stand behind a label on its line
 unfoldable pub labelled_at : Body → List Item → Result Body FaultKind
@@ -62,12 +74,12 @@ labelled_at b [] = Ok b
 labelled_at b (t ∷ rest) = first_word fault.UnknownInstruction t >>= λ w. labelled_by b w rest (directive_at w)
 
 abbrev pub plain_by : Body → List ℕ → List Item → Option (List Item) → Result Body FaultKind
-plain_by b w rest None = listed b (instruction_at b.listing w rest)
-plain_by b w rest (Some after) = label_at b w >>= λ c. labelled_at c after
+plain_by b w rest None = listed b (instruction_at b.listing.room w rest)
+plain_by b w rest (Some after) = label_at b w >>= λ row. labelled_at (with_setting b row) after
 
 abbrev pub statement_by : Body → List ℕ → List Item → Option Switch → Result Body FaultKind
 statement_by b w rest None = plain_by b w rest (behind_colon rest)
-statement_by b w rest (Some s) = listed b (switch_at (without_switch b.listing) s w rest)
+statement_by b w rest (Some s) = listed b (switch_at b.listing.room s w rest)
 
 -- a line that begins with this word, which is no directive
 unfoldable pub statement_at : Body → List ℕ → List Item → Result Body FaultKind
@@ -107,13 +119,6 @@ row_from class items = label_behind (codes "from") items >>= λ from. label_behi
 -- behind .catch: a row of the handler table by labels
 unfoldable pub catch_from : List Item → Result Row FaultKind
 catch_from items = operand caught_in items >>= λ class. row_from class.0 class.1
-
--- a method with a limit, the last of which counts, or with one row more in its handler table
-abbrev pub with_setting : Body → Row → Body
-with_setting b (StackRow n) = record b { stack = n }
-with_setting b (LocalsRow n) = record b { locals = n }
-with_setting b (CatchRow class from to handler) = record b { catches = b.catches ++ record { class = class; from = from; to = to; handler = handler } ∷ [] }
-with_setting b other = b
 
 -- ---- the end
 

@@ -16,7 +16,7 @@ use Rattle.sequence.specs.Gives.{◌>>=◌}
 use Rattle.jasmin_words.specs.Integers.{integer_of}
 use Rattle.jasmin_words.specs.Lexing.{Item, Text, BadText}
 use Rattle.jasmin_words.specs.Names.{is_label, is_member_name}
-use Rattle.jasmin_text.specs.Grammar.{byte_low, short_low}
+use Rattle.jasmin_text.specs.Grammar.{Row, InstructionRow, TableRow, LookupRow, byte_low, short_low}
 use Rattle.jasmin_text.specs.declared.class_text.Constant.{Constant}
 use Rattle.jasmin_text.specs.declared.class_text.Constant.TheVariants as constant
 use Rattle.jasmin_text.specs.declared.form.Form.{Form}
@@ -28,10 +28,6 @@ use Rattle.jasmin_text.specs.declared.instruction.ReferenceType.{ReferenceType}
 use Rattle.jasmin_text.specs.declared.instruction.ReferenceType.TheVariants as reference
 use Rattle.jasmin_reader.specs.declared.table.BaseWord.{BaseWord}
 use Rattle.jasmin_reader.specs.declared.table.BaseWord.TheVariants as base_word
-use Rattle.jasmin_reader.specs.declared.switch.Switch.{Switch}
-use Rattle.jasmin_reader.specs.declared.switch.Switch.TheVariants as switch
-use Rattle.jasmin_reader.specs.declared.operands.Begun.{Begun}
-use Rattle.jasmin_reader.specs.declared.operands.Begun.TheVariants as begun
 use Rattle.jasmin_reader.specs.Places.{operand, ended_at, both}
 use Rattle.jasmin_reader.specs.Table.{base_at}
 
@@ -157,26 +153,23 @@ abbrev pub count_at : List Item → Result (Unit {0}) FaultKind
 count_at [] = Ok tt
 count_at (t ∷ rest) = last_operand count_in (t ∷ rest) >>= λ _. Ok tt
 
--- how many labels a tableswitch may have
+-- how many labels a tableswitch has; its last key may stand just below the first
 abbrev pub labels_between : ℤ → ℤ → Result ℕ FaultKind
 labels_between low high = elim ((high +ℤ pos 1) -ℤ low) [ pos n ↦ Ok n | negsuc n ↦ Err fault.BadOperand ]
 
-unfoldable pub room_in : ℤ → List ℕ → Result ℕ FaultKind
-room_in low w = integer_in w >>= labels_between low
+unfoldable pub high_in : ℤ → List ℕ → Result ℤ FaultKind
+high_in low w = integer_in w >>= λ high. labels_between low high >>= λ _. Ok high
 
 -- the last key of a tableswitch, where it is given
-abbrev pub room_at : ℤ → List Item → Result (Option ℕ) FaultKind
-room_at low [] = Ok None
-room_at low (t ∷ rest) = last_operand (room_in low) (t ∷ rest) >>= λ n. Ok (Some n)
+abbrev pub high_at : ℤ → List Item → Result (Option ℤ) FaultKind
+high_at low [] = Ok None
+high_at low (t ∷ rest) = last_operand (high_in low) (t ∷ rest) >>= λ high. Ok (Some high)
 
-abbrev pub table_of : ℤ → Option ℕ → Switch
-table_of low room = switch.Table (record { low = low; room = room; labels = [] })
-
-abbrev pub raw : Instruction (List ℕ) → Result Begun FaultKind
-raw i = Ok (begun.Whole i)
+abbrev pub raw : Instruction (List ℕ) → Result Row FaultKind
+raw i = Ok (InstructionRow i)
 
 -- an instruction by what its word asks for, or the head of a switch
-unfoldable pub begun_at : Form → List Item → Result Begun FaultKind
+unfoldable pub begun_at : Form → List Item → Result Row FaultKind
 begun_at (form.Plain p) items = ended_at items >>= λ _. raw (instruction.Plain p)
 begun_at (form.Number n) items = ended_at items >>= λ _. raw (instruction.Constant (constant.Int n))
 begun_at form.Byte items = last_operand (int_in byte_low (pos 127)) items >>= λ n. raw (instruction.Constant (constant.Int n))
@@ -186,8 +179,8 @@ begun_at (form.Local l) items = last_operand local_in items >>= λ n. raw (instr
 begun_at (form.LocalAt l n) items = ended_at items >>= λ _. raw (instruction.Local l n)
 begun_at form.Increment items = operand local_in items >>= λ n. last_operand (int_in short_low (pos 32767)) n.1 >>= λ by. raw (instruction.Increment n.0 by)
 begun_at (form.Jump j) items = last_operand label_in items >>= λ l. raw (instruction.Jump j l)
-begun_at form.TableSwitch items = operand integer_in items >>= λ low. room_at low.0 low.1 >>= λ room. Ok (begun.Opens (table_of low.0 room))
-begun_at form.LookupSwitch items = ended_at items >>= λ _. Ok (begun.Opens (switch.Lookup []))
+begun_at form.TableSwitch items = operand integer_in items >>= λ low. high_at low.0 low.1 >>= λ high. Ok (TableRow low.0 high)
+begun_at form.LookupSwitch items = ended_at items >>= λ _. Ok LookupRow
 begun_at (form.Field f) items = operand member_in items >>= λ m. last_operand type_in m.1 >>= λ t. raw (instruction.Field f (record { class = m.0.0; name = m.0.1; field_type = t }))
 begun_at (form.Call c) items = last_operand method_in items >>= λ m. raw (instruction.Call c m)
 begun_at form.CallInterface items = operand method_in items >>= λ m. count_at m.1 >>= λ _. raw (instruction.CallInterface m.0)

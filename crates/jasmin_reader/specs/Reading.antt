@@ -100,10 +100,6 @@ said_row (said.Catch c) = CatchRow c.class c.from c.to c.handler
 
 -- ---- in methods
 
-abbrev pub in_body : Reader → Option Body → (Body → Result Body FaultKind) → Result Reader FaultKind
-in_body r None add = Err fault.Misplaced
-in_body r (Some b) add = add b >>= λ c. Ok (record r { body = Some c })
-
 abbrev pub ended_by : Reader → List Item → Option Body → Result Reader FaultKind
 ended_by r rest None = Err fault.Misplaced
 ended_by r rest (Some b) = outside_switch b >>= λ _. closed b >>= λ m. ended_at rest >>= λ _. Ok (record r { methods = r.methods ++ m ∷ []; body = None })

@@ -1,14 +1,14 @@
 //! A method that is not at its end.
 
-ghost use Rattle.std.specs.Prelude.{◌≡◌, ℕ, List, Option, is_some, None, true, codes};
+ghost use Rattle.std.specs.Prelude.{◌≡◌, ℕ, List, Option, is_some, None, OnOk, codes};
 ghost use Rattle.sequence.specs.Gives.{Gives};
 ghost use Rattle.jasmin_reader.specs.Places.{IsFaultOr};
 ghost use Rattle.jasmin_words.specs.Lexing.{views};
-ghost use Rattle.jasmin_text.specs.Grammar.{CatchRow};
+ghost use Rattle.jasmin_text.specs.Grammar.{CatchRow, LabelRow, place_of};
 ghost use Rattle.jasmin_reader.specs.Operands.{limit_in, last_operand as last_operand_of};
-ghost use Rattle.jasmin_reader.specs.Bodies.{label_at, end_from, no_directive, labelled_at, plain_by, statement_by, statement_at, outside_switch, limit_from, caught_in, label_behind, row_from, catch_from};
+ghost use Rattle.jasmin_reader.specs.Bodies.{with_setting, label_at, listed, end_from, no_directive, labelled_at, plain_by, statement_at, outside_switch, limit_from, caught_in, label_behind, row_from, catch_from};
 ghost use Rattle.jasmin_reader.specs.Reading.{said_row};
-ghost use Rattle.jasmin_reader.specs.Listing.{behind_colon as behind_colon_of};
+ghost use Rattle.jasmin_reader.specs.Listing.{instruction_at, behind_colon as behind_colon_of};
 
 use crate::labels::Labels;
 use crate::listing::{Listing, behind_colon};
@@ -21,7 +21,7 @@ use jasmin_text::form::{Directive, directive_of};
 use jasmin_words::name::{MemberName, is_label, same};
 use jasmin_words::{FaultKind, Token};
 use sequence::{Refusal, Sequence, Text};
-use std::alloc::Global;
+use std::alloc::{AllocError, Global};
 
 /// A row of the handler table by labels.
 #[derive(Drop)]
@@ -178,11 +178,11 @@ impl Body {
         Ok(())
     }
 
-    /// A label before the next instruction.
+    /// A label that stands nowhere else.
     #[tactic(auto, unfolding(crate::specs::Bodies::label_at))]
-    fn label(&mut self, alloc: Global, word: &[u8]) -> Result<(), LineError>
-        ensures listing { self.new.listing ≡ self.old.listing }
-        ensures gives { Gives (λ _. self.new) result (label_at self.old word.now) }
+    fn may_label(&self, word: &[u8]) -> Result<(), LineError>
+        ensures new { OnOk result (place_of self.now.labels word.now ≡ None) }
+        ensures gives { Gives (λ _. LabelRow word.now) result (label_at self.now word.now) }
     {
         if !is_label(word) {
             return Err(Refusal::Fault(FaultKind::UnknownInstruction));
@@ -190,16 +190,20 @@ impl Body {
         if self.labels.place(word).is_some() {
             return Err(Refusal::Fault(FaultKind::RepeatedLabel));
         }
-        within(word)?;
-        let place = self.listing.place();
-        self.labels.add(alloc, word, place)?;
-        Ok(())
+        within(word)
+    }
+
+    /// A label before the next instruction.
+    fn add_label(&mut self, alloc: Global, word: &[u8]) -> Result<(), AllocError>
+        requires { place_of self.old.labels word.now ≡ None }
+        ensures { OnOk result (self.new ≡ with_setting self.old (LabelRow word.now)) }
+    {
+        self.labels.add(alloc, word, self.listing.place())
     }
 
     /// What stands behind a label on its line.
     #[tactic(auto, unfolding(crate::specs::Bodies::labelled_at))]
     fn labelled(&mut self, alloc: Global, tokens: &[Token<'_>]) -> Result<(), LineError>
-        requires closed { self.old.listing.switch ≡ None }
         ensures { Gives (λ _. self.new) result (labelled_at self.old (views tokens.now)) }
     {
         match tokens {
@@ -212,40 +216,38 @@ impl Body {
                         if begins(b'.', word) {
                             return Err(Refusal::Fault(FaultKind::UnknownDirective));
                         }
-                        self.listing.instruction(alloc, word, rest)
+                        self.instruction(alloc, word, rest)
                     }
                 }
             }
         }
     }
 
-    /// A line outside of a switch that begins with this word.
-    fn plain(&mut self, alloc: Global, word: &[u8], rest: &[Token<'_>]) -> Result<(), LineError>
-        requires closed { self.old.listing.switch ≡ None }
-        ensures { Gives (λ _. self.new) result (plain_by self.old word.now (views rest.now) (behind_colon_of (views rest.now))) }
-    {
-        match behind_colon(rest) {
-            Some(after) => {
-                self.label(alloc, word)?;
-                self.labelled(alloc, after)
-            }
-            None => self.listing.instruction(alloc, word, rest),
-        }
-    }
-
-    /// A line in a switch that begins with this word.
-    fn switch_line(
+    /// An instruction, outside of a switch.
+    fn instruction(
         &mut self,
         alloc: Global,
         word: &[u8],
         rest: &[Token<'_>],
     ) -> Result<(), LineError>
-        requires open { is_some self.old.listing.switch ≡ true }
-        ensures { Gives (λ _. self.new) result (statement_by self.old word.now (views rest.now) self.old.listing.switch) }
+        ensures { Gives (λ _. self.new) result (listed self.old (instruction_at self.old.listing.room word.now (views rest.now))) }
     {
-        match self.listing.take_switch() {
-            Some(switch) => self.listing.switch_line(alloc, switch, word, rest),
-            None => unreachable!(),
+        let said = self.listing.instruction(alloc, word, rest)?;
+        self.listing.add(alloc, said)?;
+        Ok(())
+    }
+
+    /// A line outside of a switch that begins with this word.
+    fn plain(&mut self, alloc: Global, word: &[u8], rest: &[Token<'_>]) -> Result<(), LineError>
+        ensures { Gives (λ _. self.new) result (plain_by self.old word.now (views rest.now) (behind_colon_of (views rest.now))) }
+    {
+        match behind_colon(rest) {
+            Some(after) => {
+                self.may_label(word)?;
+                self.add_label(alloc, word)?;
+                self.labelled(alloc, after)
+            }
+            None => self.instruction(alloc, word, rest),
         }
     }
 
@@ -259,10 +261,13 @@ impl Body {
     ) -> Result<(), LineError>
         ensures { Gives (λ _. self.new) result (statement_at self.old word.now (views rest.now)) }
     {
-        if self.is_in_switch() {
-            self.switch_line(alloc, word, rest)
-        } else {
-            self.plain(alloc, word, rest)
+        match self.listing.switch() {
+            None => self.plain(alloc, word, rest),
+            Some(switch) => {
+                let said = self.listing.switch_line(alloc, switch, word, rest)?;
+                self.listing.add(alloc, said)?;
+                Ok(())
+            }
         }
     }
 }

@@ -1,17 +1,19 @@
 //! The instructions of a method, as far as they are read.
 
-ghost use Rattle.std.specs.Prelude.{◌≡◌, ◌≤◌, ◌<◌, ◌+◌, length, is_some, None, OnOk, IfSome};
+ghost use Rattle.std.specs.Prelude.{◌≡◌, length, is_some, None, OnOk};
 ghost use Rattle.sequence.specs.Gives.{Gives};
 ghost use Rattle.jasmin_words.specs.Lexing.{views};
 ghost use Rattle.std.specs.Option.{option_map};
-ghost use Rattle.jasmin_reader.specs.Listing.{empty_listing, has_room, with_instruction, with_switch, with_begun, unknown_word as unknown_word_of, instruction_at, behind_colon as behind_colon_of, colon_from, is_default, less_room, is_full, without_switch, key_in, with_target, target_at, table_end, table_by, case_from, case_at, lookup_end, switch_at};
+ghost use Rattle.jasmin_reader.specs.Listing.{empty_listing, with_switch, with_listed, listed_row, has_room, unknown_word as unknown_word_of, instruction_at, behind_colon as behind_colon_of, colon_from, is_default, wanted as wanted_if, takes_label as takes_label_of, is_full, key_in, target_at, table_end as table_end_of, table_by, case_at, lookup_end as lookup_end_of, switch_at};
+ghost use Rattle.jasmin_text.specs.Grammar.{InstructionRow, TargetRow, CaseRow, DefaultRow};
 
-use crate::operands::{Begun, begin};
+use crate::operands::{begin, count_up_to};
 use crate::place::{FromWord, LineError, bad_operand, ended, fault_at, last_operand, within};
+use crate::said::Listed;
 use crate::switch::{Cases, Switch, Table};
 use crate::values::integer;
+use jasmin_text::Instruction;
 use jasmin_text::form::{form_of, left_out};
-use jasmin_text::{Boxed, Instruction};
 use jasmin_words::name::same;
 use jasmin_words::{FaultKind, Token};
 use sequence::{Refusal, Sequence, Text};
@@ -83,24 +85,36 @@ fn is_default_word(word: &[u8]) -> bool
     same(word, b"default")
 }
 
-/// How many labels a `tableswitch` may have after one more.
-fn one_less(room: Option<u64>) -> Result<Option<u64>, LineError>
-    ensures { Gives (λ x. x) result (less_room room) }
+/// What is wanted of a number.
+fn wanted(yes: bool) -> Result<(), LineError>
+    ensures { Gives (λ x. x) result (wanted_if yes) }
 {
-    match room {
-        None => Ok(None),
-        Some(0) => Err(bad_operand()),
-        Some(count) => Ok(Some(count - 1)),
+    if yes { Ok(()) } else { Err(bad_operand()) }
+}
+
+/// Whether one label more may come in a `tableswitch`.
+fn takes_label(table: &Table) -> Result<(), LineError>
+    ensures { Gives (λ x. x) result (takes_label_of table.now.low (length table.now.labels) table.now.high) }
+{
+    match table.high {
+        None => Ok(()),
+        Some(high) => {
+            let count = count_up_to(table.low, high)?;
+            wanted((table.labels.len() as u64) < count)
+        }
     }
 }
 
 /// Whether a `tableswitch` has all its labels.
-fn full(room: Option<u64>) -> Result<(), LineError>
-    ensures { Gives (λ x. x) result (is_full room) }
+fn full(table: &Table) -> Result<(), LineError>
+    ensures { Gives (λ x. x) result (is_full table.now.low (length table.now.labels) table.now.high) }
 {
-    match room {
-        None | Some(0) => Ok(()),
-        Some(_) => Err(bad_operand()),
+    match table.high {
+        None => Ok(()),
+        Some(high) => {
+            let count = count_up_to(table.low, high)?;
+            wanted(table.labels.len() as u64 == count)
+        }
     }
 }
 
@@ -113,6 +127,24 @@ fn new_key(cases: &Cases, word: &[u8]) -> Result<i32, LineError>
         return Err(bad_operand());
     }
     Ok(key)
+}
+
+/// The last line of a `tableswitch`, behind `default` and its colon.
+#[tactic(auto, unfolding(crate::specs::Listing::table_end))]
+fn table_end(alloc: Global, table: &Table, rest: &[Token<'_>]) -> Result<Listed, LineError>
+    ensures { Gives listed_row result (table_end_of table.now (views rest.now)) }
+{
+    full(table)?;
+    Ok(Listed::Default(last_operand::<Text>(alloc, rest)?))
+}
+
+/// The last line of a `lookupswitch`, behind `default`.
+#[tactic(auto, unfolding(crate::specs::Listing::lookup_end))]
+fn lookup_end(alloc: Global, rest: &[Token<'_>]) -> Result<Listed, LineError>
+    ensures { Gives listed_row result (lookup_end_of (views rest.now)) }
+{
+    let after = colon(rest)?;
+    Ok(Listed::Default(last_operand::<Text>(alloc, after)?))
 }
 
 impl Listing {
@@ -141,6 +173,13 @@ impl Listing {
         self.instructions.len() as u16
     }
 
+    /// The switch that is not at its end.
+    pub(crate) fn switch(&self) -> Option<&Switch>
+        ensures { option_map (λ s. s.now) result ≡ self.now.switch }
+    {
+        self.switch.as_ref()
+    }
+
     /// Whether the lines of a switch are still to come.
     pub(crate) fn is_in_switch(&self) -> bool
         ensures { result ≡ is_some self.now.switch }
@@ -157,229 +196,174 @@ impl Listing {
         Ok(())
     }
 
-    /// An instruction, or the head of a switch.
-    fn add(&mut self, begun: Begun) -> Result<(), AllocError>
-        requires room { 0 < self.old.room }
-        requires closed { self.old.switch ≡ None }
-        ensures { OnOk result (self.new ≡ with_begun self.old begun) }
-    {
-        match begun {
-            Begun::Whole(instruction) => self.instructions.push(instruction)?,
-            Begun::Opens(switch) => self.switch = Some(switch),
-        }
-        self.room -= 1;
-        Ok(())
-    }
-
-    /// A line outside of a switch that begins with this word.
+    /// What a line outside of a switch says that begins with this word.
     #[tactic(auto, unfolding(crate::specs::Listing::instruction_at))]
     pub(crate) fn instruction(
-        &mut self,
+        &self,
         alloc: Global,
         word: &[u8],
         rest: &[Token<'_>],
-    ) -> Result<(), LineError>
-        requires closed { self.old.switch ≡ None }
-        ensures { Gives (λ _. self.new) result (instruction_at self.old word.now (views rest.now)) }
+    ) -> Result<Listed, LineError>
+        ensures { Gives listed_row result (instruction_at self.now.room word.now (views rest.now)) }
     {
         let Some(form) = form_of(word) else {
             return Err(Refusal::Fault(unknown_word(word)));
         };
         within(word)?;
         self.room()?;
-        let begun = begin(alloc, form, rest)?;
-        self.add(begun)?;
-        Ok(())
+        begin(alloc, form, rest)
     }
 
-    /// The switch whose lines are still to come. Takes no memory.
-    pub(crate) fn take_switch(&mut self) -> Option<Switch>
-        ensures switch { result ≡ self.old.switch }
-        ensures rest { self.new ≡ without_switch self.old }
-        ensures spare { IfSome result (λ _. length self.new.instructions + 1 + self.new.room ≤ 16384) }
-    {
-        self.switch.take()
-    }
-
-    /// The switch with one line more.
-    fn open(&mut self, switch: Switch)
-        requires room { 0 < self.old.room }
-        requires spare { length self.old.instructions + 1 + self.old.room ≤ 16384 }
-        ensures { self.new ≡ with_switch self.old switch }
-    {
-        self.switch = Some(switch);
-        self.room -= 1;
-    }
-
-    /// The switch, at its end.
-    fn close(&mut self, switch: Instruction<Text>) -> Result<(), AllocError>
-        requires spare { length self.old.instructions + 1 + self.old.room ≤ 16384 }
-        ensures { OnOk result (self.new ≡ with_instruction self.old switch self.old.room) }
-    {
-        self.instructions.push(switch)?;
-        self.switch = None;
-        Ok(())
-    }
-
-    /// The label on a line of a `tableswitch`, and how many may come after it.
+    /// A label of a `tableswitch`.
     #[tactic(auto, unfolding(crate::specs::Listing::target_at))]
-    fn next_target(
+    fn target(
         &self,
         alloc: Global,
         table: &Table,
         word: &[u8],
         rest: &[Token<'_>],
-    ) -> Result<(Text, Option<u64>), LineError>
-        ensures room { OnOk result (0 < self.now.room) }
-        ensures gives { Gives (λ x. with_switch self.now (with_target table.now x.1 x.0)) result (target_at self.now table.now word.now (views rest.now)) }
+    ) -> Result<Listed, LineError>
+        ensures { Gives listed_row result (target_at self.now.room table.now word.now (views rest.now)) }
     {
         let label = Text::from_word(alloc, word)?;
-        let room = one_less(table.room)?;
+        takes_label(table)?;
         within(word)?;
         self.room()?;
         ended(rest)?;
-        Ok((label, room))
-    }
-
-    /// A label of a `tableswitch`.
-    fn target(
-        &mut self,
-        alloc: Global,
-        table: Table,
-        word: &[u8],
-        rest: &[Token<'_>],
-    ) -> Result<(), LineError>
-        requires spare { length self.old.instructions + 1 + self.old.room ≤ 16384 }
-        ensures { Gives (λ _. self.new) result (target_at self.old table word.now (views rest.now)) }
-    {
-        let (label, room) = self.next_target(alloc, &table, word, rest)?;
-        let Table {
-            low,
-            mut labels,
-            ..
-        } = table;
-        labels.push(label)?;
-        self.open(Switch::Table(Table { low, room, labels }));
-        Ok(())
-    }
-
-    /// The last line of a `tableswitch`, behind `default` and its colon.
-    #[tactic(auto, unfolding(crate::specs::Listing::table_end))]
-    fn end_table(
-        &mut self,
-        alloc: Global,
-        table: Table,
-        rest: &[Token<'_>],
-    ) -> Result<(), LineError>
-        requires spare { length self.old.instructions + 1 + self.old.room ≤ 16384 }
-        ensures { Gives (λ _. self.new) result (table_end self.old table (views rest.now)) }
-    {
-        let Table { low, room, labels } = table;
-        full(room)?;
-        let label = last_operand::<Text>(alloc, rest)?;
-        let labels = Boxed::new(alloc, labels)?;
-        self.close(Instruction::TableSwitch(low, labels, label))?;
-        Ok(())
+        Ok(Listed::Target(label))
     }
 
     /// A line of a `tableswitch`.
     fn table_line(
-        &mut self,
+        &self,
         alloc: Global,
-        table: Table,
+        table: &Table,
         word: &[u8],
         rest: &[Token<'_>],
-    ) -> Result<(), LineError>
-        requires spare { length self.old.instructions + 1 + self.old.room ≤ 16384 }
-        ensures { Gives (λ _. self.new) result (table_by self.old table word.now (views rest.now) (behind_colon_of (views rest.now))) }
+    ) -> Result<Listed, LineError>
+        ensures { Gives listed_row result (table_by self.now.room table.now word.now (views rest.now) (behind_colon_of (views rest.now))) }
     {
         match behind_colon(rest) {
-            Some(after) if is_default_word(word) => self.end_table(alloc, table, after),
+            Some(after) if is_default_word(word) => table_end(alloc, table, after),
             _ => self.target(alloc, table, word, rest),
         }
     }
 
     /// A new key of a `lookupswitch` and its label.
-    #[tactic(auto, unfolding(crate::specs::Listing::case_from))]
-    fn next_case(
+    #[tactic(auto, unfolding(crate::specs::Listing::case_at))]
+    fn case(
         &self,
         alloc: Global,
         cases: &Cases,
         word: &[u8],
         rest: &[Token<'_>],
-    ) -> Result<(i32, Text), LineError>
-        ensures { Gives (λ x. x) result (case_from self.now.room cases.now word.now (views rest.now)) }
+    ) -> Result<Listed, LineError>
+        ensures { Gives listed_row result (case_at self.now.room cases.now word.now (views rest.now)) }
     {
         let key = new_key(cases, word)?;
         within(word)?;
         self.room()?;
         let after = colon(rest)?;
         let label = last_operand::<Text>(alloc, after)?;
-        Ok((key, label))
+        Ok(Listed::Case(key, label))
     }
 
-    /// A key of a `lookupswitch`.
-    #[tactic(auto, unfolding(crate::specs::Listing::case_at, crate::specs::Listing::case_from))]
-    fn case(
-        &mut self,
-        alloc: Global,
-        cases: Cases,
-        word: &[u8],
-        rest: &[Token<'_>],
-    ) -> Result<(), LineError>
-        requires spare { length self.old.instructions + 1 + self.old.room ≤ 16384 }
-        ensures { Gives (λ _. self.new) result (case_at self.old cases word.now (views rest.now)) }
-    {
-        let mut cases = cases;
-        match self.next_case(alloc, &cases, word, rest) {
-            Ok((key, label)) => {
-                cases.add(key, label)?;
-                self.open(Switch::Lookup(cases));
-                Ok(())
-            }
-            Err(error) => Err(error),
-        }
-    }
-
-    /// The last line of a `lookupswitch`, behind `default`.
-    #[tactic(auto, unfolding(crate::specs::Listing::lookup_end))]
-    fn end_lookup(
-        &mut self,
-        alloc: Global,
-        cases: Cases,
-        rest: &[Token<'_>],
-    ) -> Result<(), LineError>
-        requires spare { length self.old.instructions + 1 + self.old.room ≤ 16384 }
-        ensures { Gives (λ _. self.new) result (lookup_end self.old cases (views rest.now)) }
-    {
-        let after = colon(rest)?;
-        let label = last_operand::<Text>(alloc, after)?;
-        let cases = Boxed::new(alloc, cases.into_sequence(alloc)?)?;
-        self.close(Instruction::LookupSwitch(cases, label))?;
-        Ok(())
-    }
-
-    /// A line in a switch that begins with this word.
+    /// What a line in a switch says that begins with this word.
     #[tactic(auto, unfolding(crate::specs::Listing::switch_at))]
     pub(crate) fn switch_line(
-        &mut self,
+        &self,
         alloc: Global,
-        switch: Switch,
+        switch: &Switch,
         word: &[u8],
         rest: &[Token<'_>],
-    ) -> Result<(), LineError>
-        requires spare { length self.old.instructions + 1 + self.old.room ≤ 16384 }
-        ensures { Gives (λ _. self.new) result (switch_at self.old switch word.now (views rest.now)) }
+    ) -> Result<Listed, LineError>
+        ensures { Gives listed_row result (switch_at self.now.room switch.now word.now (views rest.now)) }
     {
         match switch {
             Switch::Table(table) => self.table_line(alloc, table, word, rest),
-            Switch::Lookup(cases) => {
-                if is_default_word(word) {
-                    self.end_lookup(alloc, cases, rest)
-                } else {
-                    self.case(alloc, cases, word, rest)
-                }
+            Switch::Lookup(_) if is_default_word(word) => lookup_end(alloc, rest),
+            Switch::Lookup(cases) => self.case(alloc, cases, word, rest),
+        }
+    }
+
+    /// An instruction more, where there is room for it.
+    fn push(&mut self, instruction: Instruction<Text>) -> Result<(), AllocError>
+        ensures { OnOk result (self.new ≡ with_listed self.old (InstructionRow instruction)) }
+    {
+        if self.room != 0 {
+            self.instructions.push(instruction)?;
+            self.room -= 1;
+        }
+        Ok(())
+    }
+
+    /// The lines of a switch follow, where there is room for it.
+    fn open(&mut self, switch: Switch)
+        ensures { self.new ≡ with_switch self.old switch }
+    {
+        if self.room != 0 {
+            self.switch = Some(switch);
+            self.room -= 1;
+        }
+    }
+
+    /// A label more of the `tableswitch`.
+    fn add_target(&mut self, label: Text) -> Result<(), AllocError>
+        ensures { OnOk result (self.new ≡ with_listed self.old (TargetRow label)) }
+    {
+        if let Some(Switch::Table(table)) = &mut self.switch {
+            table.labels.push(label)?;
+            self.room = self.room.saturating_sub(1);
+        }
+        Ok(())
+    }
+
+    /// A key more of the `lookupswitch`.
+    fn add_case(&mut self, key: i32, label: Text) -> Result<(), AllocError>
+        ensures { OnOk result (self.new ≡ with_listed self.old (CaseRow key label)) }
+    {
+        if let Some(Switch::Lookup(cases)) = &mut self.switch {
+            cases.add(key, label)?;
+            self.room = self.room.saturating_sub(1);
+        }
+        Ok(())
+    }
+
+    /// The end of the switch.
+    fn close(&mut self, alloc: Global, label: Text) -> Result<(), AllocError>
+        ensures { OnOk result (self.new ≡ with_listed self.old (DefaultRow label)) }
+    {
+        match self.switch.take() {
+            None => Ok(()),
+            Some(switch) => {
+                let instruction = switch.ended(alloc, label)?;
+                self.instructions.push(instruction)?;
+                Ok(())
             }
+        }
+    }
+
+    /// The instructions with what a line says.
+    pub(crate) fn add(&mut self, alloc: Global, said: Listed) -> Result<(), AllocError>
+        ensures { OnOk result (self.new ≡ with_listed self.old (listed_row said)) }
+    {
+        match said {
+            Listed::Instruction(instruction) => self.push(instruction),
+            Listed::Table(low, high) => {
+                self.open(Switch::Table(Table {
+                    low,
+                    high,
+                    labels: Sequence::new(alloc),
+                }));
+                Ok(())
+            }
+            Listed::Lookup => {
+                self.open(Switch::Lookup(Cases::new(alloc)));
+                Ok(())
+            }
+            Listed::Target(label) => self.add_target(label),
+            Listed::Case(key, label) => self.add_case(key, label),
+            Listed::Default(label) => self.close(alloc, label),
         }
     }
 }

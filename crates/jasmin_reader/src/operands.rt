@@ -5,10 +5,11 @@ ghost use Rattle.std.specs.Prelude.{◌≡◌};
 ghost use Rattle.sequence.specs.Gives.{Gives};
 ghost use Rattle.jasmin_words.specs.Lexing.{views};
 ghost use Rattle.jasmin_text.specs.declared.form.Form.TheVariants as forms;
-ghost use Rattle.jasmin_reader.specs.Operands.{constant_from, count_at, labels_between, room_in, room_at, begun_at};
+ghost use Rattle.jasmin_reader.specs.Operands.{constant_from, count_at, labels_between, high_in, high_at, begun_at};
+ghost use Rattle.jasmin_reader.specs.Listing.{listed_row};
 
 use crate::place::{LineError, bad_operand, ended, last_operand, next, operand, within};
-use crate::switch::{Cases, Switch, Table};
+use crate::said::Listed;
 use crate::values::integer;
 use descriptors::{BaseType, ClassName, FieldType};
 use jasmin_text::form::Form;
@@ -18,17 +19,8 @@ use jasmin_text::{
 };
 use jasmin_words::Token;
 use jasmin_words::name::MemberName;
-use sequence::{Refusal, Sequence, Text};
+use sequence::{Refusal, Text};
 use std::alloc::Global;
-
-/// What an instruction's line begins.
-#[derive(Drop)]
-pub(crate) enum Begun {
-    /// The line is the whole instruction.
-    Whole(Instruction<Text>),
-    /// The lines of a switch follow.
-    Opens(Switch),
-}
 
 /// An int or a string.
 fn constant<'a, 't>(
@@ -62,7 +54,7 @@ fn count(alloc: Global, tokens: &[Token<'_>]) -> Result<(), LineError>
 }
 
 /// How many labels stand for the keys from the first to the last; none where the last is just below the first.
-fn count_up_to(low: i32, high: i32) -> Result<u64, LineError>
+pub(crate) fn count_up_to(low: i32, high: i32) -> Result<u64, LineError>
     ensures { Gives (λ n. n) result (labels_between low high) }
 {
     let count = high as i64 + 1 - low as i64;
@@ -72,143 +64,140 @@ fn count_up_to(low: i32, high: i32) -> Result<u64, LineError>
     }
 }
 
-/// How many labels a `tableswitch` has between its first and its last key.
-#[tactic(auto, unfolding(crate::specs::Operands::room_in))]
-fn labels_up_to(low: i32, word: &[u8]) -> Result<u64, LineError>
-    ensures { Gives (λ n. n) result (room_in low word.now) }
+/// The last key of a `tableswitch`, by its word.
+#[tactic(auto, unfolding(crate::specs::Operands::high_in))]
+fn last_key(low: i32, word: &[u8]) -> Result<i32, LineError>
+    ensures { Gives (λ n. n) result (high_in low word.now) }
 {
     let high = integer(word)?;
-    count_up_to(low, high)
+    let _count = count_up_to(low, high)?;
+    Ok(high)
 }
 
-/// How many labels a `tableswitch` has, where its last key is given.
-fn room(low: i32, tokens: &[Token<'_>]) -> Result<Option<u64>, LineError>
-    ensures { Gives (λ n. n) result (room_at low (views tokens.now)) }
+/// The last key of a `tableswitch`, where it is given.
+fn high(low: i32, tokens: &[Token<'_>]) -> Result<Option<i32>, LineError>
+    ensures { Gives (λ n. n) result (high_at low (views tokens.now)) }
 {
     if tokens.is_empty() {
         return Ok(None);
     }
     let (word, rest) = next(tokens)?;
-    let room = labels_up_to(low, word)?;
+    let high = last_key(low, word)?;
     within(word)?;
     ended(rest)?;
-    Ok(Some(room))
+    Ok(Some(high))
 }
 
 /// What the line of an instruction without operands begins.
-fn plain(word: Plain, tokens: &[Token<'_>]) -> Result<Begun, LineError>
-    ensures { Gives (λ b. b) result (begun_at (forms.Plain word) (views tokens.now)) }
+fn plain(word: Plain, tokens: &[Token<'_>]) -> Result<Listed, LineError>
+    ensures { Gives listed_row result (begun_at (forms.Plain word) (views tokens.now)) }
 {
     match ended(tokens) {
-        Ok(()) => Ok(Begun::Whole(Instruction::Plain(word))),
+        Ok(()) => Ok(Listed::Instruction(Instruction::Plain(word))),
         Err(error) => Err(error),
     }
 }
 
 /// What the line of an instruction begins that pushes this int.
-fn number(value: i32, tokens: &[Token<'_>]) -> Result<Begun, LineError>
-    ensures { Gives (λ b. b) result (begun_at (forms.Number value) (views tokens.now)) }
+fn number(value: i32, tokens: &[Token<'_>]) -> Result<Listed, LineError>
+    ensures { Gives listed_row result (begun_at (forms.Number value) (views tokens.now)) }
 {
     match ended(tokens) {
-        Ok(()) => Ok(Begun::Whole(Instruction::Constant(Constant::Int(value)))),
+        Ok(()) => Ok(Listed::Instruction(Instruction::Constant(Constant::Int(value)))),
         Err(error) => Err(error),
     }
 }
 
 /// What the line of an instruction begins that takes this local.
-fn local_at(word: Local, place: u16, tokens: &[Token<'_>]) -> Result<Begun, LineError>
-    ensures { Gives (λ b. b) result (begun_at (forms.LocalAt word place) (views tokens.now)) }
+fn local_at(word: Local, place: u16, tokens: &[Token<'_>]) -> Result<Listed, LineError>
+    ensures { Gives listed_row result (begun_at (forms.LocalAt word place) (views tokens.now)) }
 {
     match ended(tokens) {
-        Ok(()) => Ok(Begun::Whole(Instruction::Local(word, place))),
+        Ok(()) => Ok(Listed::Instruction(Instruction::Local(word, place))),
         Err(error) => Err(error),
     }
 }
 
 /// What a line of `bipush` begins.
-fn byte(alloc: Global, tokens: &[Token<'_>]) -> Result<Begun, LineError>
-    ensures { Gives (λ b. b) result (begun_at forms.Byte (views tokens.now)) }
+fn byte(alloc: Global, tokens: &[Token<'_>]) -> Result<Listed, LineError>
+    ensures { Gives listed_row result (begun_at forms.Byte (views tokens.now)) }
 {
     match last_operand::<i8>(alloc, tokens) {
-        Ok(number) => Ok(Begun::Whole(Instruction::Constant(Constant::Int(number as i32)))),
+        Ok(number) => Ok(Listed::Instruction(Instruction::Constant(Constant::Int(number as i32)))),
         Err(error) => Err(error),
     }
 }
 
 /// What a line of `sipush` begins.
-fn short(alloc: Global, tokens: &[Token<'_>]) -> Result<Begun, LineError>
-    ensures { Gives (λ b. b) result (begun_at forms.Short (views tokens.now)) }
+fn short(alloc: Global, tokens: &[Token<'_>]) -> Result<Listed, LineError>
+    ensures { Gives listed_row result (begun_at forms.Short (views tokens.now)) }
 {
     match last_operand::<i16>(alloc, tokens) {
-        Ok(number) => Ok(Begun::Whole(Instruction::Constant(Constant::Int(number as i32)))),
+        Ok(number) => Ok(Listed::Instruction(Instruction::Constant(Constant::Int(number as i32)))),
         Err(error) => Err(error),
     }
 }
 
 /// What the line of an instruction with an int or a string begins.
-fn pushed(alloc: Global, tokens: &[Token<'_>]) -> Result<Begun, LineError>
-    ensures { Gives (λ b. b) result (begun_at forms.Constant (views tokens.now)) }
+fn pushed(alloc: Global, tokens: &[Token<'_>]) -> Result<Listed, LineError>
+    ensures { Gives listed_row result (begun_at forms.Constant (views tokens.now)) }
 {
     let (constant, rest) = constant(alloc, tokens)?;
     ended(rest)?;
-    Ok(Begun::Whole(Instruction::Constant(constant)))
+    Ok(Listed::Instruction(Instruction::Constant(constant)))
 }
 
 /// What the line of an instruction with the number of a local begins.
-fn local(alloc: Global, word: Local, tokens: &[Token<'_>]) -> Result<Begun, LineError>
-    ensures { Gives (λ b. b) result (begun_at (forms.Local word) (views tokens.now)) }
+fn local(alloc: Global, word: Local, tokens: &[Token<'_>]) -> Result<Listed, LineError>
+    ensures { Gives listed_row result (begun_at (forms.Local word) (views tokens.now)) }
 {
     match last_operand::<u16>(alloc, tokens) {
-        Ok(number) => Ok(Begun::Whole(Instruction::Local(word, number))),
+        Ok(number) => Ok(Listed::Instruction(Instruction::Local(word, number))),
         Err(error) => Err(error),
     }
 }
 
 /// What a line of `iinc` begins.
-fn increment(alloc: Global, tokens: &[Token<'_>]) -> Result<Begun, LineError>
-    ensures { Gives (λ b. b) result (begun_at forms.Increment (views tokens.now)) }
+fn increment(alloc: Global, tokens: &[Token<'_>]) -> Result<Listed, LineError>
+    ensures { Gives listed_row result (begun_at forms.Increment (views tokens.now)) }
 {
     let (number, rest) = operand::<u16>(alloc, tokens)?;
     let by = last_operand::<i16>(alloc, rest)?;
-    Ok(Begun::Whole(Instruction::Increment(number, by)))
+    Ok(Listed::Instruction(Instruction::Increment(number, by)))
 }
 
 /// What the line of a jump begins.
-fn jump(alloc: Global, word: Jump, tokens: &[Token<'_>]) -> Result<Begun, LineError>
-    ensures { Gives (λ b. b) result (begun_at (forms.Jump word) (views tokens.now)) }
+fn jump(alloc: Global, word: Jump, tokens: &[Token<'_>]) -> Result<Listed, LineError>
+    ensures { Gives listed_row result (begun_at (forms.Jump word) (views tokens.now)) }
 {
     match last_operand::<Text>(alloc, tokens) {
-        Ok(label) => Ok(Begun::Whole(Instruction::Jump(word, label))),
+        Ok(label) => Ok(Listed::Instruction(Instruction::Jump(word, label))),
         Err(error) => Err(error),
     }
 }
 
 /// What a line of `tableswitch` begins.
-fn table_switch(alloc: Global, tokens: &[Token<'_>]) -> Result<Begun, LineError>
-    ensures { Gives (λ b. b) result (begun_at forms.TableSwitch (views tokens.now)) }
+fn table_switch(alloc: Global, tokens: &[Token<'_>]) -> Result<Listed, LineError>
+    ensures { Gives listed_row result (begun_at forms.TableSwitch (views tokens.now)) }
 {
     let (low, rest) = operand::<i32>(alloc, tokens)?;
-    let room = room(low, rest)?;
-    Ok(Begun::Opens(Switch::Table(Table {
-        low,
-        room,
-        labels: Sequence::new(alloc),
-    })))
+    let high = high(low, rest)?;
+    Ok(Listed::Table(low, high))
 }
 
 /// What a line of `lookupswitch` begins.
-fn lookup_switch(alloc: Global, tokens: &[Token<'_>]) -> Result<Begun, LineError>
-    ensures { Gives (λ b. b) result (begun_at forms.LookupSwitch (views tokens.now)) }
+fn lookup_switch(tokens: &[Token<'_>]) -> Result<Listed, LineError>
+    ensures { Gives listed_row result (begun_at forms.LookupSwitch (views tokens.now)) }
 {
     match ended(tokens) {
-        Ok(()) => Ok(Begun::Opens(Switch::Lookup(Cases::new(alloc)))),
+        Ok(()) => Ok(Listed::Lookup),
         Err(error) => Err(error),
     }
 }
 
 /// What the line of an instruction on a field begins: a class, a slash and a name stand on it, and then a descriptor.
-fn field(alloc: Global, word: FieldAccess, tokens: &[Token<'_>]) -> Result<Begun, LineError>
-    ensures { Gives (λ b. b) result (begun_at (forms.Field word) (views tokens.now)) }
+fn field(alloc: Global, word: FieldAccess, tokens: &[Token<'_>]) -> Result<Listed, LineError>
+    ensures { Gives listed_row result (begun_at (forms.Field word) (views tokens.now)) }
 {
     let ((class, name), rest) = operand::<(ClassName, MemberName)>(alloc, tokens)?;
     let field_type = last_operand::<FieldType>(alloc, rest)?;
@@ -217,64 +206,64 @@ fn field(alloc: Global, word: FieldAccess, tokens: &[Token<'_>]) -> Result<Begun
         name,
         field_type,
     };
-    Ok(Begun::Whole(Instruction::Field(word, Boxed::new(alloc, field)?)))
+    Ok(Listed::Instruction(Instruction::Field(word, Boxed::new(alloc, field)?)))
 }
 
 /// What the line of a call but `invokeinterface` begins.
-fn call(alloc: Global, word: Call, tokens: &[Token<'_>]) -> Result<Begun, LineError>
-    ensures { Gives (λ b. b) result (begun_at (forms.Call word) (views tokens.now)) }
+fn call(alloc: Global, word: Call, tokens: &[Token<'_>]) -> Result<Listed, LineError>
+    ensures { Gives listed_row result (begun_at (forms.Call word) (views tokens.now)) }
 {
     match last_operand::<MethodReference>(alloc, tokens) {
-        Ok(method) => Ok(Begun::Whole(Instruction::Call(word, Boxed::new(alloc, method)?))),
+        Ok(method) => Ok(Listed::Instruction(Instruction::Call(word, Boxed::new(alloc, method)?))),
         Err(error) => Err(error),
     }
 }
 
 /// What a line of `invokeinterface` begins.
-fn interface_call(alloc: Global, tokens: &[Token<'_>]) -> Result<Begun, LineError>
-    ensures { Gives (λ b. b) result (begun_at forms.CallInterface (views tokens.now)) }
+fn interface_call(alloc: Global, tokens: &[Token<'_>]) -> Result<Listed, LineError>
+    ensures { Gives listed_row result (begun_at forms.CallInterface (views tokens.now)) }
 {
     let (method, rest) = operand::<MethodReference>(alloc, tokens)?;
     count(alloc, rest)?;
-    Ok(Begun::Whole(Instruction::CallInterface(Boxed::new(alloc, method)?)))
+    Ok(Listed::Instruction(Instruction::CallInterface(Boxed::new(alloc, method)?)))
 }
 
 /// What a line of `new` begins.
-fn object(alloc: Global, tokens: &[Token<'_>]) -> Result<Begun, LineError>
-    ensures { Gives (λ b. b) result (begun_at forms.New (views tokens.now)) }
+fn object(alloc: Global, tokens: &[Token<'_>]) -> Result<Listed, LineError>
+    ensures { Gives listed_row result (begun_at forms.New (views tokens.now)) }
 {
     match last_operand::<ClassName>(alloc, tokens) {
-        Ok(class) => Ok(Begun::Whole(Instruction::New(Boxed::new(alloc, class)?))),
+        Ok(class) => Ok(Listed::Instruction(Instruction::New(Boxed::new(alloc, class)?))),
         Err(error) => Err(error),
     }
 }
 
 /// What a line of `newarray` begins.
-fn array(alloc: Global, tokens: &[Token<'_>]) -> Result<Begun, LineError>
-    ensures { Gives (λ b. b) result (begun_at forms.NewArray (views tokens.now)) }
+fn array(alloc: Global, tokens: &[Token<'_>]) -> Result<Listed, LineError>
+    ensures { Gives listed_row result (begun_at forms.NewArray (views tokens.now)) }
 {
     match last_operand::<BaseType>(alloc, tokens) {
-        Ok(base) => Ok(Begun::Whole(Instruction::NewArray(base))),
+        Ok(base) => Ok(Listed::Instruction(Instruction::NewArray(base))),
         Err(error) => Err(error),
     }
 }
 
 /// What the line of an instruction on a class or the type of an array begins.
-fn type_use(alloc: Global, word: TypeUse, tokens: &[Token<'_>]) -> Result<Begun, LineError>
-    ensures { Gives (λ b. b) result (begun_at (forms.TypeUse word) (views tokens.now)) }
+fn type_use(alloc: Global, word: TypeUse, tokens: &[Token<'_>]) -> Result<Listed, LineError>
+    ensures { Gives listed_row result (begun_at (forms.TypeUse word) (views tokens.now)) }
 {
     match last_operand::<ReferenceType>(alloc, tokens) {
         Ok(reference) => {
             let reference = Boxed::new(alloc, reference)?;
-            Ok(Begun::Whole(Instruction::TypeUse(word, reference)))
+            Ok(Listed::Instruction(Instruction::TypeUse(word, reference)))
         }
         Err(error) => Err(error),
     }
 }
 
 /// What an instruction's line begins, by what its word asks for.
-pub(crate) fn begin(alloc: Global, form: Form, tokens: &[Token<'_>]) -> Result<Begun, LineError>
-    ensures { Gives (λ b. b) result (begun_at form (views tokens.now)) }
+pub(crate) fn begin(alloc: Global, form: Form, tokens: &[Token<'_>]) -> Result<Listed, LineError>
+    ensures { Gives listed_row result (begun_at form (views tokens.now)) }
 {
     match form {
         Form::Plain(word) => plain(word, tokens),
@@ -287,7 +276,7 @@ pub(crate) fn begin(alloc: Global, form: Form, tokens: &[Token<'_>]) -> Result<B
         Form::Increment => increment(alloc, tokens),
         Form::Jump(word) => jump(alloc, word, tokens),
         Form::TableSwitch => table_switch(alloc, tokens),
-        Form::LookupSwitch => lookup_switch(alloc, tokens),
+        Form::LookupSwitch => lookup_switch(tokens),
         Form::Field(word) => field(alloc, word, tokens),
         Form::Call(word) => call(alloc, word, tokens),
         Form::CallInterface => interface_call(alloc, tokens),

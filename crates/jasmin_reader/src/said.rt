@@ -1,4 +1,4 @@
-//! The lines of directives.
+//! What lines say.
 
 ghost use Rattle.sequence.specs.Gives.{Gives};
 ghost use Rattle.jasmin_words.specs.Lexing.{views};
@@ -9,10 +9,10 @@ use crate::head::{HeadWords, Place, class_head};
 use crate::member::{MethodHead, field, method_head};
 use crate::place::{LineError, last_operand};
 use descriptors::ClassName;
-use jasmin_text::Field;
 use jasmin_text::form::Directive;
+use jasmin_text::{Field, Instruction};
 use jasmin_words::{FaultKind, Token};
-use sequence::Refusal;
+use sequence::{Refusal, Text};
 use std::alloc::Global;
 
 /// What the line of a directive says.
@@ -34,6 +34,23 @@ pub(crate) enum Said {
     Locals(u16),
     /// A row of the handler table.
     Catch(Catch),
+}
+
+/// What the line of an instruction says, or a line of a switch.
+#[derive(Drop)]
+pub(crate) enum Listed {
+    /// An instruction.
+    Instruction(Instruction<Text>),
+    /// The head of a `tableswitch`: its first key, and its last one where it is given.
+    Table(i32, Option<i32>),
+    /// The head of a `lookupswitch`.
+    Lookup,
+    /// A label of a `tableswitch`.
+    Target(Text),
+    /// A key of a `lookupswitch` and its label.
+    Case(i32, Text),
+    /// The label for all other keys, which ends a switch.
+    Default(Text),
 }
 
 /// What stands behind a directive. One that says nothing of a class is left out.

@@ -1,8 +1,9 @@
 //! A switch that is not at its end.
 
-ghost use Rattle.std.specs.Prelude.{◌≡◌, [], OnOk};
-ghost use Rattle.jasmin_reader.specs.Listing.{case_of, with_key};
+ghost use Rattle.std.specs.Prelude.{◌≡◌, [], OnOk, IfOk};
+ghost use Rattle.jasmin_reader.specs.Listing.{case_of, with_key, end_of};
 
+use jasmin_text::{Boxed, Instruction};
 use sequence::{Sequence, Text};
 use std::alloc::{AllocError, Global};
 use std::collections::BTreeMap;
@@ -13,8 +14,8 @@ use std::marker::Model;
 pub(crate) struct Table {
     /// The first key.
     pub low: i32,
-    /// How many labels are still to come, where the last key is given.
-    pub room: Option<u64>,
+    /// The last key, where it is given.
+    pub high: Option<i32>,
     /// The labels so far.
     pub labels: Sequence<Text>,
 }
@@ -77,4 +78,22 @@ pub(crate) enum Switch {
     Table(Table),
     /// A `lookupswitch`.
     Lookup(Cases),
+}
+
+impl Switch {
+    /// The instruction, with the label for all other keys.
+    pub(crate) fn ended(self, alloc: Global, label: Text) -> Result<Instruction<Text>, AllocError>
+        ensures { IfOk result (λ instruction. instruction ≡ end_of self label) }
+    {
+        match self {
+            Switch::Table(Table { low, labels, .. }) => {
+                let labels = Boxed::new(alloc, labels)?;
+                Ok(Instruction::TableSwitch(low, labels, label))
+            }
+            Switch::Lookup(cases) => {
+                let cases = Boxed::new(alloc, cases.into_sequence(alloc)?)?;
+                Ok(Instruction::LookupSwitch(cases, label))
+            }
+        }
+    }
 }

@@ -2,7 +2,7 @@ use Rattle.std.proofs.Common.{rules, ap, ◌∙◌, w32}
 use Rattle.std.specs.Prelude.{is_some}
 use Rattle.std.proofs.lemmas.Int.{to_z-of_z, ints}
 use Rattle.jasmin_reader.specs.Listing.{case_of}
-use Rattle.jasmin_reader.proofs.Keys.{repeated}
+use Rattle.jasmin_reader.proofs.SortedCases.{repeated}
 use Rattle.jasmin_reader.proofs.listing.new_key.Goals as goal
 
 pub returns-then-has : goal.returns-then-has
