@@ -8,6 +8,7 @@
 //! its exit status is 2.
 #![tactic(auto)]
 
+mod bare;
 mod code;
 mod files;
 mod harness;
