@@ -2,8 +2,8 @@
 //!
 //! Each thread draws so many events, each under a lock: it takes a record, adds to its history, draws, and gives the
 //! record back. Beside it stands the same contest by bare steps (`bare`): as many threads make as many rounds on as many
-//! locks. Both meet the same processors, so that what the row says doesn't hang on how dear it is that a cache line goes from
-//! one processor to another. A time is that of all threads, divided by the rounds of one.
+//! locks. Both are taken one after the other, so that the price of a cache line that goes from one processor to another is
+//! in both. A time is that of all threads, divided by the rounds of one.
 
 ghost use Rattle.std.specs.Prelude.{◌≡◌, ◌<◌, ◌≤◌, IfOk};
 ghost use Rattle.std.specs.List.{AllByRecursion};
