@@ -3,6 +3,9 @@
 //! A line is measured in rounds. In each of them its sample is taken once, then what stands beside it, then some `fetch_add`s, so
 //! that a busy minute of the machine meets all three. The rounds are spread over several sweeps through all lines, so that such
 //! a minute doesn't meet all rounds of a line. The first round of each sweep warms up and doesn't count.
+//!
+//! The ratio of a line is that of the least times. Where threads contend, the least time is that of a lucky round, and the
+//! sample's may be luckier than the unit's: there it is the middle one of the ratios of all rounds.
 
 use crate::sample::Sample;
 use hierarchy::Program;
@@ -105,7 +108,7 @@ pub(crate) struct Row {
     pub unit: Sample,
     /// The size of the unit in the same way; or the size of the sample.
     pub unit_size: Option<usize>,
-    /// How many rounds of each of the five sweeps count; the least time of all is taken.
+    /// How many rounds of each of the five sweeps count.
     pub repeats: usize,
 }
 
@@ -169,6 +172,26 @@ impl Times {
     }
 }
 
+// The least of each time over all rounds.
+fn least_times(rounds: &[Times]) -> Times {
+    let mut least = Times::LONGEST;
+    for round in rounds {
+        least = least.least(*round);
+    }
+    least
+}
+
+// The middle one of the ratios of all rounds.
+fn middle_ratio(alloc: Global, rounds: &[Times]) -> Result<Figure, AllocError> {
+    let mut ratios = Vec::new(alloc);
+    for round in rounds {
+        ratios.push(ratio(round.sample, round.unit).hundredths)?;
+    }
+    ratios.sort_unstable();
+    let hundredths = ratios.get(ratios.len() / 2).copied().unwrap_or_default();
+    Ok(Figure { hundredths })
+}
+
 /// A sample of some size, and what stands beside it.
 #[derive(Clone, Copy)]
 struct Pair {
@@ -179,7 +202,22 @@ struct Pair {
 }
 
 impl Pair {
-    // The least times of so many rounds, with the program of each.
+    // The times of one round, with the program of each.
+    fn round<R: Clock + Threads + Wait + Sync>(
+        self,
+        rt: &R,
+        alloc: Global,
+        program: &Program,
+        unit_program: &Program,
+    ) -> Result<Times, Failure> {
+        Ok(Times {
+            sample: self.sample.time(rt, alloc, program, self.size)?,
+            unit: self.unit.time(rt, alloc, unit_program, self.unit_size)?,
+            add: add_time(rt, ADDS)?,
+        })
+    }
+
+    // The times of so many rounds, after those that warm up.
     fn rounds<R: Clock + Threads + Wait + Sync>(
         self,
         rt: &R,
@@ -187,29 +225,15 @@ impl Pair {
         program: &Program,
         unit_program: &Program,
         count: usize,
-    ) -> Result<Times, Failure> {
-        let mut least = Times::LONGEST;
-        for _ in 0..count {
-            least = least.least(Times {
-                sample: self.sample.time(rt, alloc, program, self.size)?,
-                unit: self.unit.time(rt, alloc, unit_program, self.unit_size)?,
-                add: add_time(rt, ADDS)?,
-            });
+    ) -> Result<Vec<Times>, Failure> {
+        let mut rounds = Vec::new(alloc);
+        for number in 0..count.saturating_add(WARM_UPS) {
+            let round = self.round(rt, alloc, program, unit_program)?;
+            if number >= WARM_UPS && rounds.push(round).is_err() {
+                return Err(Failure::Memory);
+            }
         }
-        Ok(least)
-    }
-
-    // The same, after those that warm up.
-    fn warm_rounds<R: Clock + Threads + Wait + Sync>(
-        self,
-        rt: &R,
-        alloc: Global,
-        program: &Program,
-        unit_program: &Program,
-        count: usize,
-    ) -> Result<Times, Failure> {
-        self.rounds(rt, alloc, program, unit_program, WARM_UPS)?;
-        self.rounds(rt, alloc, program, unit_program, count)
+        Ok(rounds)
     }
 
     // The same, once the program of the sample is linked.
@@ -219,20 +243,20 @@ impl Pair {
         alloc: Global,
         program: &Program,
         count: usize,
-    ) -> Result<Times, Failure> {
+    ) -> Result<Vec<Times>, Failure> {
         match self.unit.program(alloc, self.unit_size) {
-            Ok(unit_program) => self.warm_rounds(rt, alloc, program, &unit_program, count),
+            Ok(unit_program) => self.rounds(rt, alloc, program, &unit_program, count),
             Err(failure) => Err(failure),
         }
     }
 
-    // The least times of so many rounds.
+    // The times of so many rounds.
     fn times<R: Clock + Threads + Wait + Sync>(
         self,
         rt: &R,
         alloc: Global,
         count: usize,
-    ) -> Result<Times, Failure> {
+    ) -> Result<Vec<Times>, Failure> {
         match self.sample.program(alloc, self.size) {
             Ok(program) => self.times_with(rt, alloc, &program, count),
             Err(failure) => Err(failure),
@@ -240,12 +264,12 @@ impl Pair {
     }
 }
 
-/// A line to print: a row at one of its sizes, and the least times so far.
-#[derive(Clone, Copy)]
+/// A line to print: a row at one of its sizes, and the times of its rounds so far.
+#[derive(Drop)]
 struct Line<'a> {
     row: &'a Row,
     pair: Pair,
-    least: Times,
+    rounds: Vec<Times>,
 }
 
 impl Line<'_> {
@@ -255,15 +279,24 @@ impl Line<'_> {
         rt: &R,
         alloc: Global,
     ) -> Result<(), Failure> {
-        let times = self.pair.times(rt, alloc, self.row.repeats)?;
-        self.least = self.least.least(times);
+        let mut rounds = self.pair.times(rt, alloc, self.row.repeats)?;
+        self.rounds.append(&mut rounds)?;
         Ok(())
     }
 
+    // How often the time of the unit is in that of the sample.
+    fn beside(&self, alloc: Global, least: Times) -> Result<Figure, Failure> {
+        if self.pair.sample.is_contended() {
+            Ok(middle_ratio(alloc, &self.rounds)?)
+        } else {
+            Ok(ratio(least.sample, least.unit))
+        }
+    }
+
     // Prints how many millions of bytes are done in a second, where the parts are bytes.
-    fn print_rate(self, rt: &impl Print) -> Result<(), Failure> {
+    fn print_rate(&self, rt: &impl Print, least: Times) -> Result<(), Failure> {
         if self.pair.sample.is_of_bytes() {
-            let rate = ratio(MILLION_A_SECOND, self.least.sample);
+            let rate = ratio(MILLION_A_SECOND, least.sample);
             print!(rt; ", {rate} MB/s")?;
         }
         Ok(())
@@ -271,20 +304,26 @@ impl Line<'_> {
 
     // Prints how often the time of the unit is in that of the sample, the time of the sample, and how often that of a
     // `fetch_add` is in it; of bytes also how many a second.
-    fn print(self, rt: &impl Print) -> Result<(), Failure> {
+    fn print(&self, rt: &impl Print, alloc: Global) -> Result<(), Failure> {
         let size = self.pair.size;
         let what = self.row.what;
-        let beside = ratio(self.least.sample, self.least.unit);
-        let nanos = ratio(self.least.sample, 1000);
-        let adds = ratio(self.least.sample, self.least.add);
+        let least = least_times(&self.rounds);
+        let beside = self.beside(alloc, least)?;
+        let nanos = ratio(least.sample, 1000);
+        let adds = ratio(least.sample, least.add);
         print!(rt; "{size} {what}: {beside} ({nanos} ns, {adds} fetch_adds")?;
-        self.print_rate(rt)?;
+        self.print_rate(rt, least)?;
         Ok(println!(rt; ")")?)
     }
 }
 
 // Adds the lines of a row with this number.
-fn add_lines<'a>(lines: &mut Vec<Line<'a>>, row: &'a Row, number: usize) -> Result<(), Failure> {
+fn add_lines<'a>(
+    alloc: Global,
+    lines: &mut Vec<Line<'a>>,
+    row: &'a Row,
+    number: usize,
+) -> Result<(), Failure> {
     let times = number.min(row.most);
     for size in row.sizes {
         let pair = Pair {
@@ -293,8 +332,8 @@ fn add_lines<'a>(lines: &mut Vec<Line<'a>>, row: &'a Row, number: usize) -> Resu
             unit: row.unit,
             unit_size: row.unit_size.unwrap_or(*size).saturating_mul(times),
         };
-        let least = Times::LONGEST;
-        if lines.push(Line { row, pair, least }).is_err() {
+        let rounds = Vec::new(alloc);
+        if lines.push(Line { row, pair, rounds }).is_err() {
             return Err(Failure::Memory);
         }
     }
@@ -322,13 +361,13 @@ pub(crate) fn measure<R: Clock + Print + Threads + Wait + Sync>(
 ) -> Result<(), Failure> {
     let mut lines = Vec::new(alloc);
     for row in rows {
-        add_lines(&mut lines, row, number)?;
+        add_lines(alloc, &mut lines, row, number)?;
     }
     for _ in 0..SWEEPS {
         sweep(rt, alloc, &mut lines)?;
     }
     for line in &lines {
-        line.print(rt)?;
+        line.print(rt, alloc)?;
     }
     Ok(())
 }

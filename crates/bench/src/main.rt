@@ -2,12 +2,13 @@
 //!
 //! The first word names a benchmark, as in `rt run -- link`; its module says what is measured. `reader` and `lock` take a
 //! number as second word, of parts and of rounds, and `threads` takes `held`; `all` says the same as no second word. Each
-//! line is the least of many times of a part of the work, beside the same of other work, in nanoseconds, and beside one
-//! uncontended `fetch_add`, all taken in turn (`harness`). Where a part is a byte, the line also has MB/s. Without any word
+//! line has the time of a part of the work beside that of other work, in nanoseconds, and beside one uncontended
+//! `fetch_add`, all taken many times in turn (`harness`). Where a part is a byte, the line also has MB/s. Without any word
 //! each benchmark does a little, and no time is printed. With words that it doesn't know the program lists the names, and
 //! its exit status is 2.
 #![tactic(auto)]
 
+mod bare;
 mod code;
 mod files;
 mod harness;

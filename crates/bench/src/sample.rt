@@ -115,6 +115,11 @@ impl Sample {
         }
     }
 
+    /// Whether its threads contend, so that its times differ from one to the next.
+    pub(crate) fn is_contended(self) -> bool {
+        matches!(self, Sample::Lock(_))
+    }
+
     /// Its program; one without classes where it needs none.
     pub(crate) fn program(self, alloc: Global, size: usize) -> Result<Program, Failure> {
         let mut files = Files::new(alloc);
