@@ -1,11 +1,11 @@
-//! What all benchmarks measure with: rows, the least of many times, lines of figures.
+//! What all benchmarks measure with: rows, the least of many times or the middle of many ratios, lines of figures.
 //!
 //! A line is measured in rounds. In each of them its sample is taken once, then what stands beside it, then some `fetch_add`s, so
 //! that a busy minute of the machine meets all three. The rounds are spread over several sweeps through all lines, so that such
 //! a minute doesn't meet all rounds of a line. The first round of each sweep warms up and doesn't count.
 //!
-//! The ratio of a line is that of the least times. Where threads contend, the least time is that of a lucky round, and the
-//! sample's may be luckier than the unit's: there it is the middle one of the ratios of all rounds.
+//! The ratio of a line is that of the least times. In a contest for locks (`Sample::is_contended`) the least time is that of a
+//! lucky round, and the sample's may be luckier than the unit's: there it is the middle one of the ratios of all rounds.
 
 use crate::sample::Sample;
 use hierarchy::Program;

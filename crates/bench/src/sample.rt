@@ -115,7 +115,7 @@ impl Sample {
         }
     }
 
-    /// Whether its threads contend, so that its times differ from one to the next.
+    /// Whether it is a contest for locks, beside which the same contest stands: its ratio is the middle one of all rounds'.
     pub(crate) fn is_contended(self) -> bool {
         matches!(self, Sample::Lock(_))
     }

@@ -49,7 +49,8 @@ label_at b w =
     if is_label w then (new_label (place_of b.labels w) >>= λ _. within_limit w >>= λ _. Ok (LabelRow w))
     else Err fault.UnknownInstruction
 
--- all faults of a line are found before what it says is added
+-- All faults of an instruction, or of a line of a switch, are found before what it says is added. A label before it on its line
+-- is added first.
 abbrev pub listed : Body → Result Row FaultKind → Result Body FaultKind
 listed b read = read >>= λ row. Ok (listed_with b row)
 

@@ -60,7 +60,7 @@ abbrev pub end_of : Switch → List ℕ → Instruction (List ℕ)
 end_of (switch.Table t) label = instruction.TableSwitch t.low t.labels label
 end_of (switch.Lookup cases) label = instruction.LookupSwitch cases label
 
--- with a row, by the switch that is not at its end; a row that may not stand there adds nothing
+-- with a row, by the switch that is not at its end; whether the row may stand there is asked before
 abbrev pub listed_by : Listing → Option Switch → Row → Listing
 listed_by l o (InstructionRow i) = if l.room == 0 then l else record l { instructions = l.instructions ++ i ∷ []; room = l.room - 1 }
 listed_by l o (TableRow low high) = with_switch l (switch.Table (record { low = low; high = high; labels = [] }))

@@ -6,8 +6,8 @@
 //!
 //! To enter: `specs/Reading` says what each line adds to what was read before, and which fault is met first;
 //! `specs/File` goes over the lines. The modules go the same way: `place` and `operands` for single words,
-//! `head` for lines that name something, `listing` for instructions and switches, `body` for methods, `said` for what a line says, `closing` for
-//! what is looked at where a method ends, `reader` for lines, `file` for the whole.
+//! `head` for lines that name something, `listing` for instructions and switches, `body` for methods, `said` for what a line
+//! says, `closing` for what is looked at where a method ends, `reader` for lines, `file` for the whole.
 #![tactic(auto)]
 
 mod body;

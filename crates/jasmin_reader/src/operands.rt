@@ -88,7 +88,7 @@ fn high(low: i32, tokens: &[Token<'_>]) -> Result<Option<i32>, LineError>
     Ok(Some(high))
 }
 
-/// What the line of an instruction without operands begins.
+/// What the line of an instruction without operands says.
 fn plain(word: Plain, tokens: &[Token<'_>]) -> Result<Listed, LineError>
     ensures { Gives listed_row result (begun_at (forms.Plain word) (views tokens.now)) }
 {
@@ -98,7 +98,7 @@ fn plain(word: Plain, tokens: &[Token<'_>]) -> Result<Listed, LineError>
     }
 }
 
-/// What the line of an instruction begins that pushes this int.
+/// What the line of an instruction says that pushes this int.
 fn number(value: i32, tokens: &[Token<'_>]) -> Result<Listed, LineError>
     ensures { Gives listed_row result (begun_at (forms.Number value) (views tokens.now)) }
 {
@@ -108,7 +108,7 @@ fn number(value: i32, tokens: &[Token<'_>]) -> Result<Listed, LineError>
     }
 }
 
-/// What the line of an instruction begins that takes this local.
+/// What the line of an instruction says that takes this local.
 fn local_at(word: Local, place: u16, tokens: &[Token<'_>]) -> Result<Listed, LineError>
     ensures { Gives listed_row result (begun_at (forms.LocalAt word place) (views tokens.now)) }
 {
@@ -118,7 +118,7 @@ fn local_at(word: Local, place: u16, tokens: &[Token<'_>]) -> Result<Listed, Lin
     }
 }
 
-/// What a line of `bipush` begins.
+/// What a line of `bipush` says.
 fn byte(alloc: Global, tokens: &[Token<'_>]) -> Result<Listed, LineError>
     ensures { Gives listed_row result (begun_at forms.Byte (views tokens.now)) }
 {
@@ -128,7 +128,7 @@ fn byte(alloc: Global, tokens: &[Token<'_>]) -> Result<Listed, LineError>
     }
 }
 
-/// What a line of `sipush` begins.
+/// What a line of `sipush` says.
 fn short(alloc: Global, tokens: &[Token<'_>]) -> Result<Listed, LineError>
     ensures { Gives listed_row result (begun_at forms.Short (views tokens.now)) }
 {
@@ -138,7 +138,7 @@ fn short(alloc: Global, tokens: &[Token<'_>]) -> Result<Listed, LineError>
     }
 }
 
-/// What the line of an instruction with an int or a string begins.
+/// What the line of an instruction with an int or a string says.
 fn pushed(alloc: Global, tokens: &[Token<'_>]) -> Result<Listed, LineError>
     ensures { Gives listed_row result (begun_at forms.Constant (views tokens.now)) }
 {
@@ -147,7 +147,7 @@ fn pushed(alloc: Global, tokens: &[Token<'_>]) -> Result<Listed, LineError>
     Ok(Listed::Instruction(Instruction::Constant(constant)))
 }
 
-/// What the line of an instruction with the number of a local begins.
+/// What the line of an instruction with the number of a local says.
 fn local(alloc: Global, word: Local, tokens: &[Token<'_>]) -> Result<Listed, LineError>
     ensures { Gives listed_row result (begun_at (forms.Local word) (views tokens.now)) }
 {
@@ -157,7 +157,7 @@ fn local(alloc: Global, word: Local, tokens: &[Token<'_>]) -> Result<Listed, Lin
     }
 }
 
-/// What a line of `iinc` begins.
+/// What a line of `iinc` says.
 fn increment(alloc: Global, tokens: &[Token<'_>]) -> Result<Listed, LineError>
     ensures { Gives listed_row result (begun_at forms.Increment (views tokens.now)) }
 {
@@ -166,7 +166,7 @@ fn increment(alloc: Global, tokens: &[Token<'_>]) -> Result<Listed, LineError>
     Ok(Listed::Instruction(Instruction::Increment(number, by)))
 }
 
-/// What the line of a jump begins.
+/// What the line of a jump says.
 fn jump(alloc: Global, word: Jump, tokens: &[Token<'_>]) -> Result<Listed, LineError>
     ensures { Gives listed_row result (begun_at (forms.Jump word) (views tokens.now)) }
 {
@@ -176,7 +176,7 @@ fn jump(alloc: Global, word: Jump, tokens: &[Token<'_>]) -> Result<Listed, LineE
     }
 }
 
-/// What a line of `tableswitch` begins.
+/// What a line of `tableswitch` says.
 fn table_switch(alloc: Global, tokens: &[Token<'_>]) -> Result<Listed, LineError>
     ensures { Gives listed_row result (begun_at forms.TableSwitch (views tokens.now)) }
 {
@@ -185,7 +185,7 @@ fn table_switch(alloc: Global, tokens: &[Token<'_>]) -> Result<Listed, LineError
     Ok(Listed::Table(low, high))
 }
 
-/// What a line of `lookupswitch` begins.
+/// What a line of `lookupswitch` says.
 fn lookup_switch(tokens: &[Token<'_>]) -> Result<Listed, LineError>
     ensures { Gives listed_row result (begun_at forms.LookupSwitch (views tokens.now)) }
 {
@@ -195,7 +195,7 @@ fn lookup_switch(tokens: &[Token<'_>]) -> Result<Listed, LineError>
     }
 }
 
-/// What the line of an instruction on a field begins: a class, a slash and a name stand on it, and then a descriptor.
+/// What the line of an instruction on a field says: a class, a slash and a name stand on it, and then a descriptor.
 fn field(alloc: Global, word: FieldAccess, tokens: &[Token<'_>]) -> Result<Listed, LineError>
     ensures { Gives listed_row result (begun_at (forms.Field word) (views tokens.now)) }
 {
@@ -209,7 +209,7 @@ fn field(alloc: Global, word: FieldAccess, tokens: &[Token<'_>]) -> Result<Liste
     Ok(Listed::Instruction(Instruction::Field(word, Boxed::new(alloc, field)?)))
 }
 
-/// What the line of a call but `invokeinterface` begins.
+/// What the line of a call but `invokeinterface` says.
 fn call(alloc: Global, word: Call, tokens: &[Token<'_>]) -> Result<Listed, LineError>
     ensures { Gives listed_row result (begun_at (forms.Call word) (views tokens.now)) }
 {
@@ -219,7 +219,7 @@ fn call(alloc: Global, word: Call, tokens: &[Token<'_>]) -> Result<Listed, LineE
     }
 }
 
-/// What a line of `invokeinterface` begins.
+/// What a line of `invokeinterface` says.
 fn interface_call(alloc: Global, tokens: &[Token<'_>]) -> Result<Listed, LineError>
     ensures { Gives listed_row result (begun_at forms.CallInterface (views tokens.now)) }
 {
@@ -228,7 +228,7 @@ fn interface_call(alloc: Global, tokens: &[Token<'_>]) -> Result<Listed, LineErr
     Ok(Listed::Instruction(Instruction::CallInterface(Boxed::new(alloc, method)?)))
 }
 
-/// What a line of `new` begins.
+/// What a line of `new` says.
 fn object(alloc: Global, tokens: &[Token<'_>]) -> Result<Listed, LineError>
     ensures { Gives listed_row result (begun_at forms.New (views tokens.now)) }
 {
@@ -238,7 +238,7 @@ fn object(alloc: Global, tokens: &[Token<'_>]) -> Result<Listed, LineError>
     }
 }
 
-/// What a line of `newarray` begins.
+/// What a line of `newarray` says.
 fn array(alloc: Global, tokens: &[Token<'_>]) -> Result<Listed, LineError>
     ensures { Gives listed_row result (begun_at forms.NewArray (views tokens.now)) }
 {
@@ -248,7 +248,7 @@ fn array(alloc: Global, tokens: &[Token<'_>]) -> Result<Listed, LineError>
     }
 }
 
-/// What the line of an instruction on a class or the type of an array begins.
+/// What the line of an instruction on a class or the type of an array says.
 fn type_use(alloc: Global, word: TypeUse, tokens: &[Token<'_>]) -> Result<Listed, LineError>
     ensures { Gives listed_row result (begun_at (forms.TypeUse word) (views tokens.now)) }
 {
@@ -261,7 +261,7 @@ fn type_use(alloc: Global, word: TypeUse, tokens: &[Token<'_>]) -> Result<Listed
     }
 }
 
-/// What an instruction's line begins, by what its word asks for.
+/// What an instruction's line says, by what its word asks for.
 pub(crate) fn begin(alloc: Global, form: Form, tokens: &[Token<'_>]) -> Result<Listed, LineError>
     ensures { Gives listed_row result (begun_at form (views tokens.now)) }
 {

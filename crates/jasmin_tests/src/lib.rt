@@ -1,6 +1,6 @@
-//! Tests of the lists, the types, the words and the texts of Jasmin files that are no case of a file: what is
-//! written alone. The cases of files are those of the crate `cases`. They stand apart, since a crate that has tests is proved
-//! a second time with them.
+//! Tests of the lists, the types, the words and the instructions of Jasmin files that are no case of a file: values made by hand,
+//! and what is written alone. The cases of files are those of the crate `cases`. They stand apart, since a crate that has tests
+//! is proved a second time with them.
 #![tactic(auto)]
 
 #[cfg(test)]
