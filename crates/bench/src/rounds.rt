@@ -52,40 +52,37 @@ fn often<W: Wait>(
     }
 }
 
-// The rounds of one thread, on one of so many records.
+// The rounds of one thread.
 fn rounds_of<W: Wait>(
     rt: &W,
     table: &InitTable<History>,
     mut pass: Pass<History>,
-    records: usize,
     rounds: usize,
 ) -> Result<(), AllocError>
     requires pass { IsReady table.now.id pass }
-    requires records { (table.now.places ≡ 4) × (0 < records) × (records ≤ 4) }
+    requires record { 0 < table.now.places }
 {
     pass.reserve(rounds)?;
-    let place = pass.number() % records;
-    often(rt, table, &mut pass, place, rounds);
+    often(rt, table, &mut pass, 0, rounds);
     Ok(())
 }
 
-// A thread for each pass makes so many rounds.
+// A thread for each pass makes so many rounds, all on the first record.
 pub(crate) fn in_threads<R: Threads + Wait + Sync>(
     rt: &R,
     table: &InitTable<History>,
     passes: Vec<Pass<History>>,
-    records: usize,
     rounds: usize,
 ) -> Result<(), AllocError>
     requires passes { AllByRecursion (IsReady table.now.id) passes.items }
-    requires records { (table.now.places ≡ 4) × (0 < records) × (records ≤ 4) }
+    requires record { 0 < table.now.places }
 {
     let ends = thread::map_vec(
         rt,
         passes,
         &|pass: Pass<History>| -> Result<(), AllocError>
-            requires { IsReady table.now.id pass × (table.now.places ≡ 4) × (0 < records) × (records ≤ 4) }
-        { rounds_of(rt, table, pass, records, rounds) },
+            requires { IsReady table.now.id pass × (0 < table.now.places) }
+        { rounds_of(rt, table, pass, rounds) },
     )?;
     for end in ends {
         end?;
