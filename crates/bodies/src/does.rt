@@ -18,7 +18,7 @@ use std::alloc::{AllocError, Global};
 use trace::Limit;
 
 /// What a body does next.
-#[derive(Debug, Drop)]
+#[derive(Drop)]
 pub enum Does {
     /// An active use of a class (JLS SE 8 12.4.1): the procedure for the class comes next.
     Asks(ClassId),

@@ -11,7 +11,7 @@ use init_core::Completed;
 use std::alloc::{AllocError, Global};
 
 /// Each class is run as if it had no initializer, and a main class as if it had no `main`.
-#[derive(Clone, Copy, Debug, PartialEq, Eq, Drop)]
+#[derive(Clone, Copy, PartialEq, Eq, Drop)]
 pub struct NoCode;
 
 impl Bodies for NoCode {

@@ -13,7 +13,7 @@ use std::io;
 use trace_reader::TraceFault;
 
 /// Why the program stops, once its command line has been read.
-#[derive(Debug, Drop)]
+#[derive(Drop)]
 pub enum Fault<'a> {
     /// An option with a subcommand that doesn't take it.
     Words,

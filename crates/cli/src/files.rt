@@ -20,7 +20,7 @@ pub const MOST_FILES: usize = 256;
 pub const MOST_BYTES: usize = 1_048_576;
 
 /// Why a file by name can't be read or written.
-#[derive(Clone, Copy, Debug, PartialEq, Eq)]
+#[derive(Clone, Copy, PartialEq, Eq)]
 pub enum NamedFault {
     /// The file's own fault: it isn't there, can't be read, or can't be written.
     Io,

@@ -10,7 +10,7 @@ use clap::{Arg, ArgAction, ArgMatches, Command, Error};
 use std::alloc::{AllocError, Global};
 
 /// What `jinit run` asks for.
-#[derive(Debug, Drop)]
+#[derive(Drop)]
 pub struct Run<'a> {
     /// The text of `--mains`: the main classes, separated by commas.
     pub mains: Option<&'a str>,
@@ -27,7 +27,7 @@ pub struct Run<'a> {
 }
 
 /// What `jinit check` asks for.
-#[derive(Debug, Drop)]
+#[derive(Drop)]
 pub struct Check<'a> {
     /// The text of `--mains`: the main classes, separated by commas.
     pub mains: Option<&'a str>,
@@ -40,7 +40,7 @@ pub struct Check<'a> {
 }
 
 /// What the words ask for.
-#[derive(Debug, Drop)]
+#[derive(Drop)]
 pub enum Asked<'a> {
     /// `jinit run`.
     Run(Run<'a>),

@@ -12,7 +12,7 @@ use sequence::{Name, NameKind};
 pub type ClassName = Name<ClassNameKind>;
 
 /// The kind of names that classes and interfaces have. See [`ClassName`].
-#[derive(Debug, Drop)]
+#[derive(Drop)]
 pub struct ClassNameKind;
 
 impl NameKind for ClassNameKind {

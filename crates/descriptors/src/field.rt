@@ -7,7 +7,7 @@ use crate::class_name::ClassName;
 use std::alloc::AllocError;
 
 /// What an array has in the end, or what a type without dimensions is.
-#[derive(Debug, Drop)]
+#[derive(Drop)]
 pub enum ElementType {
     /// A base type.
     Base(BaseType),
@@ -16,7 +16,7 @@ pub enum ElementType {
 }
 
 /// The type of a field, a parameter or a result (JVMS SE 8 4.3.2).
-#[derive(Debug, Drop)]
+#[derive(Drop)]
 pub struct FieldType {
     /// How many dimensions an array has, at most 255 (JVMS SE 8 4.3.2). A type that is no array has 0.
     pub dimensions: u8,

@@ -1,7 +1,7 @@
 //! Locals and operands.
 
 /// A local or an operand: a value of one word, or a local that was never set.
-#[derive(Clone, Copy, Debug, PartialEq, Eq)]
+#[derive(Clone, Copy, PartialEq, Eq)]
 pub enum Cell {
     /// A local that was never set.
     Unset,

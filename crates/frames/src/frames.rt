@@ -18,7 +18,7 @@ use std::marker::Model;
 ///
 /// Contracts see the list of them, the innermost first. A frame that was left is kept for the next call, so that no call takes
 /// memory at a depth that was reached before.
-#[derive(Debug, Drop)]
+#[derive(Drop)]
 pub struct Frames {
     innermost: Option<Slot>,
     below: Vec<Slot>,

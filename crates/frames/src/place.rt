@@ -1,7 +1,7 @@
 //! Where a frame is.
 
 /// The method of a frame and the place of its instruction.
-#[derive(Clone, Copy, Debug, PartialEq, Eq)]
+#[derive(Clone, Copy, PartialEq, Eq)]
 pub struct FramePlace {
     /// The number of the class that declares the method: that of its [`hierarchy::ClassId`].
     pub class: usize,

@@ -26,7 +26,7 @@ const LAST_PLACE: usize = 9_223_372_036_854_775_807;
 
 /// What an activation is made of. The cells of a stack beyond its operands have no meaning. There is at least one, for the object
 /// that a handler gets, also where the method is to have no operand.
-#[derive(Debug, Drop)]
+#[derive(Drop)]
 struct Parts {
     class: usize,
     method: usize,
@@ -39,7 +39,7 @@ struct Parts {
 }
 
 /// An activation, in memory of its own, so that it is moved as one pointer. It has room for any method's locals and operands.
-#[derive(Debug, Drop)]
+#[derive(Drop)]
 pub(crate) struct Slot {
     parts: Box<Parts>,
 }

@@ -12,7 +12,7 @@ pub trait Gate {
 }
 
 /// No gate: each thread goes on at once.
-#[derive(Clone, Copy, Debug)]
+#[derive(Clone, Copy)]
 pub struct NoGate;
 
 impl Gate for NoGate {

@@ -18,7 +18,7 @@ use std::thread::Threads;
 use trace::{Limits, Report};
 
 /// Why there is no run.
-#[derive(Clone, Copy, Debug, PartialEq, Eq)]
+#[derive(Clone, Copy, PartialEq, Eq)]
 pub enum RunFault {
     /// A host thread can't be started.
     NoThread,

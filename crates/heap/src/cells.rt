@@ -6,7 +6,7 @@ use std::alloc::{AllocError, Global};
 use std::marker::Model;
 
 /// A list that owns its memory, of a length that doesn't change.
-#[derive(Debug, Drop)]
+#[derive(Drop)]
 pub struct Cells<T> {
     items: Vec<T>,
 }

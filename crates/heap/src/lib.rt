@@ -30,7 +30,7 @@ use std::alloc::Global;
 use std::marker::Model;
 
 /// What was made while a program runs, in order; after the program's ready objects and quoted texts each has the next reference.
-#[derive(Debug, Drop)]
+#[derive(Drop)]
 pub struct Heap {
     made: Vec<HeapObject>,
     taken: usize,

@@ -8,7 +8,7 @@ use std::alloc::{AllocError, Global};
 use std::marker::Model;
 
 /// What has a monitor.
-#[derive(Clone, Copy, Debug, PartialEq, Eq)]
+#[derive(Clone, Copy, PartialEq, Eq)]
 pub enum Monitor {
     /// The object or array to which a reference refers.
     Object(u32),
@@ -17,7 +17,7 @@ pub enum Monitor {
 }
 
 /// A thread that holds a monitor.
-#[derive(Clone, Copy, Debug, PartialEq, Eq)]
+#[derive(Clone, Copy, PartialEq, Eq)]
 pub struct Holder {
     /// The thread's number.
     pub thread: u8,
@@ -26,7 +26,7 @@ pub struct Holder {
 }
 
 /// What came of an attempt to enter a monitor.
-#[derive(Clone, Copy, Debug, PartialEq, Eq)]
+#[derive(Clone, Copy, PartialEq, Eq)]
 pub enum Entry {
     /// The thread holds the monitor once more.
     Entered,
@@ -35,7 +35,7 @@ pub enum Entry {
 }
 
 /// Who holds which monitor, and how often. Contracts see that alone; beside it is kept whether a monitor became free.
-#[derive(Debug, Drop)]
+#[derive(Drop)]
 pub struct Monitors {
     objects: Vec<Option<Holder>>,
     classes: Vec<Option<Holder>>,

@@ -8,7 +8,7 @@ use crate::types::kept_by;
 use hierarchy::{ClassId, ResolvedType, Value};
 
 /// An object or an array that was made while the program runs.
-#[derive(Debug, Drop)]
+#[derive(Drop)]
 pub enum HeapObject {
     /// An object: its class, and its instance fields cell by cell, none where one was never written and holds its default.
     Instance(ClassId, Cells<Option<Value>>),

@@ -7,7 +7,7 @@ use crate::built_in::BuiltIn;
 use descriptors::{BaseType, ElementType, FieldType, MethodType};
 
 /// What a method of java/io/PrintStream prints.
-#[derive(Clone, Copy, Debug, PartialEq, Eq)]
+#[derive(Clone, Copy, PartialEq, Eq)]
 pub enum Printed {
     /// An int, as a decimal.
     Int,
@@ -20,7 +20,7 @@ pub enum Printed {
 }
 
 /// A method of a built-in class. All are public instance methods with a body.
-#[derive(Clone, Copy, Debug, PartialEq, Eq)]
+#[derive(Clone, Copy, PartialEq, Eq)]
 pub enum BuiltInMethod {
     /// `<init>()V` of java/lang/Object and of each throwable.
     Init,

@@ -6,7 +6,7 @@ use sequence::Sequence;
 
 /// A class of a program by its number: the program's classes in file order from 0, then the built-in ones.
 /// A number that a program doesn't have is no class of it.
-#[derive(Clone, Copy, Debug, PartialEq, Eq, Hash)]
+#[derive(Clone, Copy, PartialEq, Eq, Hash)]
 pub struct ClassId {
     /// The class's place among the program's classes, from 0, and behind them among the built-in ones.
     pub number: usize,
@@ -15,7 +15,7 @@ pub struct ClassId {
 /// A linked class or interface (JVMS SE 8 5.3, 5.4).
 ///
 /// Its fields and methods are those of its text, in file order.
-#[derive(Debug, Drop)]
+#[derive(Drop)]
 pub struct Class {
     /// The internal name (JVMS SE 8 4.2.1).
     pub name: ClassName,

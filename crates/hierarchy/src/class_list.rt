@@ -6,7 +6,7 @@ ghost use Rattle.hierarchy.specs.ClassNumbers.{classes_in};
 use crate::class::ClassId;
 
 /// Classes that a program keeps in an order, each once: an iterator over them, which takes no memory.
-#[derive(Clone, Copy, Debug)]
+#[derive(Clone, Copy)]
 pub struct ClassList<'a> {
     pub(crate) numbers: &'a [u16],
 }

@@ -13,7 +13,7 @@ use std::marker::Model;
 /// Classes in the order in which they were found, each once.
 ///
 /// Each takes three bytes or a few more: a program keeps many long sets, and to fill new memory takes long.
-#[derive(Debug, Drop)]
+#[derive(Drop)]
 pub(crate) struct ClassSet {
     numbers: Vec<u16>,
     /// Whether the class of each number is there; those past the end are not.

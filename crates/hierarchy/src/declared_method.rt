@@ -14,7 +14,7 @@ use descriptors::MethodType;
 use jasmin_text::{Access, Method};
 
 /// A method of a program.
-#[derive(Clone, Copy, Debug, PartialEq, Eq)]
+#[derive(Clone, Copy, PartialEq, Eq)]
 pub enum MethodId {
     /// A method of a file's class: the class that declares it, and the method's place among those of the class.
     Declared(ClassId, usize),

@@ -51,7 +51,7 @@ impl Error for LinkFaultKind {}
 
 /// Why classes can't be linked, and the name of the class whose file is at fault. Where memory ran out the
 /// class is one of those that were handed in.
-#[derive(Debug, Drop)]
+#[derive(Drop)]
 pub struct LinkFault {
     /// What is wrong.
     pub kind: LinkFaultKind,

@@ -16,7 +16,7 @@ use descriptors::{ElementType, FieldType};
 use jasmin_text::Field;
 
 /// A field of a program.
-#[derive(Clone, Copy, Debug, PartialEq, Eq)]
+#[derive(Clone, Copy, PartialEq, Eq)]
 pub enum FieldId {
     /// A field of a file's class: the class that declares it, and the field's place among those of the class.
     Declared(ClassId, usize),
@@ -25,7 +25,7 @@ pub enum FieldId {
 }
 
 /// Which kind of field an instruction wants (JVMS SE 8 chapter 6).
-#[derive(Clone, Copy, Debug, PartialEq, Eq)]
+#[derive(Clone, Copy, PartialEq, Eq)]
 pub enum FieldKind {
     /// A class variable, as `getstatic` and `putstatic` want it.
     Static,

@@ -12,7 +12,7 @@ use std::alloc::{AllocError, Global};
 
 /// The places of a class's fields, and of its methods, each in the order in which they are searched. No two are equal
 /// there, so a search by halves compares at most 11 of 1,024.
-#[derive(Debug, Drop)]
+#[derive(Drop)]
 pub(crate) struct MemberPlaces {
     /// The places of the fields.
     pub(crate) fields: Vec<usize>,

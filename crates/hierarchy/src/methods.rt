@@ -12,7 +12,7 @@ use descriptors::MethodType;
 use jasmin_text::ClassKind;
 
 /// An instruction that calls a method (JVMS SE 8 6.5).
-#[derive(Clone, Copy, Debug, PartialEq, Eq)]
+#[derive(Clone, Copy, PartialEq, Eq)]
 pub enum Invoke {
     /// `invokestatic`
     Static,

@@ -24,7 +24,7 @@ use texts::Texts;
 
 /// What a program keeps beside its classes: of each class in file order, lists of classes, the cells of
 /// an object and the places of its members; and of all classes the quoted texts.
-#[derive(Debug, Drop)]
+#[derive(Drop)]
 pub(crate) struct Tables {
     /// The superinterfaces that the class implements by itself, in the order of their enumeration.
     pub(crate) superinterfaces: Vec<ClassSet>,

@@ -1,7 +1,7 @@
 //! Values of static fields.
 
 /// A value of one word: an int, or a reference (JVMS SE 8 2.2).
-#[derive(Clone, Copy, Debug, PartialEq, Eq)]
+#[derive(Clone, Copy, PartialEq, Eq)]
 pub enum Value {
     /// An int, which stands for a boolean, byte, char or short too.
     Int(i32),

@@ -21,7 +21,7 @@ use std::marker::Model;
 ///
 /// It keeps no events: whoever does adds each to its own list, and each call says of which history of the class this is
 /// what stands. No call's time grows with what came before.
-#[derive(Debug, Drop)]
+#[derive(Drop)]
 pub struct ClassState {
     class: ClassId,
     label: Label,

@@ -11,7 +11,7 @@ use std::sync::Wait;
 use std::thread;
 
 /// The lock was found taken as often as the patience allows.
-#[derive(Debug, Drop)]
+#[derive(Drop)]
 pub struct GaveUp;
 
 impl<R: Keeps> InitTable<R> {

@@ -6,7 +6,7 @@ use frames::{Frames, Thrown};
 use heap::{Heap, Monitors};
 
 /// What runs the code of one thread: its frames, its heap and monitors, and how many instructions it may still begin.
-#[derive(Debug, Drop)]
+#[derive(Drop)]
 pub struct Interpreter {
     /// The frames of the bodies that run, one within the other.
     pub(crate) frames: Frames,

@@ -10,7 +10,7 @@ use std::alloc::Global;
 use std::mem::swap;
 
 /// What was made, and who holds which monitor.
-#[derive(Debug, Drop)]
+#[derive(Drop)]
 pub struct Objects {
     /// What was made.
     pub(crate) heap: Heap,

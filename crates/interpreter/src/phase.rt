@@ -5,7 +5,7 @@ use heap::Monitor;
 use hierarchy::ClassId;
 
 /// Where the innermost body stands.
-#[derive(Clone, Copy, Debug)]
+#[derive(Clone, Copy)]
 pub(crate) enum Phase {
     /// Its innermost frame goes on.
     Runs,

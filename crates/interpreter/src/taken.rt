@@ -8,7 +8,7 @@ use std::alloc::{AllocError, Global};
 use std::marker::Model;
 
 /// A monitor that a method took.
-#[derive(Clone, Copy, Debug)]
+#[derive(Clone, Copy)]
 pub struct TakenMonitor {
     /// How many frames there were, with the method's.
     pub depth: usize,
@@ -17,7 +17,7 @@ pub struct TakenMonitor {
 }
 
 /// The monitors that methods took whose frames are there. Contracts see the innermost first.
-#[derive(Debug, Drop)]
+#[derive(Drop)]
 pub(crate) struct TakenMonitors {
     items: Vec<TakenMonitor>,
 }

@@ -4,7 +4,7 @@ use jasmin_words::FaultKind;
 
 /// What is wrong with a file, and on which line, counted from 1. Where the kind is want of memory the line
 /// is the one at which memory ran out.
-#[derive(Clone, Copy, Debug, PartialEq, Eq)]
+#[derive(Clone, Copy, PartialEq, Eq)]
 pub struct ReadFault {
     /// What is wrong.
     pub kind: FaultKind,

@@ -8,7 +8,7 @@ use jasmin_words::name::MemberName;
 use sequence::{Sequence, Text};
 
 /// Whether a class text is of a class or of an interface.
-#[derive(Clone, Copy, Debug, PartialEq, Eq)]
+#[derive(Clone, Copy, PartialEq, Eq)]
 pub enum ClassKind {
     /// `.class`
     Class,
@@ -17,7 +17,7 @@ pub enum ClassKind {
 }
 
 /// An int or a text, as a field's value or an operand of `ldc`.
-#[derive(Debug, Drop)]
+#[derive(Drop)]
 pub enum Constant {
     /// An int.
     Int(i32),
@@ -26,7 +26,7 @@ pub enum Constant {
 }
 
 /// A field.
-#[derive(Debug, Drop)]
+#[derive(Drop)]
 pub struct Field {
     /// Its access words.
     pub access: Access,
@@ -39,7 +39,7 @@ pub struct Field {
 }
 
 /// A row of a handler table (JVMS SE 8 4.7.3). Rows stand in file order, and an empty range holds nothing.
-#[derive(Debug, Drop)]
+#[derive(Drop)]
 pub struct Handler {
     /// The class that is caught, `None` for all.
     pub class: Option<ClassName>,
@@ -52,7 +52,7 @@ pub struct Handler {
 }
 
 /// The body of a method.
-#[derive(Debug, Drop)]
+#[derive(Drop)]
 pub struct Code {
     /// The most operands on the stack, at most 1,024.
     pub stack: u16,
@@ -66,7 +66,7 @@ pub struct Code {
 }
 
 /// A method.
-#[derive(Debug, Drop)]
+#[derive(Drop)]
 pub struct Method {
     /// Its access words.
     pub access: Access,
@@ -79,7 +79,7 @@ pub struct Method {
 }
 
 /// The parts of a class or interface. [`crate::ClassText`] holds those that a file can spell.
-#[derive(Debug, Drop)]
+#[derive(Drop)]
 pub struct ClassParts {
     /// Class or interface.
     pub kind: ClassKind,

@@ -6,14 +6,12 @@
 
 use crate::boxed::Boxed;
 use crate::class_text::Constant;
-use crate::word::{canonical_form, word_of};
 use descriptors::{BaseType, ClassName, FieldType, MethodType};
 use jasmin_words::name::MemberName;
 use sequence::Sequence;
-use std::{fmt, str};
 
 /// Instructions without operands.
-#[derive(Clone, Copy, Debug, PartialEq, Eq)]
+#[derive(Clone, Copy, PartialEq, Eq)]
 pub enum Plain {
     /// `nop`
     Nop,
@@ -104,7 +102,7 @@ pub enum Plain {
 }
 
 /// Instructions with the number of a local.
-#[derive(Clone, Copy, Debug, PartialEq, Eq)]
+#[derive(Clone, Copy, PartialEq, Eq)]
 pub enum Local {
     /// `iload`
     ILoad,
@@ -117,7 +115,7 @@ pub enum Local {
 }
 
 /// Instructions with a target.
-#[derive(Clone, Copy, Debug, PartialEq, Eq)]
+#[derive(Clone, Copy, PartialEq, Eq)]
 pub enum Jump {
     /// `ifeq`
     IfEq,
@@ -156,7 +154,7 @@ pub enum Jump {
 }
 
 /// Instructions on a field.
-#[derive(Clone, Copy, Debug, PartialEq, Eq)]
+#[derive(Clone, Copy, PartialEq, Eq)]
 pub enum FieldAccess {
     /// `getstatic`
     GetStatic,
@@ -169,7 +167,7 @@ pub enum FieldAccess {
 }
 
 /// Calls but `invokeinterface`.
-#[derive(Clone, Copy, Debug, PartialEq, Eq)]
+#[derive(Clone, Copy, PartialEq, Eq)]
 pub enum Call {
     /// `invokestatic`
     InvokeStatic,
@@ -180,7 +178,7 @@ pub enum Call {
 }
 
 /// Instructions on a class or the type of an array.
-#[derive(Clone, Copy, Debug, PartialEq, Eq)]
+#[derive(Clone, Copy, PartialEq, Eq)]
 pub enum TypeUse {
     /// `anewarray`, whose operand is the type of the elements
     ANewArray,
@@ -191,7 +189,7 @@ pub enum TypeUse {
 }
 
 /// A class, or the type of an array.
-#[derive(Debug, Drop)]
+#[derive(Drop)]
 pub enum ReferenceType {
     /// A class or interface by its name.
     Class(ClassName),
@@ -200,7 +198,7 @@ pub enum ReferenceType {
 }
 
 /// A field as an instruction names it (JVMS SE 8 5.4.3.2).
-#[derive(Debug, Drop)]
+#[derive(Drop)]
 pub struct FieldReference {
     /// The class or interface that is named.
     pub class: ClassName,
@@ -211,7 +209,7 @@ pub struct FieldReference {
 }
 
 /// A method as an instruction names it (JVMS SE 8 5.4.3.3, 5.4.3.4).
-#[derive(Debug, Drop)]
+#[derive(Drop)]
 pub struct MethodReference {
     /// The class or interface that is named.
     pub class: ClassName,
@@ -255,13 +253,3 @@ pub enum Instruction<L> {
 }
 
 const _: () = prove!(size_of::<Instruction<u16>>() == 24);
-
-/// Shows the word of the instruction, without its operands.
-impl<L> fmt::Debug for Instruction<L> {
-    fn fmt<W: fmt::Write>(&self, f: &mut fmt::Formatter<W>) -> fmt::Result {
-        match str::from_utf8(word_of(canonical_form(self))) {
-            Ok(word) => f.write_str(word),
-            Err(_) => Err(fmt::Error),
-        }
-    }
-}

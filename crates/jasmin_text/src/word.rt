@@ -6,7 +6,6 @@ ghost use Rattle.jasmin_text.specs.Forms.{first_word as first_word_at, word_of a
 ghost use Rattle.jasmin_text.specs.BaseWords.{base_word as base_word_spelling};
 
 use crate::form::{FORMS, Form};
-use crate::instruction::Instruction;
 use descriptors::BaseType;
 
 /// The canonical word of what asks for this: the first such word of the table. It is empty where the table has none.
@@ -40,24 +39,5 @@ pub(crate) fn base_word(base: BaseType) -> &'static [u8]
         BaseType::Char => b"char",
         BaseType::Short => b"short",
         BaseType::Int => b"int",
-    }
-}
-
-/// What the canonical word of an instruction asks for.
-pub(crate) fn canonical_form<L>(instruction: &Instruction<L>) -> Form {
-    match instruction {
-        Instruction::Plain(plain) => Form::Plain(*plain),
-        Instruction::Constant(_) => Form::Constant,
-        Instruction::Local(local, _) => Form::Local(*local),
-        Instruction::Increment(_, _) => Form::Increment,
-        Instruction::Jump(jump, _) => Form::Jump(*jump),
-        Instruction::TableSwitch(_, _, _) => Form::TableSwitch,
-        Instruction::LookupSwitch(_, _) => Form::LookupSwitch,
-        Instruction::Field(access, _) => Form::Field(*access),
-        Instruction::Call(call, _) => Form::Call(*call),
-        Instruction::CallInterface(_) => Form::CallInterface,
-        Instruction::New(_) => Form::New,
-        Instruction::NewArray(_) => Form::NewArray,
-        Instruction::TypeUse(type_use, _) => Form::TypeUse(*type_use),
     }
 }

@@ -15,7 +15,7 @@ use sequence::{Name, NameKind};
 pub type MemberName = Name<MemberNameKind>;
 
 /// The kind of names that fields and methods have. See [`MemberName`].
-#[derive(Debug, Drop)]
+#[derive(Drop)]
 pub struct MemberNameKind;
 
 impl NameKind for MemberNameKind {

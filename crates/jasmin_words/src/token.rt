@@ -16,7 +16,7 @@ use std::alloc::{AllocError, Global};
 pub const MOST_BYTES: usize = 65_535;
 
 /// A word of a line, or what is wrong in its place.
-#[derive(Debug, Drop)]
+#[derive(Drop)]
 pub enum Token<'a> {
     /// A word of ASCII bytes from 33 to 126, of any length. It has no `"`, `=` and `:`.
     Word(&'a [u8]),

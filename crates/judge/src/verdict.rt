@@ -1,7 +1,7 @@
 //! What is answered of a list of events.
 
 /// What the first illegal event breaks.
-#[derive(Clone, Copy, Debug, PartialEq, Eq)]
+#[derive(Clone, Copy, PartialEq, Eq)]
 pub enum Rule {
     /// What the thread does: its events are no longer the beginning of what a thread of its main class does, or no such
     /// thread is there.
@@ -15,7 +15,7 @@ pub enum Rule {
 }
 
 /// Whether a list of events is a legal interleaving.
-#[derive(Clone, Copy, Debug, PartialEq, Eq)]
+#[derive(Clone, Copy, PartialEq, Eq)]
 pub enum Verdict {
     /// It is one.
     Legal,

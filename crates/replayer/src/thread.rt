@@ -21,7 +21,7 @@ use std::alloc::{AllocError, Global};
 use std::snapshot::Snapshot;
 
 /// What a turn of a thread comes to.
-#[derive(Clone, Copy, Debug, PartialEq, Eq)]
+#[derive(Clone, Copy, PartialEq, Eq)]
 pub(crate) enum Turn {
     /// One event was made.
     Event,

@@ -18,7 +18,7 @@ pub trait NameKind {
 }
 
 /// A text that is a name of the kind `K`. Contracts see a name as its bytes.
-#[derive(Debug, Drop)]
+#[derive(Drop)]
 pub struct Name<K: NameKind> {
     text: Text,
     kind: PhantomData<K>,

@@ -13,7 +13,7 @@ use std::marker::Model;
 /// The static fields of a class in file order, with what each holds.
 ///
 /// A field is found by its place among the class's static fields, from 0.
-#[derive(Debug, Drop)]
+#[derive(Drop)]
 pub struct Bank {
     fields: Vec<StaticField>,
     values: Vec<Value>,

@@ -10,7 +10,7 @@ use hierarchy::{ClassId, Program, Value, static_count};
 use jasmin_text::{Constant, Field};
 
 /// A static field of one class.
-#[derive(Clone, Copy, Debug, PartialEq, Eq)]
+#[derive(Clone, Copy, PartialEq, Eq)]
 pub struct StaticField {
     /// The base type, or none where the field holds references.
     pub base: Option<BaseType>,

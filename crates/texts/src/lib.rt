@@ -17,7 +17,7 @@ use std::collections::BTreeMap;
 use std::marker::Model;
 
 /// Byte strings in the order in which they were noted, each once, found by their bytes.
-#[derive(Debug, Drop)]
+#[derive(Drop)]
 pub struct Texts {
     /// The place of each text.
     places: BTreeMap<Vec<u8>, usize>,

@@ -19,7 +19,7 @@ use std::{array, thread};
 use trace::{Limits, Report, ThreadOutcome};
 
 /// How many events there are of each step.
-#[derive(Clone, Copy, Debug, PartialEq, Eq)]
+#[derive(Clone, Copy, PartialEq, Eq)]
 struct Steps {
     waits: usize,
     finds_initialized: usize,

@@ -5,7 +5,7 @@ use init_core::{Event, Label};
 use sequence::{Sequence, Text};
 
 /// What the machine ends a thread for.
-#[derive(Clone, Copy, Debug, PartialEq, Eq)]
+#[derive(Clone, Copy, PartialEq, Eq)]
 pub enum Limit {
     /// It began as many instructions as it may; it ends by InternalError.
     Steps,
@@ -16,7 +16,7 @@ pub enum Limit {
 }
 
 /// How a thread ended.
-#[derive(Clone, Copy, Debug, PartialEq, Eq)]
+#[derive(Clone, Copy, PartialEq, Eq)]
 pub enum ThreadOutcome {
     /// All that it did completed normally.
     Normal,
@@ -27,7 +27,7 @@ pub enum ThreadOutcome {
 }
 
 /// How far a thread may go.
-#[derive(Clone, Copy, Debug, PartialEq, Eq)]
+#[derive(Clone, Copy, PartialEq, Eq)]
 pub struct Limits {
     /// The instructions that a thread may begin: 1 to 100,000,000.
     pub steps: u32,
@@ -45,7 +45,7 @@ impl Limits {
 }
 
 /// What a run was.
-#[derive(Debug, Drop)]
+#[derive(Drop)]
 pub struct Report {
     /// How each thread ended, by its number.
     pub outcomes: Sequence<ThreadOutcome>,

@@ -51,7 +51,7 @@ impl fmt::Display for TraceFaultKind {
 impl Error for TraceFaultKind {}
 
 /// What is wrong with a trace, and on which line: the first fault, line by line, and in a line the leftmost.
-#[derive(Clone, Copy, Debug, PartialEq, Eq)]
+#[derive(Clone, Copy, PartialEq, Eq)]
 pub struct TraceFault {
     /// What is wrong.
     pub kind: TraceFaultKind,

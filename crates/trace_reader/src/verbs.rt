@@ -9,7 +9,7 @@ use crate::words::{Read, same};
 use sequence::Refusal;
 
 /// What a thread does at a class.
-#[derive(Clone, Copy, Debug)]
+#[derive(Clone, Copy)]
 pub(crate) enum Deed {
     /// `step2`
     Waits,
@@ -36,7 +36,7 @@ pub(crate) enum Deed {
 }
 
 /// What the third word says.
-#[derive(Clone, Copy, Debug)]
+#[derive(Clone, Copy)]
 pub(crate) enum Verb {
     /// What a thread does at the class that follows.
     AtClass(Deed),
