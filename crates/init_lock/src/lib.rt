@@ -69,7 +69,7 @@
 //! Make the table and one pass a thread with [`InitTable::new`]; give each thread its pass and `&InitTable`; `reserve`,
 //! then take, change the record by [`Held::kept`], [`InitTable::draw_held`], [`InitTable::give_back`]; draw events of no
 //! place by [`InitTable::draw`]; at the end hand all passes to `finish`, and their journals to [`merge`], which makes one
-//! list of them, in the order of the stamps. `thread_tests/src/lock.rt` has small examples.
+//! list of them, in the order of the stamps. `library_tests/src/lock.rt` has small examples.
 //!
 //! A word beside each lock word is kept free in the layout, for places that are settled for good: [`Keeps`] already says
 //! which events settle a place.
