@@ -1,15 +1,17 @@
 //! Rounds by the bare steps that a lock makes: an exchange on its word, a `fetch_add` on the counter, and a store that frees
 //! the word.
 
+ghost use Rattle.std.specs.Prelude.{◌<◌, ◌≤◌};
+
 use std::alloc::{AllocError, Global};
 use std::sync::atomic::{AtomicU64, Ordering};
 use std::thread;
 use std::thread::Threads;
 
-/// The word of a lock behind a counter, laid as a table of one record lays them: eight words fill a cache line.
-pub(crate) fn one_lock(alloc: Global) -> Result<Vec<AtomicU64>, AllocError> {
+/// The words of four locks behind a counter, laid as a table lays them: eight words fill a cache line.
+pub(crate) fn four_locks(alloc: Global) -> Result<Vec<AtomicU64>, AllocError> {
     let mut words = Vec::new(alloc);
-    for _ in 0..16 {
+    for _ in 0..40 {
         words.push(AtomicU64::new(0))?;
     }
     Ok(words)
@@ -36,9 +38,11 @@ fn take(lock: &AtomicU64) {
     }
 }
 
-// The rounds of one thread.
-fn rounds_of(words: &[AtomicU64], rounds: usize) {
-    let (Some(counter), Some(lock)) = (words.first(), words.get(8)) else {
+// The rounds of one thread, on one lock.
+fn rounds_of(words: &[AtomicU64], place: usize, rounds: usize)
+    requires { place < 4 }
+{
+    let (Some(counter), Some(lock)) = (words.first(), words.get(place * 8 + 8)) else {
         return;
     };
     for _ in 0..rounds {
@@ -54,13 +58,18 @@ pub(crate) fn in_threads<R: Threads + Sync>(
     alloc: Global,
     words: &[AtomicU64],
     threads: usize,
+    records: usize,
     rounds: usize,
-) -> Result<(), AllocError> {
+) -> Result<(), AllocError>
+    requires { (0 < records) × (records ≤ 4) }
+{
     let _ends = thread::map_indices(
         rt,
         alloc,
         threads,
-        &|_number: usize| rounds_of(words, rounds),
+        &|number: usize|
+            requires { (0 < records) × (records ≤ 4) }
+        { rounds_of(words, number % records, rounds) },
     )?;
     Ok(())
 }

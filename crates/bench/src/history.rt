@@ -38,11 +38,15 @@ fn blank_history(alloc: Global, room: usize) -> Result<History, AllocError>
     })
 }
 
-/// One record that keeps nothing, with room for so many events.
-pub fn one_history(alloc: Global, room: usize) -> Result<Vec<History>, AllocError>
-    ensures one { IfOk result (λ records. vec_len records ≡ 1) }
+/// So many records that keep nothing. The first and each eighth behind it have room for so many events.
+pub fn histories(alloc: Global, count: usize, room: usize) -> Result<Vec<History>, AllocError>
+    ensures count { IfOk result (λ records. vec_len records ≡ count) }
     ensures blank { IfOk result (λ records. AllByRecursion (λ r. r.events.items ≡ []) records.items) }
 {
-    let records = vec![in alloc; blank_history(alloc, room)?]?;
+    let mut records = Vec::new(alloc);
+    'records: while records.len() < count {
+        let room = if records.len() % 8 == 0 { room } else { 0 };
+        records.push(blank_history(alloc, room)?)?;
+    }
     Ok(records)
 }

@@ -52,37 +52,40 @@ fn often<W: Wait>(
     }
 }
 
-// The rounds of one thread.
+// The rounds of one thread, on one of so many records, which lie eight places apart: the slots of eight places fill a cache line.
 fn rounds_of<W: Wait>(
     rt: &W,
     table: &InitTable<History>,
     mut pass: Pass<History>,
+    records: usize,
     rounds: usize,
 ) -> Result<(), AllocError>
     requires pass { IsReady table.now.id pass }
-    requires record { 0 < table.now.places }
+    requires records { (table.now.places ≡ 32) × (0 < records) × (records ≤ 4) }
 {
     pass.reserve(rounds)?;
-    often(rt, table, &mut pass, 0, rounds);
+    let place = pass.number() % records * 8;
+    often(rt, table, &mut pass, place, rounds);
     Ok(())
 }
 
-// A thread for each pass makes so many rounds, all on the first record.
+// A thread for each pass makes so many rounds.
 pub(crate) fn in_threads<R: Threads + Wait + Sync>(
     rt: &R,
     table: &InitTable<History>,
     passes: Vec<Pass<History>>,
+    records: usize,
     rounds: usize,
 ) -> Result<(), AllocError>
     requires passes { AllByRecursion (IsReady table.now.id) passes.items }
-    requires record { 0 < table.now.places }
+    requires records { (table.now.places ≡ 32) × (0 < records) × (records ≤ 4) }
 {
     let ends = thread::map_vec(
         rt,
         passes,
         &|pass: Pass<History>| -> Result<(), AllocError>
-            requires { IsReady table.now.id pass × (0 < table.now.places) }
-        { rounds_of(rt, table, pass, rounds) },
+            requires { IsReady table.now.id pass × (table.now.places ≡ 32) × (0 < records) × (records ≤ 4) }
+        { rounds_of(rt, table, pass, records, rounds) },
     )?;
     for end in ends {
         end?;
