@@ -52,6 +52,9 @@ def along_the_graph():
     crates = [*program.below(), program]
     held = rtlib.lock(crates)
     done = []
+    if not any(it.has_kept() for it in crates):
+        # (with several jobs a proof from nothing takes a quarter less time where nothing is kept of its parts)
+        rtlib.KEPT = []
 
     def build(crate, jobs):
         crate = copy.copy(crate)

@@ -1,15 +1,16 @@
 """Tasks side by side, in the place of the kit's `in_lanes`.
 
-Proofs that others wait for come first, and those with much work: with the longest path of others behind them, and with several
-jobs where processors are idle. Short proofs, tests and edits, which no proof waits for, run beside them on as many lanes at a
-lower priority, so that they take what those leave."""
+One task leads: that with the longest path of others after it, with as many jobs as there are processors. The other proofs that
+proofs wait for, and what has much work, run beside it at a lower priority, with several jobs where lanes are idle; and at a
+still lower one short proofs and tests, and edits. So each takes what those before it leave: no task has work for all processors
+all the time."""
 import os
 from concurrent.futures import FIRST_COMPLETED, ThreadPoolExecutor, wait
 
 # What a call answers that is to be called once more, and one that leaves nothing to do for the other shares of its work.
 AGAIN, NO_MORE = object(), object()
-# The priority of what no proof waits for.
-NICE = 10
+# The priorities: of the task that leads, of what others wait for and what is long, and of the others.
+LEAD, FRONT, BACK = 0, 5, 10
 
 
 def paths(tasks):
@@ -24,17 +25,17 @@ def paths(tasks):
     return found
 
 
-def step_back():
-    """Gives the calling thread, and all that it starts, a lower priority."""
-    os.setpriority(os.PRIO_PROCESS, 0, max(NICE, os.getpriority(os.PRIO_PROCESS, 0)))
+def step_back(priority):
+    """Gives the calling thread, and all that it starts, at most this priority."""
+    os.setpriority(os.PRIO_PROCESS, 0, max(priority, os.getpriority(os.PRIO_PROCESS, 0)))
 
 
 class Lanes:
     """Lanes of one priority: how many are idle, and the pool of threads that runs what is on them."""
 
-    def __init__(self, number, **how):
-        self.idle = number
-        self.pool = ThreadPoolExecutor(number, **how)
+    def __init__(self, number, priority):
+        self.number = self.idle = number
+        self.pool = ThreadPoolExecutor(number, initializer=step_back, initargs=(priority,))
 
 
 def run(tasks, given, processors, memory, memory_for):
@@ -43,7 +44,7 @@ def run(tasks, given, processors, memory, memory_for):
     says."""
     behind = paths(tasks)
     waited_for = {it for key in tasks if key[1] == "proof" for it in tasks[key][0]}
-    front, back = Lanes(processors), Lanes(processors, initializer=step_back)
+    lead, front, back = [Lanes(processors, it) for it in (LEAD, FRONT, BACK)]
     left, running = [*tasks], {}
 
     def is_ready(key):
@@ -53,18 +54,21 @@ def run(tasks, given, processors, memory, memory_for):
         """Whether it has at least half of the longest path that is left."""
         return key[1] != "edits" and 2 * behind[key] >= max(behind[it] for it in tasks if it not in given)
 
-    def lanes_of(key):
-        return front if key[1] == "proof" and (key in waited_for or is_long(key)) else back
+    def lanes_of(key, leader):
+        return lead if key == leader else front if key in waited_for or is_long(key) else back
 
     def start():
         """Starts what there is room for: first what gathers the results of a crate's edits, so that the crate is kept, then tests,
         then edits, and of each what has the longest path behind it."""
         left.sort(key=lambda it: (len(it) > 2 and it[1] == "edits", it[1] != "edits", -behind[it]))
-        for lanes in front, back:
-            ready = [it for it in left if is_ready(it) and lanes_of(it) is lanes]
+        long = [it for it in left if is_ready(it) and is_long(it)] if lead.idle == lead.number else []
+        leader = max(long, key=lambda it: behind[it], default=None)
+        for lanes in lead, front, back:
+            ready = [it for it in left if is_ready(it) and lanes_of(it, leader) is lanes]
             for at, key in enumerate(ready):
-                # (one job, and more on a long path where processors are idle)
-                jobs = (-(-lanes.idle // (len(ready) - at)) if is_long(key) else 1) if lanes.idle > 0 else 0
+                # (one job; more on a long path where lanes are idle, but not all of them unless it leads: others may come)
+                most = lanes.number if key == leader else -(-lanes.number // 2) if is_long(key) else 1
+                jobs = min(most, -(-lanes.idle // (len(ready) - at)))
                 taken = sum(memory_for(it) for _, it, _ in running.values())
                 while jobs and running and taken + memory_for(jobs) > memory:
                     jobs -= 1
@@ -87,5 +91,5 @@ def run(tasks, given, processors, memory, memory_for):
                     left.remove(other)
                     given[other] = NO_MORE
         start()
-    for lanes in front, back:
+    for lanes in lead, front, back:
         lanes.pool.shutdown()

@@ -159,10 +159,12 @@ class Gate:
         for key, (waits, lines, _, call) in tasks.items():
             crate = self.crates[key[0]]
             proof = crate.name, "proof"
+            # (what is taken from an earlier run is no work)
+            work = 0 if self.known[crate.name] else kit.weight(self.rt, crate)
             if key == proof:
-                made[key] = waits, kit.weight(self.rt, crate), self.timed("proofs", key, call)
+                made[key] = waits, work, self.timed("proofs", key, call)
             elif key[1] == "tests":
-                made[key] = [*waits, proof], lines, self.timed("tests", key, call)
+                made[key] = [*waits, proof], work if lines else 0, self.timed("tests", key, call)
             else:
                 made.update(self.edit_tasks(crate, waits, lines))
         given = self.taken_at_once(made)
