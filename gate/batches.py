@@ -15,7 +15,7 @@ import places
 from tally import say
 
 # How many edits a batch has at most: with more, an edit that is refused slowly holds up many others.
-MOST = 16
+MOST = 24
 # How many functions that no edit changes a batch may have the prover look at again: each takes a second, a batch more some fifteen.
 BETWEEN = 8
 # An edit that takes more seconds than these to be refused is shown: another one of the same meaning may take less.

@@ -89,15 +89,18 @@ def name_at(crate, path, text, at, names):
     indent, name = FUNCTION.match(lines[head]).groups()
     module = module_of(crate, path)
     if not indent:
-        wanted = re.escape(module) + "::" + re.escape(name)
-    else:
-        owner = owner_of(lines, head) if len(indent) == 4 else None
-        if owner is None:
-            return None
-        of, trait = owner
-        # (an inherent method is named after its type's module, wherever the impl stands)
-        start = re.escape(module) + "::" if trait else re.escape(crate) + "::(?:.*::)?"
-        wanted = f"{start}[^:]*{re.escape(of)}[^:]*{re.escape(trait)}[^:]*::{re.escape(name)}"
+        return only(names, re.escape(module) + "::" + re.escape(name))
+    owner = owner_of(lines, head) if len(indent) == 4 else None
+    if owner is None:
+        return None
+    of, trait = map(re.escape, owner)
+    # (an inherent method is named after its type's module, wherever the impl stands)
+    start = re.escape(module) + "::" if trait else re.escape(crate) + "::(?:.*::)?"
+    return only(names, rf"{start}{of}(?:\+[^:]*)?{trait}::{re.escape(name)}") or only(names, f"{start}[^:]*{of}[^:]*{trait}[^:]*::{re.escape(name)}")
+
+
+def only(names, wanted):
+    """The one of these names that is so written, or None."""
     fits = [it for it in names if re.fullmatch(wanted, it)]
     return fits[0] if len(fits) == 1 else None
 
