@@ -290,11 +290,11 @@ impl Listing {
     fn push(&mut self, instruction: Instruction<Text>) -> Result<(), AllocError>
         ensures { OnOk result (self.new ≡ with_listed self.old (InstructionRow instruction)) }
     {
-        if self.room != 0 {
-            self.instructions.push(instruction)?;
-            self.room -= 1;
+        if self.room == 0 {
+            return Ok(());
         }
-        Ok(())
+        self.room -= 1;
+        self.instructions.push(instruction)
     }
 
     /// The lines of a switch follow, where there is room for it.
@@ -337,8 +337,7 @@ impl Listing {
             None => Ok(()),
             Some(switch) => {
                 let instruction = switch.ended(alloc, label)?;
-                self.instructions.push(instruction)?;
-                Ok(())
+                self.instructions.push(instruction)
             }
         }
     }

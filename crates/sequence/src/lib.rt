@@ -18,7 +18,7 @@ mod refusal;
 
 pub use name::{Name, NameKind};
 pub use refusal::Refusal;
-use std::alloc::{AllocError, AllocFailed, Global};
+use std::alloc::{AllocError, Global};
 use std::marker::Model;
 
 /// A list that owns its memory.
@@ -85,9 +85,11 @@ impl<T> Sequence<T> {
     {
         self.items.as_slice()
     }
+}
 
-    /// Adds an element at the end. An `Err` is want of memory, gives the element back and changes nothing.
-    pub fn push(&mut self, item: T) -> Result<(), AllocFailed<T>>
+impl<T: Drop> Sequence<T> {
+    /// Adds an element at the end. An `Err` is out of memory, drops the element and changes nothing.
+    pub fn push(&mut self, item: T) -> Result<(), AllocError>
         ensures ok { OnOk result (self.new ≡ self.old ++ item ∷ []) }
         ensures err { OnErr result (self.new ≡ self.old) }
     {
