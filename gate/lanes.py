@@ -1,8 +1,8 @@
 """Tasks side by side, in the place of the kit's `in_lanes`.
 
-One task leads: that with the longest path of others after it, with as many jobs as there are processors. The other proofs that
-proofs wait for, and what has much work, run beside it at a lower priority, with several jobs where lanes are idle; and at a
-still lower one short proofs and tests, and edits. So each takes what those before it leave: no task has work for all processors
+One task leads: that with the longest path of others after it, with nearly as many jobs as there are processors. The other proofs
+that proofs wait for, and what has much work, run beside it at a lower priority, with several jobs where lanes are idle; and at
+a still lower one short proofs and tests, and edits. So each takes what those before it leave: no task has work for all processors
 all the time."""
 import os
 from concurrent.futures import FIRST_COMPLETED, ThreadPoolExecutor, wait
@@ -66,9 +66,11 @@ def run(tasks, given, processors, memory, memory_for):
         for lanes in lead, front, back:
             ready = [it for it in left if is_ready(it) and lanes_of(it, leader) is lanes]
             for at, key in enumerate(ready):
-                # (one job; more on a long path where lanes are idle, but not all of them unless it leads: others may come)
-                most = lanes.number if key == leader else -(-lanes.number // 2) if is_long(key) else 1
-                jobs = min(most, -(-lanes.idle // (len(ready) - at)))
+                # (one job; several on a long path where lanes are idle. What leads leaves others a processor, as all jobs together
+                # take a third more of the processors' time than one)
+                others = len(running) + len([it for it in left if is_ready(it)]) > 1
+                most = lanes.number - others if key == leader else -(-lanes.number // 2) if is_long(key) else 1
+                jobs = min(max(most, 1), -(-lanes.idle // (len(ready) - at)))
                 taken = sum(memory_for(it) for _, it, _ in running.values())
                 while jobs and running and taken + memory_for(jobs) > memory:
                     jobs -= 1
