@@ -1,6 +1,6 @@
 //! Why a list of events is illegal, in words.
 
-ghost use Rattle.std.specs.Prelude.{◌≡◌, ◌≢◌, ◌≤◌, [], IfOk, OnOk, vec_len};
+ghost use Rattle.std.specs.Prelude.{◌≡◌, ◌≢◌, ◌≤◌, [], IfOk, false, vec_len};
 ghost use Rattle.judge.specs.declared.verdict.Verdict.TheVariants as verdicts;
 
 use crate::judge::Judge;
@@ -47,83 +47,79 @@ fn condition_of(kind: &Kind) -> &'static str {
 
 impl Words<'_> {
     /// What the field of a read or write holds, where the class has it.
-    fn held(&mut self, state: Option<&ClassState>, kind: &Kind) -> Result<(), AllocError> {
+    fn held(&mut self, state: Option<&ClassState>, kind: &Kind) {
         match (state, kind) {
             (Some(state), Kind::Gets { field, .. }) if *field < state.static_fields() => {
-                self.say("the field holds ")?;
+                self.say("the field holds ");
                 self.value(state.value(*field))
             }
             _ => self.say("the class has no such field"),
         }
     }
 
-    /// The rule that an event breaks.
-    fn broken(&mut self, judge: &Judge, event: &Event, rule: Rule) -> Result<(), AllocError>
-        ensures { OnOk result (1 ≤ vec_len self.new.text) }
+    /// The rule that an event of this kind breaks.
+    fn broken(&mut self, judge: &Judge, class: Option<ClassId>, kind: &Kind, rule: Rule)
+        ensures { self.new.is_lost ≡ false → 1 ≤ vec_len self.new.text }
     {
-        let kind = event.kind()?;
         match rule {
-            Rule::Word => self.say("JLS SE 8 12.4.2 lets the thread do no other thing here")?,
+            Rule::Word => self.say("JLS SE 8 12.4.2 lets the thread do no other thing here"),
             Rule::Label => {
-                self.say("JLS SE 8 12.4.2: ")?;
-                self.say(condition_of(&kind))?;
+                self.say("JLS SE 8 12.4.2: ");
+                self.say(condition_of(kind));
             }
             Rule::Value | Rule::End => {
-                let state = match event.class() {
+                let state = match class {
                     Some(class) => judge.classes.states.get(class.number),
                     None => None,
                 };
-                self.held(state, &kind)?;
+                self.held(state, kind);
             }
         }
-        self.say("\n")
+        self.say("\n");
     }
 
     /// What a thread is doing, the innermost open class first, and what it could do next.
-    fn thread_state(&mut self, thread: usize, reader: &Reader) -> Result<(), AllocError> {
+    fn thread_state(&mut self, thread: usize, reader: &Reader) {
         let open = reader.procedures.open_classes();
         'open: for class in open.iter().rev() {
-            self.open_class(thread, class)?;
+            self.open_class(thread, class);
         }
         if open.is_empty() {
-            self.outside(thread, reader.has_ended())?;
+            self.outside(thread, reader.has_ended());
         }
-        self.possible(thread, reader)
+        self.possible(thread, reader);
     }
 
     /// Of an illegal event: what it is, what its thread was doing, the label of its class, and the rule that it breaks.
-    fn illegal_event(
-        &mut self,
-        alloc: Global,
-        judge: &Judge,
-        event: &Event,
-        rule: Rule,
-    ) -> Result<(), AllocError>
-        ensures { OnOk result (1 ≤ vec_len self.new.text) }
+    fn illegal_event(&mut self, alloc: Global, judge: &Judge, event: &Event, rule: Rule)
+        ensures { self.new.is_lost ≡ false → 1 ≤ vec_len self.new.text }
     {
-        self.event(alloc, event)?;
+        self.event(alloc, event);
         let thread = event.thread();
         match judge.readers.of_threads.get(thread) {
-            Some(reader) => self.thread_state(thread, reader)?,
-            None => self.no_thread(thread)?,
+            Some(reader) => self.thread_state(thread, reader),
+            None => self.no_thread(thread),
         }
         if let Some(class) = event.class() {
-            self.label_line(class)?;
+            self.label_line(class);
         }
-        self.broken(judge, event, rule)
+        match event.kind() {
+            Ok(kind) => self.broken(judge, event.class(), &kind, rule),
+            Err(_) => self.lose(),
+        }
     }
 
     /// Of a list that ends too early: each thread that has not ended what it began.
-    fn unfinished(&mut self, judge: &Judge) -> Result<(), AllocError>
-        ensures { OnOk result (1 ≤ vec_len self.new.text) }
+    fn unfinished(&mut self, judge: &Judge)
+        ensures { self.new.is_lost ≡ false → 1 ≤ vec_len self.new.text }
     {
-        self.say("the trace ends there\n")?;
+        self.say("the trace ends there\n");
         'readers: for (thread, reader) in judge.readers.of_threads.iter().enumerate() {
             if !reader.may_stop() {
-                self.thread_state(thread, reader)?;
+                self.thread_state(thread, reader);
             }
         }
-        self.say("JLS SE 8 12.4.2: each thread goes on until all that it has begun is ended\n")
+        self.say("JLS SE 8 12.4.2: each thread goes on until all that it has begun is ended\n");
     }
 }
 
@@ -152,8 +148,8 @@ pub fn explain(
     let judge = judge_after(alloc, program, mains, before)?;
     let mut words = Words::new(alloc, program, before);
     match events.get(number) {
-        Some(event) => words.illegal_event(alloc, &judge, event, rule)?,
-        None => words.unfinished(&judge)?,
+        Some(event) => words.illegal_event(alloc, &judge, event, rule),
+        None => words.unfinished(&judge),
     }
-    Ok(words.into_text())
+    words.into_text()
 }

@@ -1,6 +1,6 @@
 //! The state of threads and classes after some events, in words.
 
-ghost use Rattle.std.specs.Prelude.{◌≡◌, ◌++◌, OnOk};
+ghost use Rattle.std.specs.Prelude.{◌≡◌, ◌++◌, false, true, IfOk};
 
 use crate::items::ending_error;
 use crate::open_class::{OpenClass, Stage};
@@ -14,12 +14,14 @@ use trace::{write_class_name, write_trace};
 /// The errors by which the machine ends a thread.
 const MACHINE_ERRORS: &str = " java/lang/InternalError or java/lang/OutOfMemoryError";
 
-/// A text about the events of a program.
+/// A text about the events of a program. Out of memory, what is said is lost, and so is all that follows.
 #[derive(Drop)]
 pub(crate) struct Words<'a> {
     program: &'a Program,
     events: &'a [Event],
     text: Vec<u8>,
+    /// Whether anything is lost.
+    is_lost: bool,
 }
 
 /// The label that an event of this kind gives its class, if it gives one.
@@ -32,6 +34,13 @@ fn label_by(thread: usize, kind: &Kind) -> Option<Label> {
     }
 }
 
+/// An event as the line of a trace.
+fn line_of(alloc: Global, program: &Program, event: &Event) -> Result<Vec<u8>, AllocError> {
+    let mut alone = Vec::new(alloc);
+    alone.push(event.clone()?)?;
+    write_trace(alloc, program, &alone)
+}
+
 impl<'a> Words<'a> {
     /// No words, about these events of a program.
     pub(crate) fn new(alloc: Global, program: &'a Program, events: &'a [Event]) -> Self {
@@ -39,46 +48,73 @@ impl<'a> Words<'a> {
             program,
             events,
             text: Vec::new(alloc),
+            is_lost: false,
         }
     }
 
-    pub(crate) fn into_text(self) -> Vec<u8>
-        ensures { result ≡ self.entry.text }
+    /// The text. An `Err` is that something is lost.
+    pub(crate) fn into_text(self) -> Result<Vec<u8>, AllocError>
+        ensures whole { IfOk result (λ text. self.entry.is_lost ≡ false) }
+        ensures same { IfOk result (λ text. text ≡ self.entry.text) }
     {
-        let Words { text, .. } = self;
-        text
+        let Words { text, is_lost, .. } = self;
+        if is_lost { Err(AllocError) } else { Ok(text) }
     }
 }
 
 impl Words<'_> {
-    pub(crate) fn say(&mut self, words: &str) -> Result<(), AllocError>
-        ensures { OnOk result (self.new.text.items ≡ self.old.text.items ++ words.now) }
+    /// Something is lost.
+    pub(crate) fn lose(&mut self)
+        ensures { self.new.is_lost ≡ true }
     {
-        self.text.extend_from_slice(words.as_bytes())
+        self.is_lost = true;
     }
 
-    fn class(&mut self, class: ClassId) -> Result<(), AllocError> {
-        write_class_name(&mut self.text, self.program, class)
+    fn note(&mut self, said: Result<(), AllocError>) {
+        if said.is_err() {
+            self.lose();
+        }
     }
 
-    fn thread(&mut self, thread: usize) -> Result<(), AllocError> {
-        self.say("t")?;
-        push_decimal(&mut self.text, thread)
+    pub(crate) fn say(&mut self, words: &str)
+        ensures { self.new.is_lost ≡ false → self.new.text.items ≡ self.old.text.items ++ words.now }
+    {
+        if self.text.extend_from_slice(words.as_bytes()).is_err() {
+            self.lose();
+        }
     }
 
-    pub(crate) fn value(&mut self, value: Value) -> Result<(), AllocError> {
+    fn class(&mut self, class: ClassId) {
+        let said = write_class_name(&mut self.text, self.program, class);
+        self.note(said);
+    }
+
+    fn number(&mut self, number: usize) {
+        let said = push_decimal(&mut self.text, number);
+        self.note(said);
+    }
+
+    fn thread(&mut self, thread: usize) {
+        self.say("t");
+        self.number(thread);
+    }
+
+    pub(crate) fn value(&mut self, value: Value) {
         match value {
-            Value::Int(number) => push_integer(&mut self.text, number),
+            Value::Int(number) => {
+                let said = push_integer(&mut self.text, number);
+                self.note(said);
+            }
             Value::Null => self.say("null"),
             Value::Reference(number) => {
-                self.say("#")?;
-                push_decimal(&mut self.text, number as usize)
+                self.say("#");
+                self.number(number as usize);
             }
         }
     }
 
     /// The label of a class after the events, and the number of the event that gave it.
-    fn label(&self, class: ClassId) -> Result<(Label, usize), AllocError> {
+    fn found_label(&self, class: ClassId) -> Result<(Label, usize), AllocError> {
         let mut found = (Label::Prepared, 0);
         'events: for (number, event) in self.events.iter().enumerate() {
             if event.class() == Some(class) {
@@ -90,58 +126,73 @@ impl Words<'_> {
         Ok(found)
     }
 
-    fn since(&mut self, number: usize) -> Result<(), AllocError> {
-        self.say(" since event ")?;
-        push_decimal(&mut self.text, number)
+    fn label(&mut self, class: ClassId) -> (Label, usize) {
+        match self.found_label(class) {
+            Ok(found) => found,
+            Err(_) => {
+                self.lose();
+                (Label::Prepared, 0)
+            }
+        }
+    }
+
+    fn since(&mut self, number: usize) {
+        self.say(" since event ");
+        self.number(number);
     }
 
     /// An event, as a trace has it but for its number.
-    pub(crate) fn event(&mut self, alloc: Global, event: &Event) -> Result<(), AllocError> {
-        let mut alone = Vec::new(alloc);
-        alone.push(event.clone()?)?;
-        let line = write_trace(alloc, self.program, &alone)?;
-        self.text.extend_from_slice(line.get(2..).unwrap_or(&[]))
+    pub(crate) fn event(&mut self, alloc: Global, event: &Event) {
+        match line_of(alloc, self.program, event) {
+            Ok(line) => {
+                let said = self.text.extend_from_slice(line.get(2..).unwrap_or(&[]));
+                self.note(said);
+            }
+            Err(_) => self.lose(),
+        }
     }
 
-    pub(crate) fn no_thread(&mut self, thread: usize) -> Result<(), AllocError> {
-        self.say("there is no thread ")?;
-        self.thread(thread)?;
-        self.say("\n")
+    pub(crate) fn no_thread(&mut self, thread: usize) {
+        self.say("there is no thread ");
+        self.thread(thread);
+        self.say("\n");
     }
 
     /// The label of a class, and since when.
-    pub(crate) fn label_line(&mut self, class: ClassId) -> Result<(), AllocError> {
-        let (label, number) = self.label(class)?;
-        self.class(class)?;
+    pub(crate) fn label_line(&mut self, class: ClassId) {
+        let (label, number) = self.label(class);
+        self.class(class);
         match label {
-            Label::Prepared => return self.say(" is prepared\n"),
-            Label::InProgress(owner) => {
-                self.say(" is being initialized by ")?;
-                self.thread(owner)?;
+            Label::Prepared => {
+                self.say(" is prepared\n");
+                return;
             }
-            Label::Initialized => self.say(" is initialized")?,
-            Label::Erroneous => self.say(" is erroneous")?,
+            Label::InProgress(owner) => {
+                self.say(" is being initialized by ");
+                self.thread(owner);
+            }
+            Label::Initialized => self.say(" is initialized"),
+            Label::Erroneous => self.say(" is erroneous"),
         }
-        self.since(number)?;
-        self.say("\n")
+        self.since(number);
+        self.say("\n");
     }
 
     /// Who initializes a class, where another thread does.
-    fn owner(&mut self, thread: usize, class: ClassId) -> Result<(), AllocError> {
-        if let (Label::InProgress(owner), _) = self.label(class)? {
+    fn owner(&mut self, thread: usize, class: ClassId) {
+        if let (Label::InProgress(owner), _) = self.label(class) {
             if owner != thread {
-                self.say(", which ")?;
-                self.thread(owner)?;
-                self.say(" initializes")?;
+                self.say(", which ");
+                self.thread(owner);
+                self.say(" initializes");
             }
         }
-        Ok(())
     }
 
     /// What a thread is doing with a class that it initializes.
-    fn stage(&mut self, stage: &Stage) -> Result<(), AllocError> {
+    fn stage(&mut self, stage: &Stage) {
         match stage {
-            Stage::Looking { .. } => Ok(()),
+            Stage::Looking { .. } => {}
             Stage::Needing(_) => self.say(": in step 7, what it needs comes first"),
             Stage::Running { ran: false } => self.say(": all that it needs is done"),
             Stage::Running { ran: true } => self.say(": its initializer runs"),
@@ -150,32 +201,32 @@ impl Words<'_> {
     }
 
     /// What a thread is doing with an open class.
-    pub(crate) fn open_class(&mut self, thread: usize, open: &OpenClass) -> Result<(), AllocError> {
-        self.thread(thread)?;
+    pub(crate) fn open_class(&mut self, thread: usize, open: &OpenClass) {
+        self.thread(thread);
         match open.stage {
             Stage::Looking { waited: false } => {
-                self.say(" comes to ")?;
-                self.class(open.class)?;
+                self.say(" comes to ");
+                self.class(open.class);
             }
             Stage::Looking { waited: true } => {
-                self.say(" waits for ")?;
-                self.class(open.class)?;
-                self.owner(thread, open.class)?;
+                self.say(" waits for ");
+                self.class(open.class);
+                self.owner(thread, open.class);
             }
             _ => {
-                self.say(" initializes ")?;
-                self.class(open.class)?;
-                let (_, number) = self.label(open.class)?;
-                self.since(number)?;
-                self.stage(&open.stage)?;
+                self.say(" initializes ");
+                self.class(open.class);
+                let (_, number) = self.label(open.class);
+                self.since(number);
+                self.stage(&open.stage);
             }
         }
-        self.say("\n")
+        self.say("\n");
     }
 
     /// Of a thread that has no class open.
-    pub(crate) fn outside(&mut self, thread: usize, has_ended: bool) -> Result<(), AllocError> {
-        self.thread(thread)?;
+    pub(crate) fn outside(&mut self, thread: usize, has_ended: bool) {
+        self.thread(thread);
         self.say(if has_ended {
             " has ended\n"
         } else {
@@ -184,21 +235,21 @@ impl Words<'_> {
     }
 
     /// A step at a class.
-    fn step(&mut self, step: &str, class: ClassId) -> Result<(), AllocError> {
-        self.say(step)?;
-        self.class(class)
+    fn step(&mut self, step: &str, class: ClassId) {
+        self.say(step);
+        self.class(class);
     }
 
     /// A step that ends a class by this error.
-    fn step_by(&mut self, step: &str, class: ClassId, error: ClassId) -> Result<(), AllocError> {
-        self.step(step, class)?;
-        self.say(" ")?;
-        self.class(error)
+    fn step_by(&mut self, step: &str, class: ClassId, error: ClassId) {
+        self.step(step, class);
+        self.say(" ");
+        self.class(error);
     }
 
     /// What may come at a look.
-    fn look(&mut self, thread: usize, class: ClassId, waited: bool) -> Result<(), AllocError> {
-        match self.label(class)?.0 {
+    fn look(&mut self, thread: usize, class: ClassId, waited: bool) {
+        match self.label(class).0 {
             Label::Prepared => self.step("step6 ", class),
             Label::InProgress(owner) if owner == thread => self.step("step3 ", class),
             Label::InProgress(_) if waited => self.say("nothing while it waits"),
@@ -209,8 +260,8 @@ impl Words<'_> {
     }
 
     /// What may come in a body besides its end.
-    fn items(&mut self, last: Option<Completed>) -> Result<(), AllocError> {
-        self.say("a print, a use of a class")?;
+    fn items(&mut self, last: Option<Completed>) {
+        self.say("a print, a use of a class");
         if let Some(
             Completed {
                 class,
@@ -218,35 +269,29 @@ impl Words<'_> {
             },
         ) = last
         {
-            self.step(", a get or put of ", class)?;
+            self.step(", a get or put of ", class);
         }
-        Ok(())
     }
 
     /// What may come in the initializer of a class.
-    fn body(&mut self, class: ClassId, last: Option<Completed>) -> Result<(), AllocError> {
+    fn body(&mut self, class: ClassId, last: Option<Completed>) {
         if let Some(error) = ending_error(last) {
             return self.step_by("step12 ", class, error);
         }
-        self.step("step10 ", class)?;
-        self.step(", step12 ", class)?;
-        self.say(" by an Error, ")?;
-        self.items(last)
+        self.step("step10 ", class);
+        self.step(", step12 ", class);
+        self.say(" by an Error, ");
+        self.items(last);
     }
 
     /// What may come while this class is the innermost open one.
-    fn within(
-        &mut self,
-        thread: usize,
-        open: &OpenClass,
-        last: Option<Completed>,
-    ) -> Result<(), AllocError> {
+    fn within(&mut self, thread: usize, open: &OpenClass, last: Option<Completed>) {
         match &open.stage {
             Stage::Looking { waited } => self.look(thread, open.class, *waited),
-            Stage::Needing(_) => Ok(()),
+            Stage::Needing(_) => {}
             Stage::Running { ran: false } => {
-                self.step("step9 ", open.class)?;
-                self.step(", step7 ", open.class)?;
+                self.step("step9 ", open.class);
+                self.step(", step7 ", open.class);
                 self.say(" java/lang/OutOfMemoryError")
             }
             Stage::Running { ran: true } => self.body(open.class, last),
@@ -255,31 +300,31 @@ impl Words<'_> {
     }
 
     /// What may come where the thread gives up a request in this class.
-    fn giving_up(&mut self, around: &OpenClass) -> Result<(), AllocError> {
+    fn giving_up(&mut self, around: &OpenClass) {
         match around.stage {
-            Stage::Needing(_) => self.step(", step7 ", around.class)?,
-            _ => self.step(", step12 ", around.class)?,
+            Stage::Needing(_) => self.step(", step7 ", around.class),
+            _ => self.step(", step12 ", around.class),
         }
-        self.say(MACHINE_ERRORS)
+        self.say(MACHINE_ERRORS);
     }
 
     /// What a thread could do next.
-    pub(crate) fn possible(&mut self, thread: usize, reader: &Reader) -> Result<(), AllocError> {
-        self.thread(thread)?;
-        self.say(" could go on with: ")?;
+    pub(crate) fn possible(&mut self, thread: usize, reader: &Reader) {
+        self.thread(thread);
+        self.say(" could go on with: ");
         let last = reader.procedures.last;
         match reader.procedures.open_classes() {
-            [] if reader.has_ended() => self.say("nothing")?,
-            [] if reader.begun => self.items(last)?,
-            [] => self.items(None)?,
+            [] if reader.has_ended() => self.say("nothing"),
+            [] if reader.begun => self.items(last),
+            [] => self.items(None),
             [.., around, innermost] => {
-                self.within(thread, innermost, last)?;
+                self.within(thread, innermost, last);
                 if let Stage::Looking { .. } = innermost.stage {
-                    self.giving_up(around)?;
+                    self.giving_up(around);
                 }
             }
-            [innermost] => self.within(thread, innermost, last)?,
+            [innermost] => self.within(thread, innermost, last),
         }
-        self.say("\n")
+        self.say("\n");
     }
 }
