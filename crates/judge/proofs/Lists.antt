@@ -1,5 +1,5 @@
 -- Lists of which one element is changed, or that have one more at the end.
-use Rattle.std.proofs.Common.{◌≡◌, ◌≢◌, ◌⊎◌, inl, inr, ℕ, zero, suc, ◌==◌, length, List, [], ◌∷◌, ◌++◌, Option, Some, None, slice_get, set, Bool, true, false, refl, sym, ap, append-nil, ◌∙◌}
+use Rattle.std.proofs.Common.{◌≡◌, ◌≢◌, ◌⊎◌, inl, inr, ℕ, zero, suc, ◌==◌, length, List, [], ◌∷◌, ◌++◌, Some, slice_get, set, true, false, refl, ap, append-nil}
 use Rattle.std.proofs.lemmas.List.Elements.{filter-append}
 use Rattle.hierarchy.specs.declared.class.ClassId.{ClassId}
 use Rattle.init_core.specs.declared.event.Event.{Event}

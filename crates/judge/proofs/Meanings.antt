@@ -1,5 +1,5 @@
 -- What is read leads to where the thread's procedures stand; where it may stop it is a whole word.
-use Rattle.std.proofs.Common.{◌≡◌, ℕ, List, [], ◌∷◌, ◌++◌, Option, Some, None, Bool, true, false, refl, sym, subst, append-nil, append_assoc, inl, inr}
+use Rattle.std.proofs.Common.{◌≡◌, ℕ, List, [], ◌∷◌, ◌++◌, Option, Some, None, Bool, true, false, refl, sym, subst, append-nil, append_assoc, inl}
 use Rattle.hierarchy.specs.declared.class.ClassId.{ClassId}
 use Rattle.hierarchy.specs.declared.built_in.BuiltIn.TheVariants.{InternalError, OutOfMemoryError, Error, Throwable}
 use Rattle.hierarchy.specs.LinkedProgram.{LinkedProgram, built_in}
@@ -21,7 +21,7 @@ use Rattle.init_core.specs.ProcedureWord as words
 use Rattle.init_core.specs.ProcedureWord.{free, ProcedureWord, Items, Body, ThreadWord, completed, given_up, GoesOn, IsOfFiles, IsMachineError}
 use Rattle.init_core.specs.Standing.{Standing}
 use Rattle.init_core.specs.Leads.{frame, standing, kind_of_ending, outcome_of, Before, outermost, used, Leads, idle, looking, running}
-use Rattle.init_core.specs.Advance.{after_needs, after_word}
+use Rattle.init_core.specs.Advance.{after_word}
 use Rattle.init_core.specs.MainWord.{MainDone, nothing, main_done, BeforeMain, before_first, MainItems, main_items, BeforeItem, before_item, LeadsMain, LeadsMainBody, BeginsMain, in_procedure, in_body}
 use Rattle.init_core.proofs.Leading as leading
 use Rattle.init_core.proofs.Mains.{goes_main, goes_item, thread_word}

@@ -1,6 +1,5 @@
 -- Which rule an event breaks, and what is answered at the end.
-use Rattle.std.proofs.Common.{◌≡◌, ◌≢◌, ◌⊎◌, inl, inr, ℕ, zero, suc, ◌==◌, length, List, [], ◌∷◌, ◌++◌, Option, Some, None, MatchOption, slice_get, Bool, true, false, refl, sym, ap, subst, append-nil, append_assoc, eq-eqb, map, ◌∙◌}
-use Rattle.std.specs.List.{AllByRecursion}
+use Rattle.std.proofs.Common.{◌≡◌, ◌≢◌, ◌⊎◌, inl, inr, ℕ, zero, suc, ◌==◌, List, [], ◌∷◌, ◌++◌, Option, Some, None, MatchOption, slice_get, true, false, refl, sym, subst, append-nil, append_assoc, eq-eqb, map}
 use Rattle.std.specs.Prelude.{Result, Ok, Err, IfOk, IfSome}
 use Rattle.std.specs.declared.alloc.AllocError.{AllocError}
 use Rattle.std.specs.Option.{option_map}
@@ -14,7 +13,7 @@ use Rattle.init_core.specs.declared.event.Event.{Event}
 use Rattle.init_core.specs.declared.event.Kind.{Kind}
 use Rattle.init_core.specs.ClassState.{State}
 use Rattle.init_core.specs.Decisions.{event}
-use Rattle.init_core.specs.Interleaving.{of_thread, of_class, is_class, IsLegal, BeginsLegal}
+use Rattle.init_core.specs.Interleaving.{of_thread, of_class, IsLegal, BeginsLegal}
 use Rattle.init_core.specs.Label.{label_of}
 use Rattle.init_core.specs.Lawful.{Allows, Holds, AgreesAfter, AgreesWithLabels, HoldsAfter}
 use Rattle.init_core.proofs.Labels.{lawful_push}

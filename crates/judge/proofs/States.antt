@@ -1,9 +1,9 @@
 -- The states of classes after one event more.
-use Rattle.std.proofs.Common.{◌≡◌, ◌≢◌, ◌⊎◌, inl, inr, ℕ, ◌<◌, ◌≤◌, ◌==◌, ◌+◌, length, List, [], ◌∷◌, ◌++◌, Option, Some, None, slice_get, set, Bool, true, false, refl, sym, ap, subst, arith, append-nil, append_assoc, eq-eqb, ◌∙◌}
-use Rattle.std.specs.Prelude.{◌↔◌, IsTrue, IfSome, slice_index_or}
+use Rattle.std.proofs.Common.{◌≡◌, ◌≢◌, ◌⊎◌, inl, inr, ℕ, ◌<◌, ◌≤◌, ◌==◌, ◌+◌, length, List, [], ◌∷◌, ◌++◌, Option, Some, None, slice_get, set, true, false, refl, sym, ap, subst, arith, eq-eqb, ◌∙◌}
+use Rattle.std.specs.Prelude.{IfSome, slice_index_or}
 use Rattle.std.specs.Option.{option_map}
 use Rattle.std.proofs.lemmas.Bool.Decides.{eqb_tells}
-use Rattle.std.proofs.lemmas.Option.{slice_get_past, slice_get_within, slice_get_read}
+use Rattle.std.proofs.lemmas.Option.{slice_get_within, slice_get_read}
 use Rattle.std.proofs.lemmas.List.{length-append, length-set}
 use Rattle.hierarchy.specs.declared.class.ClassId.{ClassId}
 use Rattle.hierarchy.specs.declared.value.Value.{Value}
@@ -16,7 +16,7 @@ use Rattle.init_core.specs.declared.event.Kind.{Kind}
 use Rattle.init_core.specs.declared.event.Kind.TheVariants as kind
 use Rattle.init_core.specs.ClassState.{State, IsStateOf, AreHeld, stepped, next_label, next_values}
 use Rattle.init_core.specs.Decisions.{event}
-use Rattle.init_core.specs.Interleaving.{of_class, is_class}
+use Rattle.init_core.specs.Interleaving.{of_class}
 use Rattle.init_core.specs.Label.{label_of}
 use Rattle.init_core.specs.Lawful.{Allows, Holds, IsLawful}
 use Rattle.init_core.specs.StaticValue.{held_by}

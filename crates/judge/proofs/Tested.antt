@@ -1,8 +1,7 @@
 -- What the code tests is what `Reads` says: an event may come next exactly where it is read, and leads where the code goes.
-use Rattle.std.proofs.Common.{◌≡◌, ℕ, List, [], ◌∷◌, Option, Some, None, Bool, true, false, refl, sym, ap, subst, ◌∙◌}
+use Rattle.std.proofs.Common.{◌≡◌, ℕ, List, [], ◌∷◌, Option, Some, None, Bool, true, false, refl, sym, subst, ◌∙◌}
 use Rattle.hierarchy.specs.declared.class.ClassId.{ClassId}
-use Rattle.hierarchy.specs.declared.built_in.BuiltIn.TheVariants.{OutOfMemoryError}
-use Rattle.hierarchy.specs.LinkedProgram.{LinkedProgram, built_in}
+use Rattle.hierarchy.specs.LinkedProgram.{LinkedProgram}
 use Rattle.init_core.specs.declared.event.Event.{Event}
 use Rattle.init_core.specs.declared.event.Kind.{Kind}
 use Rattle.init_core.specs.declared.event.Kind.TheVariants as kind

@@ -1,6 +1,5 @@
 -- A list of events has one verdict.
-use Rattle.std.proofs.Common.{◌≡◌, ◌≢◌, ◌⊎◌, inl, inr, ℕ, ◌+◌, ◌<◌, ◌≤◌, length, List, [], ◌∷◌, ◌++◌, Option, Some, None, MatchOption, slice_get, take, refl, sym, ap, subst, arith, append_assoc, append-nil, ◌∙◌}
-use Rattle.std.proofs.lemmas.List.{length-append}
+use Rattle.std.proofs.Common.{◌≡◌, ℕ, length, List, [], ◌∷◌, ◌++◌, Option, Some, None, MatchOption, slice_get, refl, sym, ap, subst, append_assoc, append-nil, ◌∙◌}
 use Rattle.std.proofs.lemmas.List.Elements.{filter-append}
 use Rattle.std.specs.Prelude.{◌↔◌}
 use Rattle.hierarchy.specs.declared.class.ClassId.{ClassId}

@@ -1,15 +1,14 @@
 -- Each word is read, and so each front of one.
-use Rattle.std.proofs.Common.{◌≡◌, ℕ, List, [], ◌∷◌, ◌++◌, Option, Some, None, Bool, true, false, refl, sym, subst, append-nil, append_assoc, inl, inr}
+use Rattle.std.proofs.Common.{◌≡◌, ℕ, List, [], ◌∷◌, ◌++◌, Option, Some, None, Bool, true, false, refl, sym, append-nil, append_assoc, inl, inr}
 use Rattle.hierarchy.specs.declared.class.ClassId.{ClassId}
 use Rattle.hierarchy.specs.declared.built_in.BuiltIn.TheVariants.{OutOfMemoryError, InternalError, VirtualMachineError, Error}
 use Rattle.hierarchy.specs.LinkedProgram.{LinkedProgram, built_in}
-use Rattle.hierarchy.specs.Subclasses.{IsError, IsSubclass, itself, below, is_built_in}
+use Rattle.hierarchy.specs.Subclasses.{IsError, itself, below, is_built_in}
 use Rattle.init_order.specs.Needs.{needs}
 use Rattle.init_core.specs.declared.event.Event.{Event}
 use Rattle.init_core.specs.declared.event.Kind.{Kind}
 use Rattle.init_core.specs.declared.event.Kind.TheVariants as kind
 use Rattle.init_core.specs.declared.frames.Completed.{Completed}
-use Rattle.init_core.specs.declared.frames.Ending.TheVariants as ending
 use Rattle.init_core.specs.declared.frames.Frame.{Frame}
 use Rattle.init_core.specs.declared.frames.Outcome.{Outcome}
 use Rattle.init_core.specs.declared.frames.Outcome.TheVariants.{Normal, Abrupt, Ended}
@@ -19,7 +18,7 @@ use Rattle.init_core.specs.Decisions.{event}
 use Rattle.init_core.specs.ProcedureWord as words
 use Rattle.init_core.specs.ProcedureWord.{Maker, Word, AfterWait, Begun, ItemsOf, Body, ThreadWordOf, ThreadWord, wait, completed, GoesOn, IsMachineError}
 use Rattle.init_core.specs.Standing.{Standing}
-use Rattle.init_core.specs.Leads.{frame, standing, outcome_of}
+use Rattle.init_core.specs.Leads.{frame, standing}
 use Rattle.init_core.specs.Advance.{after_needs, after_word, after_in, MayRequest}
 use Rattle.judge.specs.Reading.{Looks, waits, recurs, finds_initialized, finds_erroneous, begins, GoesOnBy, requests, uses, prints, Reads, looks, need_unanswered, body_unanswered, runs, lacks_memory, goes_on, completes, fails, is_ended, super_fails, main_begins, main_goes_on, ReadsAll, nothing, and_then, opening, MayStop, IsReadAsBeginning, IsReadAsWhole}
 

@@ -1,5 +1,5 @@
 -- The state of the judge after some events.
-use Rattle.std.specs.Prelude.{◌≡◌, ℕ, ◌<◌, ◌≤◌, length, List, [], ◌∷◌, ◌++◌, Option, Some, None, Bool, false, slice_get}
+use Rattle.std.specs.Prelude.{◌≡◌, ℕ, ◌<◌, ◌≤◌, length, List, [], Option, Some, None, false, slice_get}
 use Rattle.std.specs.List.{AllByRecursion}
 use Rattle.hierarchy.specs.declared.class.ClassId.{ClassId}
 use Rattle.hierarchy.specs.declared.value.Value.{Value}

@@ -1,6 +1,6 @@
 -- Which event a thread may make next, by the state of its procedures, and their state after it: what `Reads` says, as
 -- the code tests it.
-use Rattle.std.specs.Prelude.{◌≡◌, ℕ, List, [], ◌∷◌, Option, Some, None, Bool, true, false}
+use Rattle.std.specs.Prelude.{◌≡◌, List, [], ◌∷◌, Option, Some, None, Bool, true, false}
 use Rattle.hierarchy.specs.declared.class.ClassId.{ClassId}
 use Rattle.hierarchy.specs.declared.built_in.BuiltIn.TheVariants.{NoClassDefFoundError, OutOfMemoryError}
 use Rattle.hierarchy.specs.LinkedProgram.{LinkedProgram, built_in}

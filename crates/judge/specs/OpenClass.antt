@@ -1,5 +1,4 @@
 -- One open class as the reader keeps it.
-use Rattle.std.specs.Prelude.{ℕ, Bool}
 use Rattle.init_core.specs.declared.frames.Ending.TheVariants as ending
 use Rattle.init_core.specs.declared.frames.Frame.{Frame}
 use Rattle.init_core.specs.declared.frames.Phase.{Phase}

@@ -1,6 +1,6 @@
 -- How one thread's events are read (JLS SE 8 12.4.2): which event may come next, and the state of the procedures after it.
 -- Where a list can be read in several ways, this is the one that lets most follow.
-use Rattle.std.specs.Prelude.{◌≡◌, ℕ, List, [], ◌∷◌, ◌++◌, Option, Some, None, Bool, true, false}
+use Rattle.std.specs.Prelude.{◌≡◌, ℕ, List, [], ◌∷◌, Option, Some, None, Bool, true, false}
 use Rattle.hierarchy.specs.declared.class.ClassId.{ClassId}
 use Rattle.hierarchy.specs.declared.built_in.BuiltIn.TheVariants.{NoClassDefFoundError, OutOfMemoryError}
 use Rattle.hierarchy.specs.LinkedProgram.{LinkedProgram, built_in}

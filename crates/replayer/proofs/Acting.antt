@@ -50,7 +50,7 @@ use Rattle.replayer.specs.declared.thread.Thread.{Thread}
 use Rattle.replayer.specs.Going.{Going, HasStepped, IsWhy, IsInBody, HasComeTo, IsDoing, WaitsInside, IsOver, IsPaused, at_class, in_body, Resting, IsSameThread, TurnsTo, limit_error}
 use Rattle.replayer.specs.declared.thread.Turn.{Turn}
 use Rattle.replayer.specs.declared.thread.Turn.TheVariants as turn
-use Rattle.replayer.specs.Logged.{IsLog, HasMade, IsStateAfter, histories}
+use Rattle.replayer.specs.Logged.{IsLog, IsStateAfter, histories}
 use Rattle.replayer.proofs.JustMade.{body_just, use_of_body}
 use Rattle.replayer.specs.OrderedRun.{HasJustMade, WaitsFor}
 use Rattle.replayer.proofs.Logged.{all_more, own_more, sees_one, writes_held}

@@ -8,7 +8,6 @@ use Rattle.std.proofs.lemmas.Bool.Decides.{eqb_tells}
 use Rattle.hierarchy.specs.declared.class.ClassId.{ClassId}
 use Rattle.hierarchy.specs.LinkedProgram.{LinkedProgram}
 use Rattle.init_core.specs.declared.event.Event.{Event}
-use Rattle.init_core.specs.declared.event.Kind.{Kind}
 use Rattle.init_core.specs.declared.frames.Outcome.{Outcome}
 use Rattle.init_core.specs.declared.frames.Outcome.TheVariants.{Normal, Abrupt, Ended}
 use Rattle.init_core.specs.Interleaving.{of_class, of_thread}

@@ -1,7 +1,5 @@
 use Rattle.std.proofs.Common.{◌≡◌, ◌≤◌, List, length, map, subst, sym, ◌∙◌, refl, arith}
-use Rattle.hierarchy.specs.LinkedProgram.{LinkedProgram}
 use Rattle.init_core.specs.declared.event.TheConstants.{THREADS}
-use Rattle.init_lock.specs.Known.{TableFacts}
 use Rattle.guest_threads.specs.AllWork.{PlanFacts, IsPlan}
 use Rattle.bodies.specs.Runs.{AreMains, IsRunOf}
 use Rattle.guest_threads.specs.Working.{IsTableOf}

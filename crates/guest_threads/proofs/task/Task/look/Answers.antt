@@ -1,9 +1,8 @@
-use Rattle.std.proofs.Common.{◌≡◌, ◌≤◌, ◌+◌, ◌-◌, length, refl, sym, subst, ap, ◌∙◌, ◌++◌, ◌∷◌, [], List, append-nil, arith}
+use Rattle.std.proofs.Common.{◌-◌, length, refl, sym, subst, ap, ◌∙◌, ◌++◌, ◌∷◌, [], List, append-nil, arith}
 use Rattle.init_core.specs.declared.event.Event.{Event}
 use Rattle.init_core.specs.declared.event.Kind.{Kind}
-use Rattle.init_core.specs.Decisions.{event, entered}
+use Rattle.init_core.specs.Decisions.{event}
 use Rattle.init_core.specs.Standing.{Standing}
-use Rattle.init_core.specs.Stands.{begun_classes}
 use Rattle.guest_threads.specs.declared.guarded.Guarded.{Guarded}
 use Rattle.guest_threads.specs.Working.{Working, drawn}
 use Rattle.bodies.proofs.Asking.{looks_at, in_files}
