@@ -1,6 +1,7 @@
 //! From files by name to the verdict on a trace.
 
-ghost use Rattle.std.specs.Prelude.{◌≡◌, ◌≤◌, ◌++◌, None, IfErr, IfOk, OnOk, length};
+ghost use Rattle.std.specs.Prelude.{◌≡◌, ◌≤◌, None, IfErr, IfOk, length};
+ghost use Rattle.sequence.specs.Written.{Adds};
 ghost use Rattle.clap.specs.Walk.{texts};
 ghost use Rattle.judge.specs.Verdicts.{IsVerdict};
 ghost use Rattle.cli.specs.Checking.{IsCheckRefusal, IsJudgeRefusal, IsJudged, IsJudgedOf, IsTraceRefusal, TellsVerdict, TraceHolds, rule_text, status_by, verdict_line};
@@ -14,6 +15,7 @@ use hierarchy::{ClassId, Program};
 use init_core::Event;
 use jasmin_words::integer::push_decimal;
 use judge::{Rule, Verdict, check, explain};
+use sequence::Writer;
 use std::alloc::{AllocError, Global};
 use trace_reader::{MOST_BYTES, TraceFaultKind, read_trace};
 
@@ -147,19 +149,18 @@ fn name_of(rule: Rule) -> &'static str
     }
 }
 
-/// Adds the line of a verdict: `legal`, or `illegal at <n>: <rule>`.
-fn write_verdict(out: &mut Vec<u8>, verdict: Verdict) -> Result<(), AllocError>
-    ensures { OnOk result (out.new.items ≡ out.old.items ++ verdict_line verdict) }
+/// Writes the line of a verdict: `legal`, or `illegal at <n>: <rule>`.
+fn write_verdict(out: &mut Writer, verdict: Verdict)
+    ensures { Adds out.old (verdict_line verdict) out.new }
 {
     match verdict {
-        Verdict::Legal => out.extend_from_slice(b"legal\n"),
+        Verdict::Legal => out.push(b"legal\n"),
         Verdict::IllegalAt(number, rule) => {
-            out.extend_from_slice(b"illegal at ")?;
-            push_decimal(out, number)?;
-            out.extend_from_slice(b": ")?;
-            out.extend_from_slice(name_of(rule).as_bytes())?;
-            out.push(b'\n')?;
-            Ok(())
+            out.push(b"illegal at ");
+            push_decimal(out, number);
+            out.push(b": ");
+            out.push(name_of(rule).as_bytes());
+            out.push(b"\n");
         }
     }
 }
@@ -171,8 +172,8 @@ fn write_verdict(out: &mut Vec<u8>, verdict: Verdict) -> Result<(), AllocError>
 pub fn write_judged(alloc: Global, judged: &Judged, explains: bool) -> Result<Vec<u8>, AllocError>
     ensures { IfOk result (λ text. TellsVerdict judged.now.verdict explains text.items) }
 {
-    let mut text = Vec::new(alloc);
-    write_verdict(&mut text, judged.verdict)?;
+    let mut text = Writer::new(alloc);
+    write_verdict(&mut text, judged.verdict);
     if explains {
         let Judged {
             program,
@@ -180,10 +181,12 @@ pub fn write_judged(alloc: Global, judged: &Judged, explains: bool) -> Result<Ve
             events,
             verdict,
         } = judged;
-        let words = explain(alloc, program, mains, events, *verdict)?;
-        text.extend_from_slice(&words)?;
+        match explain(alloc, program, mains, events, *verdict) {
+            Ok(words) => text.push(&words),
+            Err(_) => text.lose(),
+        }
     }
-    Ok(text)
+    text.into_text()
 }
 
 /// The exit status that tells the verdict.

@@ -1,39 +1,36 @@
 //! What each class needs, as text.
 
-ghost use Rattle.std.specs.Prelude.{◌≡◌, ◌++◌, IfOk, OnOk};
+ghost use Rattle.std.specs.Prelude.{◌≡◌, IfOk};
+ghost use Rattle.sequence.specs.Written.{Adds};
 ghost use Rattle.cli.specs.NeedsText.{names_text, needs_line, needs_text};
 
 use hierarchy::{ClassId, Program};
 use init_order::needs;
+use sequence::Writer;
 use std::alloc::{AllocError, Global};
 use trace::write_class_name;
 
-/// Adds a space and the name of each of these classes.
-fn write_names(out: &mut Vec<u8>, program: &Program, classes: &[ClassId]) -> Result<(), AllocError>
-    ensures { OnOk result (out.new.items ≡ out.old.items ++ names_text program.now classes.now) }
+/// Writes a space and the name of each of these classes.
+fn write_names(out: &mut Writer, program: &Program, classes: &[ClassId])
+    ensures { Adds out.old (names_text program.now classes.now) out.new }
 {
     for class in classes {
-        out.push(b' ')?;
-        write_class_name(out, program, *class)?;
+        out.push(b" ");
+        write_class_name(out, program, *class);
     }
-    Ok(())
 }
 
-/// Adds the line of a class.
-fn write_line(
-    alloc: Global,
-    out: &mut Vec<u8>,
-    program: &Program,
-    class: ClassId,
-) -> Result<(), AllocError>
-    ensures { OnOk result (out.new.items ≡ out.old.items ++ needs_line program.now class) }
+/// Writes the line of a class.
+fn write_line(alloc: Global, out: &mut Writer, program: &Program, class: ClassId)
+    ensures { Adds out.old (needs_line program.now class) out.new }
 {
-    let needed = needs(alloc, program, class)?;
-    write_class_name(out, program, class)?;
-    out.push(b':')?;
-    write_names(out, program, &needed)?;
-    out.push(b'\n')?;
-    Ok(())
+    write_class_name(out, program, class);
+    out.push(b":");
+    match needs(alloc, program, class) {
+        Ok(needed) => write_names(out, program, &needed),
+        Err(_) => out.lose(),
+    }
+    out.push(b"\n");
 }
 
 /// For each class in file order its name, a colon, and a space and a name for each class whose procedure is
@@ -41,9 +38,9 @@ fn write_line(
 pub fn write_needs(alloc: Global, program: &Program) -> Result<Vec<u8>, AllocError>
     ensures { IfOk result (λ text. text.items ≡ needs_text program.now) }
 {
-    let mut out = Vec::new(alloc);
+    let mut out = Writer::new(alloc);
     for number in 0..program.len() {
-        write_line(alloc, &mut out, program, ClassId { number })?;
+        write_line(alloc, &mut out, program, ClassId { number });
     }
-    Ok(out)
+    out.into_text()
 }

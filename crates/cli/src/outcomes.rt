@@ -1,11 +1,13 @@
 //! How the threads of a run ended, told.
 
-ghost use Rattle.std.specs.Prelude.{◌≡◌, ◌++◌, IfOk, OnOk, OnErr};
+ghost use Rattle.std.specs.Prelude.{◌≡◌, IfOk};
+ghost use Rattle.sequence.specs.Written.{Adds};
 ghost use Rattle.std.specs.List.{list_any};
 ghost use Rattle.cli.specs.Outcomes.{error_of as error_by, is_abrupt, outcome_line, outcome_text, outcomes_text, status_after};
 
 use hierarchy::{BuiltIn, ClassId, Program};
 use jasmin_words::integer::push_decimal;
+use sequence::Writer;
 use std::alloc::{AllocError, Global};
 use trace::{Limit, ThreadOutcome, write_class_name};
 
@@ -19,34 +21,23 @@ fn error_of(program: &Program, limit: Limit) -> ClassId
     }
 }
 
-/// Adds the line of a thread that ended by this throwable.
-fn write_line(
-    out: &mut Vec<u8>,
-    program: &Program,
-    thread: usize,
-    throwable: ClassId,
-) -> Result<(), AllocError>
-    ensures { OnOk result (out.new.items ≡ out.old.items ++ outcome_line program.now thread throwable) }
+/// Writes the line of a thread that ended by this throwable.
+fn write_line(out: &mut Writer, program: &Program, thread: usize, throwable: ClassId)
+    ensures { Adds out.old (outcome_line program.now thread throwable) out.new }
 {
-    out.push(b't')?;
-    push_decimal(out, thread)?;
-    out.extend_from_slice(b": ")?;
-    write_class_name(out, program, throwable)?;
-    out.push(b'\n')?;
-    Ok(())
+    out.push(b"t");
+    push_decimal(out, thread);
+    out.push(b": ");
+    write_class_name(out, program, throwable);
+    out.push(b"\n");
 }
 
-/// Adds the line of a thread that ended so, where it has one.
-fn write_outcome(
-    out: &mut Vec<u8>,
-    program: &Program,
-    thread: usize,
-    outcome: ThreadOutcome,
-) -> Result<(), AllocError>
-    ensures { OnOk result (out.new.items ≡ out.old.items ++ outcome_text program.now thread outcome) }
+/// Writes the line of a thread that ended so, where it has one.
+fn write_outcome(out: &mut Writer, program: &Program, thread: usize, outcome: ThreadOutcome)
+    ensures { Adds out.old (outcome_text program.now thread outcome) out.new }
 {
     match outcome {
-        ThreadOutcome::Normal => Ok(()),
+        ThreadOutcome::Normal => {}
         ThreadOutcome::Abrupt(throwable) => write_line(out, program, thread, throwable),
         ThreadOutcome::Ended(limit) => write_line(out, program, thread, error_of(program, limit)),
     }
@@ -61,15 +52,15 @@ pub fn write_outcomes(
 ) -> Result<Vec<u8>, AllocError>
     ensures { IfOk result (λ text. text.items ≡ outcomes_text program.now outcomes.now) }
 {
-    let mut out = Vec::new(alloc);
+    let mut out = Writer::new(alloc);
     let mut rest = outcomes;
     let mut thread = 0;
     while let [outcome, after @ ..] = rest {
-        write_outcome(&mut out, program, thread, *outcome)?;
+        write_outcome(&mut out, program, thread, *outcome);
         thread += 1;
         rest = after;
     }
-    Ok(out)
+    out.into_text()
 }
 
 fn has_ended_abruptly(outcome: &ThreadOutcome) -> bool

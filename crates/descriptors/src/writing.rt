@@ -1,38 +1,38 @@
 //! From types to texts.
 
-ghost use Rattle.std.specs.Prelude.{◌≡◌, ◌++◌, IfOk, OnOk};
+ghost use Rattle.std.specs.Prelude.{◌≡◌, IfOk, OnOk};
+ghost use Rattle.sequence.specs.Written.{Adds};
 ghost use Rattle.descriptors.specs.Spelling.{element_spelling, field_spelling, method_spelling, IsElementType, IsFieldType, IsMethodType};
 
 use crate::field::{ElementType, FieldType};
 use crate::method::MethodType;
+use sequence::Writer;
 use std::alloc::{AllocError, Global};
 
-/// Adds the text of an element. Where memory is refused, a part of it may stand at the end.
-fn add_element(text: &mut Vec<u8>, element: &ElementType) -> Result<(), AllocError>
-    ensures text { OnOk result (text.new.items ≡ text.old.items ++ element_spelling element.now) }
+/// Adds the text of an element.
+fn add_element(text: &mut Writer, element: &ElementType)
+    ensures text { Adds text.old (element_spelling element.now) text.new }
     ensures is_type { IsElementType element.now }
 {
     match element {
-        ElementType::Base(base) => text.push(base.letter())?,
+        ElementType::Base(base) => text.push(&[base.letter()]),
         ElementType::Class(name) => {
-            let bytes = name.as_slice();
-            text.push(b'L')?;
-            text.extend_from_slice(bytes)?;
-            text.push(b';')?;
+            text.push(b"L");
+            text.push(name.as_slice());
+            text.push(b";");
         }
     }
-    Ok(())
 }
 
-/// Adds the text of a type. Where memory is refused, a part of it may stand at the end.
-fn add_field(text: &mut Vec<u8>, field: &FieldType) -> Result<(), AllocError>
-    ensures text { OnOk result (text.new.items ≡ text.old.items ++ field_spelling field.now) }
-    ensures is_type { OnOk result (IsFieldType field.now) }
+/// Adds the text of a type.
+fn add_field(text: &mut Writer, field: &FieldType)
+    ensures text { Adds text.old (field_spelling field.now) text.new }
+    ensures is_type { IsFieldType field.now }
 {
     for _ in 0..field.dimensions {
-        text.push(b'[')?;
+        text.push(b"[");
     }
-    add_element(text, &field.element)
+    add_element(text, &field.element);
 }
 
 /// The descriptor of the type (JVMS SE 8 4.3.2), which [`parse_field`](crate::parse_field) reads back as
@@ -42,9 +42,9 @@ pub fn write_field(alloc: Global, field: &FieldType) -> Result<Vec<u8>, AllocErr
     // Each value is a type whose text is read back.
     ensures is_type { OnOk result (IsFieldType field.now) }
 {
-    let mut text = Vec::new(alloc);
-    add_field(&mut text, field)?;
-    Ok(text)
+    let mut text = Writer::new(alloc);
+    add_field(&mut text, field);
+    text.into_text()
 }
 
 /// The descriptor of the type (JVMS SE 8 4.3.3), which [`parse_method`](crate::parse_method) reads back as
@@ -54,15 +54,15 @@ pub fn write_method(alloc: Global, method: &MethodType) -> Result<Vec<u8>, Alloc
     // Each value is a type whose text is read back.
     ensures is_type { OnOk result (IsMethodType method.now) }
 {
-    let mut text = Vec::new(alloc);
-    text.push(b'(')?;
+    let mut text = Writer::new(alloc);
+    text.push(b"(");
     for parameter in method.parameters() {
-        add_field(&mut text, parameter)?;
+        add_field(&mut text, parameter);
     }
-    text.push(b')')?;
+    text.push(b")");
     match method.result() {
-        None => text.push(b'V')?,
-        Some(outcome) => add_field(&mut text, outcome)?,
+        None => text.push(b"V"),
+        Some(outcome) => add_field(&mut text, outcome),
     }
-    Ok(text)
+    text.into_text()
 }

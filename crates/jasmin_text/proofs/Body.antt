@@ -1,6 +1,5 @@
 -- A body, instruction by instruction.
-use Rattle.std.proofs.Common.{◌≡◌, ℕ, ◌+◌, Bool, List, [], ◌∷◌, ◌++◌, ◌<◌, ◌≤◌, suc, length, get_or, drop, Result, Ok, Err, sym, ap, subst, ◌∙◌, append_assoc, add-one, drop-cons}
-use Rattle.std.specs.Prelude.{OnOk}
+use Rattle.std.proofs.Common.{◌≡◌, ℕ, ◌+◌, Bool, List, [], ◌∷◌, ◌++◌, ◌<◌, ◌≤◌, suc, length, get_or, drop, sym, ap, subst, ◌∙◌, append_assoc, add-one, drop-cons}
 use Rattle.std.proofs.Math.ListN.{drop_of_length-le}
 use Rattle.std.proofs.lemmas.Grind.{flat_map-append}
 use Rattle.jasmin_text.specs.declared.instruction.Instruction.{Instruction}
@@ -30,7 +29,3 @@ next xs ys i x e less is =
 
 pub drop_all : {A : Type 0} (xs ys : List A) (i : ℕ) → ys ≡ xs → length ys ≤ i → drop i xs ≡ []
 drop_all xs ys i e past = drop_of_length-le xs (subst (λ (z : List _). length z ≤ i) e past)
-
-pub on_ok_map : {A E : Type 0} (P Q : Type 0) (r : Result A E) → OnOk r P → (P → Q) → OnOk r Q
-on_ok_map P Q (Ok x) h f = f h
-on_ok_map P Q (Err e) h f = tt

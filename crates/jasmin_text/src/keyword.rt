@@ -1,9 +1,10 @@
 //! The fixed words of the canonical spelling but those of instructions.
 
-ghost use Rattle.std.specs.Prelude.{◌≡◌, ◌++◌, OnOk};
+ghost use Rattle.std.specs.Prelude.{◌≡◌};
+ghost use Rattle.sequence.specs.Written.{Adds};
 ghost use Rattle.jasmin_text.specs.Keywords.{spelled};
 
-use std::alloc::AllocError;
+use sequence::Writer;
 
 /// The fixed words of the canonical spelling but those of instructions, with the spaces that stand round them.
 #[derive(Clone, Copy)]
@@ -71,16 +72,9 @@ pub(crate) fn spelling(keyword: Keyword) -> &'static [u8]
     }
 }
 
-/// Adds the bytes at the end.
-pub(crate) fn push(text: &mut Vec<u8>, bytes: &[u8]) -> Result<(), AllocError>
-    ensures { OnOk result (text.new.items ≡ text.old.items ++ bytes.now) }
-{
-    text.extend_from_slice(bytes)
-}
-
 /// Adds the word at the end.
-pub(crate) fn push_keyword(text: &mut Vec<u8>, keyword: Keyword) -> Result<(), AllocError>
-    ensures { OnOk result (text.new.items ≡ text.old.items ++ spelled keyword) }
+pub(crate) fn push_keyword(text: &mut Writer, keyword: Keyword)
+    ensures { Adds text.old (spelled keyword) text.new }
 {
-    push(text, spelling(keyword))
+    text.push(spelling(keyword));
 }

@@ -1,12 +1,13 @@
 //! Integers in words.
 
-ghost use Rattle.std.specs.Prelude.{◌≡◌, ◌<◌, ◌≤◌, ◌++◌, ℤ, FitsSigned, Some, OnOk, OnErr, IfSome};
+ghost use Rattle.std.specs.Prelude.{◌≡◌, ◌<◌, ◌≤◌, ℤ, FitsSigned, Some, IfSome};
 ghost use Rattle.std.specs.Int.{w32};
+ghost use Rattle.sequence.specs.Written.{Adds};
 ghost use Rattle.std.specs.Fmt.{decimal, signed_decimal};
 ghost use Rattle.jasmin_words.specs.Integers.{number_after, magnitude_of, positive, negative, pattern, integer_of, IsInteger};
 
 use itoa::Buffer;
-use std::alloc::AllocError;
+use sequence::Writer;
 
 /// The number that the digits go on from `value`, if it is below 2 to the 32nd.
 fn number(base: u32, digits: &[u8]) -> Option<u32>
@@ -103,22 +104,20 @@ pub fn parse_integer(word: &[u8]) -> Option<i32>
     integer_in(word)
 }
 
-/// Writes an integer in decimal at the end. An `Err` is want of memory and changes nothing.
-pub fn push_integer(text: &mut Vec<u8>, number: i32) -> Result<(), AllocError>
-    ensures ok { OnOk result (text.new.items ≡ text.old.items ++ signed_decimal number) }
-    ensures err { OnErr result (text.new.items ≡ text.old.items) }
+/// Writes an integer in decimal at the end.
+pub fn push_integer(text: &mut Writer, number: i32)
+    ensures { Adds text.old (signed_decimal number) text.new }
 {
     let mut buffer = Buffer::new();
-    text.extend_from_slice(buffer.format(number).as_bytes())
+    text.push(buffer.format(number).as_bytes());
 }
 
-/// Writes a number in decimal at the end. An `Err` is want of memory and changes nothing.
-pub fn push_decimal(text: &mut Vec<u8>, number: usize) -> Result<(), AllocError>
-    ensures ok { OnOk result (text.new.items ≡ text.old.items ++ decimal number) }
-    ensures err { OnErr result (text.new.items ≡ text.old.items) }
+/// Writes a number in decimal at the end.
+pub fn push_decimal(text: &mut Writer, number: usize)
+    ensures { Adds text.old (decimal number) text.new }
 {
     let mut digits = Buffer::new();
-    text.extend_from_slice(digits.format(number).as_bytes())
+    text.push(digits.format(number).as_bytes());
 }
 
 /// An integer that was written is read as itself.

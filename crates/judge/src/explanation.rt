@@ -1,6 +1,6 @@
 //! Why a list of events is illegal, in words.
 
-ghost use Rattle.std.specs.Prelude.{◌≡◌, ◌≢◌, ◌≤◌, [], IfOk, false, vec_len};
+ghost use Rattle.std.specs.Prelude.{◌≡◌, ◌≢◌, ◌≤◌, [], IfOk, false, length, vec_len};
 ghost use Rattle.judge.specs.declared.verdict.Verdict.TheVariants as verdicts;
 
 use crate::judge::Judge;
@@ -59,7 +59,7 @@ impl Words<'_> {
 
     /// The rule that an event of this kind breaks.
     fn broken(&mut self, judge: &Judge, class: Option<ClassId>, kind: &Kind, rule: Rule)
-        ensures { self.new.is_lost ≡ false → 1 ≤ vec_len self.new.text }
+        ensures { self.new.text.is_lost ≡ false → 1 ≤ length self.new.text.text }
     {
         match rule {
             Rule::Word => self.say("JLS SE 8 12.4.2 lets the thread do no other thing here"),
@@ -92,7 +92,7 @@ impl Words<'_> {
 
     /// Of an illegal event: what it is, what its thread was doing, the label of its class, and the rule that it breaks.
     fn illegal_event(&mut self, alloc: Global, judge: &Judge, event: &Event, rule: Rule)
-        ensures { self.new.is_lost ≡ false → 1 ≤ vec_len self.new.text }
+        ensures { self.new.text.is_lost ≡ false → 1 ≤ length self.new.text.text }
     {
         self.event(alloc, event);
         let thread = event.thread();
@@ -111,7 +111,7 @@ impl Words<'_> {
 
     /// Of a list that ends too early: each thread that has not ended what it began.
     fn unfinished(&mut self, judge: &Judge)
-        ensures { self.new.is_lost ≡ false → 1 ≤ vec_len self.new.text }
+        ensures { self.new.text.is_lost ≡ false → 1 ≤ length self.new.text.text }
     {
         self.say("the trace ends there\n");
         'readers: for (thread, reader) in judge.readers.of_threads.iter().enumerate() {

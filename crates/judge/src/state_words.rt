@@ -1,6 +1,7 @@
 //! The state of threads and classes after some events, in words.
 
-ghost use Rattle.std.specs.Prelude.{◌≡◌, ◌++◌, false, true, IfOk};
+ghost use Rattle.std.specs.Prelude.{◌≡◌, false, true, IfOk};
+ghost use Rattle.sequence.specs.Written.{Adds};
 
 use crate::items::ending_error;
 use crate::open_class::{OpenClass, Stage};
@@ -8,20 +9,19 @@ use crate::reader::Reader;
 use hierarchy::{ClassId, Program, Value};
 use init_core::{Completed, Event, Kind, Label, Outcome};
 use jasmin_words::integer::{push_decimal, push_integer};
+use sequence::Writer;
 use std::alloc::{AllocError, Global};
 use trace::{write_class_name, write_trace};
 
 /// The errors by which the machine ends a thread.
 const MACHINE_ERRORS: &str = " java/lang/InternalError or java/lang/OutOfMemoryError";
 
-/// A text about the events of a program. Out of memory, what is said is lost, and so is all that follows.
+/// A text about the events of a program.
 #[derive(Drop)]
 pub(crate) struct Words<'a> {
     program: &'a Program,
     events: &'a [Event],
-    text: Vec<u8>,
-    /// Whether anything is lost.
-    is_lost: bool,
+    text: Writer,
 }
 
 /// The label that an event of this kind gives its class, if it gives one.
@@ -47,68 +47,50 @@ impl<'a> Words<'a> {
         Words {
             program,
             events,
-            text: Vec::new(alloc),
-            is_lost: false,
+            text: Writer::new(alloc),
         }
     }
 
-    /// The text. An `Err` is that something is lost.
+    /// The text. An `Err` is that memory ran out.
     pub(crate) fn into_text(self) -> Result<Vec<u8>, AllocError>
-        ensures whole { IfOk result (λ text. self.entry.is_lost ≡ false) }
-        ensures same { IfOk result (λ text. text ≡ self.entry.text) }
+        ensures whole { IfOk result (λ text. self.entry.text.is_lost ≡ false) }
+        ensures text { IfOk result (λ text. text.items ≡ self.entry.text.text) }
     {
-        let Words { text, is_lost, .. } = self;
-        if is_lost { Err(AllocError) } else { Ok(text) }
+        let Words { text, .. } = self;
+        text.into_text()
     }
 }
 
 impl Words<'_> {
-    /// Something is lost.
-    pub(crate) fn lose(&mut self)
-        ensures { self.new.is_lost ≡ true }
-    {
-        self.is_lost = true;
-    }
-
-    fn note(&mut self, said: Result<(), AllocError>) {
-        if said.is_err() {
-            self.lose();
-        }
-    }
-
     pub(crate) fn say(&mut self, words: &str)
-        ensures { self.new.is_lost ≡ false → self.new.text.items ≡ self.old.text.items ++ words.now }
+        ensures { Adds self.old.text words.now self.new.text }
     {
-        if self.text.extend_from_slice(words.as_bytes()).is_err() {
-            self.lose();
-        }
+        self.text.push(words.as_bytes());
+    }
+
+    /// What is to be said can't be made.
+    pub(crate) fn lose(&mut self)
+        ensures { self.new.text.is_lost ≡ true }
+    {
+        self.text.lose();
     }
 
     fn class(&mut self, class: ClassId) {
-        let said = write_class_name(&mut self.text, self.program, class);
-        self.note(said);
-    }
-
-    fn number(&mut self, number: usize) {
-        let said = push_decimal(&mut self.text, number);
-        self.note(said);
+        write_class_name(&mut self.text, self.program, class);
     }
 
     fn thread(&mut self, thread: usize) {
         self.say("t");
-        self.number(thread);
+        push_decimal(&mut self.text, thread);
     }
 
     pub(crate) fn value(&mut self, value: Value) {
         match value {
-            Value::Int(number) => {
-                let said = push_integer(&mut self.text, number);
-                self.note(said);
-            }
+            Value::Int(number) => push_integer(&mut self.text, number),
             Value::Null => self.say("null"),
             Value::Reference(number) => {
                 self.say("#");
-                self.number(number as usize);
+                push_decimal(&mut self.text, number as usize);
             }
         }
     }
@@ -138,16 +120,13 @@ impl Words<'_> {
 
     fn since(&mut self, number: usize) {
         self.say(" since event ");
-        self.number(number);
+        push_decimal(&mut self.text, number);
     }
 
     /// An event, as a trace has it but for its number.
     pub(crate) fn event(&mut self, alloc: Global, event: &Event) {
         match line_of(alloc, self.program, event) {
-            Ok(line) => {
-                let said = self.text.extend_from_slice(line.get(2..).unwrap_or(&[]));
-                self.note(said);
-            }
+            Ok(line) => self.text.push(line.get(2..).unwrap_or(&[])),
             Err(_) => self.lose(),
         }
     }

@@ -5,7 +5,7 @@
 //! their parts in sequences, so that a contract can compare whole values with `≡` and name no view
 //! function. A [`Text`] is a sequence of bytes, and a [`Name`] a text that is a name of some [`NameKind`].
 //!
-//! A sequence is made of a `Vec` and gives it back without taking memory.
+//! A sequence is made of a `Vec` and gives it back without taking memory. A [`Writer`] gathers a text piece by piece.
 //!
 //! A function that reads a text returns its value or a [`Refusal`]: there was no memory, or the text has a fault.
 //! `specs/Gives.antt` says what such a function gives, and `proofs/Results.antt` has the lemmas about its steps.
@@ -15,11 +15,13 @@ ghost use Rattle.std.specs.Prelude.{◌≡◌, ◌++◌, ◌∷◌, [], length, 
 
 mod name;
 mod refusal;
+mod writer;
 
 pub use name::{Name, NameKind};
 pub use refusal::Refusal;
 use std::alloc::{AllocError, Global};
 use std::marker::Model;
+pub use writer::Writer;
 
 /// A list that owns its memory.
 #[derive(Drop)]

@@ -1,6 +1,7 @@
 //! A trace as text.
 
-ghost use Rattle.std.specs.Prelude.{◌≡◌, ◌++◌, IfOk, OnOk, OnErr, Some, codes};
+ghost use Rattle.std.specs.Prelude.{◌≡◌, ◌++◌, IfOk, Some, codes};
+ghost use Rattle.sequence.specs.Written.{Adds};
 ghost use Rattle.jasmin_words.specs.Quoting.{quoted};
 ghost use Rattle.trace.specs.TraceText.{class_text, event_class_text, throwable_text, head, step_text, field_text, field_in_trace, value_text, use_text, kind_text, line, trace_of};
 
@@ -10,158 +11,139 @@ use init_core::{Event, Kind};
 use jasmin_text::Field;
 use jasmin_words::integer::{push_decimal, push_integer};
 use jasmin_words::quote::push_quoted;
+use sequence::Writer;
 use statics::static_field_at;
 use std::alloc::{AllocError, Global};
 
 /// The number and the thread of a line.
-fn write_head(out: &mut Vec<u8>, number: usize, thread: usize) -> Result<(), AllocError>
-    ensures { OnOk result (out.new.items ≡ out.old.items ++ head number thread) }
+fn write_head(out: &mut Writer, number: usize, thread: usize)
+    ensures { Adds out.old (head number thread) out.new }
 {
-    push_decimal(out, number)?;
-    out.extend_from_slice(b" t")?;
-    push_decimal(out, thread)?;
-    Ok(())
+    push_decimal(out, number);
+    out.push(b" t");
+    push_decimal(out, thread);
 }
 
-/// Adds the name of a class at the end. An `Err` is want of memory and changes nothing.
-pub fn write_class_name(
-    out: &mut Vec<u8>,
-    program: &Program,
-    class: ClassId,
-) -> Result<(), AllocError>
-    ensures ok { OnOk result (out.new.items ≡ out.old.items ++ class_text program.now class) }
-    ensures err { OnErr result (out.new.items ≡ out.old.items) }
+/// Writes the name of a class at the end.
+pub fn write_class_name(out: &mut Writer, program: &Program, class: ClassId)
+    ensures { Adds out.old (class_text program.now class) out.new }
 {
     if let Some(name) = program.name(class) {
-        out.extend_from_slice(name)?;
+        out.push(name);
     }
-    Ok(())
 }
 
-fn write_event_class(
-    out: &mut Vec<u8>,
-    program: &Program,
-    class: Option<ClassId>,
-) -> Result<(), AllocError>
-    ensures { OnOk result (out.new.items ≡ out.old.items ++ event_class_text program.now class) }
+fn write_event_class(out: &mut Writer, program: &Program, class: Option<ClassId>)
+    ensures { Adds out.old (event_class_text program.now class) out.new }
 {
     if let Some(class) = class {
-        write_class_name(out, program, class)?;
+        write_class_name(out, program, class);
     }
-    Ok(())
 }
 
-fn write_throwable(
-    out: &mut Vec<u8>,
-    program: &Program,
-    throwable: Option<ClassId>,
-) -> Result<(), AllocError>
-    ensures { OnOk result (out.new.items ≡ out.old.items ++ throwable_text program.now throwable) }
+fn write_throwable(out: &mut Writer, program: &Program, throwable: Option<ClassId>)
+    ensures { Adds out.old (throwable_text program.now throwable) out.new }
 {
     if let Some(throwable) = throwable {
-        out.extend_from_slice(b" ")?;
-        write_class_name(out, program, throwable)?;
+        out.push(b" ");
+        write_class_name(out, program, throwable);
     }
-    Ok(())
 }
 
 /// A step of that number, with the throwable that it has.
 fn write_step(
-    out: &mut Vec<u8>,
+    out: &mut Writer,
     program: &Program,
     step: usize,
     class: Option<ClassId>,
     throwable: Option<ClassId>,
-) -> Result<(), AllocError>
-    ensures { OnOk result (out.new.items ≡ out.old.items ++ step_text program.now step class throwable) }
+)
+    ensures { Adds out.old (step_text program.now step class throwable) out.new }
 {
-    out.extend_from_slice(b" step")?;
-    push_decimal(out, step)?;
-    out.extend_from_slice(b" ")?;
-    write_event_class(out, program, class)?;
-    write_throwable(out, program, throwable)?;
-    Ok(())
+    out.push(b" step");
+    push_decimal(out, step);
+    out.push(b" ");
+    write_event_class(out, program, class);
+    write_throwable(out, program, throwable);
 }
 
-fn write_field_name(out: &mut Vec<u8>, alloc: Global, field: &Field) -> Result<(), AllocError>
-    ensures { OnOk result (out.new.items ≡ out.old.items ++ field_in_trace (Some field.now)) }
+fn write_field_name(out: &mut Writer, alloc: Global, field: &Field)
+    ensures { Adds out.old (field_in_trace (Some field.now)) out.new }
 {
-    out.extend_from_slice(field.name.as_slice())?;
-    out.extend_from_slice(b":")?;
-    out.extend_from_slice(&write_field(alloc, &field.field_type)?)?;
-    Ok(())
+    out.push(field.name.as_slice());
+    out.push(b":");
+    match write_field(alloc, &field.field_type) {
+        Ok(spelling) => out.push(&spelling),
+        Err(_) => out.lose(),
+    }
 }
 
 /// A static field by its place among those of its class.
 fn write_static(
-    out: &mut Vec<u8>,
+    out: &mut Writer,
     alloc: Global,
     program: &Program,
     class: Option<ClassId>,
     place: usize,
-) -> Result<(), AllocError>
-    ensures { OnOk result (out.new.items ≡ out.old.items ++ field_text program.now class place) }
+)
+    ensures { Adds out.old (field_text program.now class place) out.new }
 {
     if let Some(class) = class {
         if let Some(field) = static_field_at(program, class, place) {
-            write_field_name(out, alloc, field)?;
+            write_field_name(out, alloc, field);
         }
     }
-    Ok(())
 }
 
-fn write_value(out: &mut Vec<u8>, value: Value) -> Result<(), AllocError>
-    ensures { OnOk result (out.new.items ≡ out.old.items ++ value_text value) }
+fn write_value(out: &mut Writer, value: Value)
+    ensures { Adds out.old (value_text value) out.new }
 {
     match value {
-        Value::Int(number) => push_integer(out, number)?,
-        Value::Null => out.extend_from_slice(b"null")?,
+        Value::Int(number) => push_integer(out, number),
+        Value::Null => out.push(b"null"),
         Value::Reference(number) => {
-            out.extend_from_slice(b"#")?;
-            push_decimal(out, number as usize)?;
+            out.push(b"#");
+            push_decimal(out, number as usize);
         }
     }
-    Ok(())
 }
 
 /// A read or a write of a static field, by its word.
 fn write_use(
-    out: &mut Vec<u8>,
+    out: &mut Writer,
     alloc: Global,
     program: &Program,
     word: &[u8],
     class: Option<ClassId>,
     place: usize,
     value: Value,
-) -> Result<(), AllocError>
-    ensures { OnOk result (out.new.items ≡ out.old.items ++ use_text program.now word.now class place value) }
+)
+    ensures { Adds out.old (use_text program.now word.now class place value) out.new }
 {
-    out.extend_from_slice(word)?;
-    write_event_class(out, program, class)?;
-    out.extend_from_slice(b" ")?;
-    write_static(out, alloc, program, class, place)?;
-    out.extend_from_slice(b" ")?;
-    write_value(out, value)?;
-    Ok(())
+    out.push(word);
+    write_event_class(out, program, class);
+    out.push(b" ");
+    write_static(out, alloc, program, class, place);
+    out.push(b" ");
+    write_value(out, value);
 }
 
-fn write_print(out: &mut Vec<u8>, text: &[u8]) -> Result<(), AllocError>
-    ensures { OnOk result (out.new.items ≡ out.old.items ++ codes " print " ++ quoted text.now) }
+fn write_print(out: &mut Writer, text: &[u8])
+    ensures { Adds out.old (codes " print " ++ quoted text.now) out.new }
 {
-    out.extend_from_slice(b" print ")?;
-    push_quoted(out, text)?;
-    Ok(())
+    out.push(b" print ");
+    push_quoted(out, text);
 }
 
 /// What stands behind the number and the thread.
 fn write_kind(
-    out: &mut Vec<u8>,
+    out: &mut Writer,
     alloc: Global,
     program: &Program,
     class: Option<ClassId>,
     kind: &Kind,
-) -> Result<(), AllocError>
-    ensures { OnOk result (out.new.items ≡ out.old.items ++ kind_text program.now class kind.now) }
+)
+    ensures { Adds out.old (kind_text program.now class kind.now) out.new }
 {
     match kind {
         Kind::Waits => write_step(out, program, 2, class, None),
@@ -183,22 +165,18 @@ fn write_kind(
     }
 }
 
-fn write_line(
-    out: &mut Vec<u8>,
-    alloc: Global,
-    program: &Program,
-    number: usize,
-    event: &Event,
-) -> Result<(), AllocError>
-    ensures { OnOk result (out.new.items ≡ out.old.items ++ line program.now number event.now) }
+fn write_line(out: &mut Writer, alloc: Global, program: &Program, number: usize, event: &Event)
+    ensures { Adds out.old (line program.now number event.now) out.new }
 {
-    write_head(out, number, event.thread())?;
+    write_head(out, number, event.thread());
     match event.text() {
-        Some(text) => write_print(out, text)?,
-        None => write_kind(out, alloc, program, event.class(), &event.kind()?)?,
+        Some(text) => write_print(out, text),
+        None => match event.kind() {
+            Ok(kind) => write_kind(out, alloc, program, event.class(), &kind),
+            Err(_) => out.lose(),
+        },
     }
-    out.extend_from_slice(b"\n")?;
-    Ok(())
+    out.push(b"\n");
 }
 
 /// The trace of these events: a line each, numbered from 0, as docs/TRACES.md says.
@@ -211,9 +189,9 @@ pub fn write_trace(
 ) -> Result<Vec<u8>, AllocError>
     ensures { IfOk result (λ text. text.items ≡ trace_of program.now events.now) }
 {
-    let mut out = Vec::new(alloc);
+    let mut out = Writer::new(alloc);
     for (number, event) in events.iter().enumerate() {
-        write_line(&mut out, alloc, program, number, event)?;
+        write_line(&mut out, alloc, program, number, event);
     }
-    Ok(out)
+    out.into_text()
 }

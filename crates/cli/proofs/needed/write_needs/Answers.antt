@@ -10,4 +10,4 @@ pub loop-number-preserved : goal.loop-number-preserved
 loop-number-preserved c =
     let here : c.loop-number.number < length c.args.program.now.classes = omega (arith, c.loop-number-test.true, c.len-number-end.ensures.count) in
     let line = next c.args.program.now c.loop-number.number (length c.args.program.now.classes) here in
-    rw c.in_ok-write_line.ensures (simp append_assoc (simp append_assoc at (rw line at c.loop-number.invariant)))
+    λ h. let written = c.write_line.ensures h in rw written.1 (simp append_assoc (simp append_assoc at (rw line at (c.loop-number.invariant written.0))))

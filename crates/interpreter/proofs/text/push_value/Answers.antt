@@ -1,5 +1,6 @@
-use Rattle.std.proofs.Common.{◌≡◌, ◌++◌, Some, OnOk, rules, ap, sym, subst, ◌∙◌, w32}
+use Rattle.std.proofs.Common.{◌≡◌, Some, rules, ap, sym, subst, ◌∙◌, w32}
 use Rattle.std.proofs.lemmas.Int.{to_z-of_z, ints}
+use Rattle.sequence.specs.Written.{Adds}
 use Rattle.frames.specs.declared.cell.Cell.{Cell}
 use Rattle.frames.specs.declared.cell.Cell.TheVariants.{Int}
 use Rattle.interpreter.specs.Printing.{text_of}
@@ -8,4 +9,4 @@ use Rattle.interpreter.proofs.text.push_value.Goals as goal
 pub returns-in-Int : goal.returns-in-Int
 returns-in-Int c =
     let same = to_z-of_z w32 c.in-Int.number (search (rules, ints)) in
-    rw c.in-Some.is (subst (λ (v : Cell). OnOk c.push_int.result (c.push_int.new.text.items ≡ c.args.text.now.items ++ text_of c.args.program.now c.args.printed (Some v))) (ap Int same ∙ sym c.in-Int.is) (c.push_int.ensures c.args.program.now))
+    rw c.in-Some.is (subst (λ (v : Cell). Adds c.args.text.now (text_of c.args.program.now c.args.printed (Some v)) c.push_int.new.text) (ap Int same ∙ sym c.in-Int.is) (c.push_int.ensures c.args.program.now))
