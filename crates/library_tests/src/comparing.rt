@@ -70,7 +70,8 @@ fn is_legal_with(
     begins_thread_word(alloc, case.needs, case.mains[made.thread], part.as_slice())
 }
 
-/// Counts the events of a thread at a class that World and the twin judge otherwise after this list, where World makes these.
+/// How many events of a thread at a class World and the twin judge otherwise after this list, where World makes these. One that
+/// the twin has no memory to judge is one of them.
 fn count_differences(
     alloc: Global,
     case: &Case,
@@ -78,40 +79,45 @@ fn count_differences(
     made: &[Made],
     thread: usize,
     class: usize,
-) -> Result<usize, AllocError> {
+) -> usize {
     let mut differ = 0usize;
     for act in &ACTS {
         let act = *act;
         let event = Made { thread, class, act };
-        if is_legal_with(alloc, case, list, &event)? != made.contains(&event) {
+        if is_legal_with(alloc, case, list, &event) != Ok(made.contains(&event)) {
             differ = differ.saturating_add(1);
         }
     }
-    Ok(differ)
+    differ
 }
 
-/// The event that this choice makes after these choices, which make so many, if it makes one.
-fn next_event(
+/// These choices, and then this one.
+fn with_choice(alloc: Global, path: &[Choice], choice: Choice) -> Result<Vec<Choice>, AllocError> {
+    let mut longer = Vec::from_slice(alloc, path)?;
+    longer.push(choice)?;
+    Ok(longer)
+}
+
+/// Adds the event that this choice makes after these choices, which make so many, if it makes one.
+fn add_next(
     alloc: Global,
     program: &Program,
     case: &Case,
-    path: &[Choice],
-    choice: Choice,
+    longer: Vec<Choice>,
     count: usize,
     found: &mut Found,
-) -> Result<Option<Made>, AllocError> {
-    let mut longer = Vec::from_slice(alloc, path)?;
-    longer.push(choice)?;
+    made: &mut Vec<Made>,
+) -> Result<(), AllocError> {
     let events = events_of(alloc, program, &case.mains, longer.as_slice())?;
-    let event = events.as_slice().get(count).copied();
-    if event.is_some() {
+    if let Some(event) = events.as_slice().get(count) {
+        made.push(*event)?;
         found.longer.push(longer)?;
     }
-    Ok(event)
+    Ok(())
 }
 
 /// Adds the events that a thread can make after these choices, which make so many.
-fn add_next(
+fn add_all(
     alloc: Global,
     program: &Program,
     case: &Case,
@@ -122,12 +128,29 @@ fn add_next(
     made: &mut Vec<Made>,
 ) -> Result<(), AllocError> {
     for action in &ACTIONS {
-        let choice = (thread, *action);
-        if let Some(event) = next_event(alloc, program, case, path, choice, count, found)? {
-            made.push(event)?;
-        }
+        let longer = with_choice(alloc, path, (thread, *action))?;
+        add_next(alloc, program, case, longer, count, found, made)?;
     }
     Ok(())
+}
+
+/// Compares them on each event after this list, where World makes these.
+fn compare_events(
+    alloc: Global,
+    classes: usize,
+    case: &Case,
+    list: &[Made],
+    made: &[Made],
+    found: &mut Found,
+) {
+    for class in 0..classes {
+        let of_first = count_differences(alloc, case, list, made, 0, class);
+        let of_second = count_differences(alloc, case, list, made, 1, class);
+        found.differ = found
+            .differ
+            .saturating_add(of_first)
+            .saturating_add(of_second);
+    }
 }
 
 /// Compares World with the twin after the list of these choices.
@@ -140,39 +163,11 @@ fn compare_at(
 ) -> Result<(), AllocError> {
     let list = events_of(alloc, program, &case.mains, path)?;
     let mut made = Vec::new(alloc);
-    for thread in 0..2 {
-        add_next(
-            alloc,
-            program,
-            case,
-            path,
-            thread,
-            list.len(),
-            found,
-            &mut made,
-        )?;
-    }
+    let count = list.len();
+    add_all(alloc, program, case, path, 0, count, found, &mut made)?;
+    add_all(alloc, program, case, path, 1, count, found, &mut made)?;
     found.lists = found.lists.saturating_add(1);
-    compare_events(alloc, program.len(), case, &list, &made, found)
-}
-
-/// Compares them on each event after this list, where World makes these.
-fn compare_events(
-    alloc: Global,
-    classes: usize,
-    case: &Case,
-    list: &[Made],
-    made: &[Made],
-    found: &mut Found,
-) -> Result<(), AllocError> {
-    for class in 0..classes {
-        let of_first = count_differences(alloc, case, list, made, 0, class)?;
-        let of_second = count_differences(alloc, case, list, made, 1, class)?;
-        found.differ = found
-            .differ
-            .saturating_add(of_first)
-            .saturating_add(of_second);
-    }
+    compare_events(alloc, program.len(), case, &list, &made, found);
     Ok(())
 }
 

@@ -4,7 +4,6 @@ use crate::frame_steps::{Deed, begin, call, drop_operands, push};
 use crate::programs::{Question, Row, are_so};
 use frames::{Cell, FramePlace, Frames, Stop};
 use hierarchy::{BuiltIn, MethodCode, Op};
-use std::alloc::AllocError;
 
 /// Why a run of instructions stops.
 #[derive(Clone, Copy, PartialEq, Eq)]
@@ -167,21 +166,23 @@ fn comes_to(frames: &mut Frames, run: &Run, step: u64) -> bool {
 }
 
 /// Whether a run comes to what it must, where its instructions are asked for at once and where each is asked for alone.
-pub(crate) fn runs(frames: &mut Frames, code: &MethodCode, run: &Run) -> Result<bool, AllocError> {
-    begin(frames, 0, code, run.locals)?;
-    let at_once = comes_to(frames, run, run.limit);
-    begin(frames, 0, code, run.locals)?;
-    Ok(at_once && comes_to(frames, run, 1))
+pub(crate) fn runs(frames: &mut Frames, code: &MethodCode, run: &Run) -> bool {
+    begin(frames, 0, code, run.locals).is_ok()
+        && comes_to(frames, run, run.limit)
+        && begin(frames, 0, code, run.locals).is_ok()
+        && comes_to(frames, run, 1)
 }
 
 /// Whether the first of three operands is left where two are dropped.
-pub(crate) fn drops_two(frames: &mut Frames, code: &MethodCode) -> Result<bool, AllocError> {
-    begin(frames, 0, code, &[])?;
+pub(crate) fn drops_two(frames: &mut Frames, code: &MethodCode) -> bool {
+    if begin(frames, 0, code, &[]).is_err() {
+        return false;
+    }
     for number in 1..4 {
         push(frames, Cell::Int(number));
     }
     drop_operands(frames, 2);
-    Ok(frames.operand(0) == Some(Cell::Int(1)) && frames.operand(1).is_none())
+    frames.operand(0) == Some(Cell::Int(1)) && frames.operand(1).is_none()
 }
 
 /// Pushes 7 and 3 and calls a method with them, at place 2.
@@ -222,11 +223,9 @@ fn come_back(frames: &mut Frames) {
 }
 
 /// Whether a call gives its result to the place after it.
-pub(crate) fn calls(frames: &mut Frames, code: &MethodCode) -> Result<bool, AllocError> {
-    begin(frames, 0, code, &[])?;
-    let is_called = comes_to(frames, &CALL, 100);
-    call(frames, 1, code, 2)?;
-    let returns = comes_to(frames, &SUBTRACT, 100);
+pub(crate) fn calls(frames: &mut Frames, code: &MethodCode) -> bool {
+    let is_called = begin(frames, 0, code, &[]).is_ok() && comes_to(frames, &CALL, 100);
+    let returns = call(frames, 1, code, 2).is_ok() && comes_to(frames, &SUBTRACT, 100);
     come_back(frames);
     let after = FramePlace {
         class: 0,
@@ -234,18 +233,22 @@ pub(crate) fn calls(frames: &mut Frames, code: &MethodCode) -> Result<bool, Allo
         place: 3,
         is_first: true,
     };
-    let result = frames.operand(0) == Some(Cell::Int(4));
-    Ok(is_called && returns && result && frames.at() == Some(after))
+    let is_back = frames.at() == Some(after);
+    is_called && returns && is_back && frames.operand(0) == Some(Cell::Int(4))
 }
 
 /// Begins a body and calls methods, each with one operand, until there are so many frames.
-fn go_down(frames: &mut Frames, code: &MethodCode, depth: usize) -> Result<(), AllocError> {
-    begin(frames, 0, code, &[Cell::Null])?;
+fn go_down(frames: &mut Frames, code: &MethodCode, depth: usize) -> bool {
+    if begin(frames, 0, code, &[Cell::Null]).is_err() {
+        return false;
+    }
     for number in 1..depth {
         push(frames, Cell::Int(5));
-        call(frames, number, code, 1)?;
+        if call(frames, number, code, 1).is_err() {
+            return false;
+        }
     }
-    Ok(())
+    true
 }
 
 /// Whether so many frames are reached by a large method, without memory, where so many of a small one were reached and left.
@@ -254,14 +257,13 @@ pub(crate) fn reaches_again(
     small: &MethodCode,
     large: &MethodCode,
     depth: usize,
-) -> Result<bool, AllocError> {
-    go_down(frames, small, depth)?;
+) -> bool {
+    let is_reached = go_down(frames, small, depth);
     for _ in 0..depth {
         frames.leave();
     }
     let are_left = frames.len() == 0;
-    let is_reached = go_down(frames, large, depth).is_ok();
-    Ok(are_left && is_reached && frames.len() == depth)
+    is_reached && are_left && go_down(frames, large, depth) && frames.len() == depth
 }
 
 const ROWS: &[Row] = &[

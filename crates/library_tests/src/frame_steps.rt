@@ -35,7 +35,7 @@ fn method(alloc: Global, stack: u16, locals: u16) -> MethodCode {
 }
 
 /// Whether what is done in new frames comes to what it must.
-pub(crate) fn is_done(alloc: Global, program: &Program, deed: &Deed) -> Result<bool, AllocError> {
+pub(crate) fn is_done(alloc: Global, program: &Program, deed: &Deed) -> bool {
     let code = method(alloc, 4, 2);
     let large = method(alloc, 1_024, 1_024);
     let mut frames = Frames::new(alloc);
@@ -48,7 +48,7 @@ fn does(
     code: &MethodCode,
     large: &MethodCode,
     deed: &Deed,
-) -> Result<bool, AllocError> {
+) -> bool {
     match deed {
         Deed::Runs(run) => runs(frames, code, run),
         Deed::DropsTwo => drops_two(frames, code),

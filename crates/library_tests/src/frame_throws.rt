@@ -51,14 +51,15 @@ pub(crate) fn comes_out(
     code: &MethodCode,
     program: &Program,
     throw: &Throw,
-) -> Result<bool, AllocError> {
-    stand(frames, code, throw)?;
-    let Some(class) = program.class_named(throw.name) else {
-        return Ok(false);
-    };
-    let reference = 6;
-    let caught = frames.catch(program, Thrown { reference, class });
-    Ok(caught == throw.caught && is_left(frames, throw))
+) -> bool {
+    match program.class_named(throw.name) {
+        Some(class) if stand(frames, code, throw).is_ok() => {
+            let reference = 6;
+            let caught = frames.catch(program, Thrown { reference, class });
+            caught == throw.caught && is_left(frames, throw)
+        }
+        _ => false,
+    }
 }
 
 /// Whether these frames are left.

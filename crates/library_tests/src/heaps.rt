@@ -4,7 +4,7 @@ use crate::programs::{Question, Row, are_so};
 use descriptors::BaseType;
 use heap::{Entry, Heap, Holder, Monitor, Monitors, no_class, out_of_memory};
 use hierarchy::{BuiltIn, Element, Program, ResolvedType, Value};
-use std::alloc::{AllocError, Global};
+use std::alloc::Global;
 
 /// The type of bytes.
 const BYTE: ResolvedType = ResolvedType {
@@ -23,16 +23,21 @@ pub(crate) enum Part {
 }
 
 /// Whether thrown objects get the next references, and are found by them.
-fn throws(program: &Program, heap: &mut Heap) -> Result<bool, AllocError> {
-    let thrown = heap.throwable(program, BuiltIn::VerifyError)?;
-    let wrapped = heap.initializer_error(program)?;
-    let object = heap.new_object(program, thrown.class)?;
-    let are_next = thrown.reference == 3 && wrapped.reference == 4 && object == Some(5);
-    let are_found = heap.class_of(program, 3) == Some(program.built_in(BuiltIn::VerifyError))
+fn throws(program: &Program, heap: &mut Heap) -> bool {
+    let Ok(thrown) = heap.throwable(program, BuiltIn::VerifyError) else {
+        return false;
+    };
+    let Ok(wrapped) = heap.initializer_error(program) else {
+        return false;
+    };
+    thrown.reference == 3
+        && wrapped.reference == 4
+        && heap.new_object(program, thrown.class) == Ok(Some(5))
+        && heap.class_of(program, 3) == Some(program.built_in(BuiltIn::VerifyError))
         && heap.class_of(program, 4) == Some(wrapped.class)
-        && heap.class_of(program, 6).is_none();
-    let are_ready = out_of_memory(program).reference == 1 && no_class(program).reference == 2;
-    Ok(are_next && are_found && are_ready)
+        && heap.class_of(program, 6).is_none()
+        && out_of_memory(program).reference == 1
+        && no_class(program).reference == 2
 }
 
 /// A type, by its dimensions and its element, a reference, whether that refers to an instance of the type, and whether it fits it.
@@ -73,50 +78,49 @@ fn are_fitting(program: &Program, heap: &Heap) -> bool {
 }
 
 /// Whether objects and arrays fit what they are, and have no field where their class has none.
-fn types(program: &Program, heap: &mut Heap) -> Result<bool, AllocError> {
-    heap.throwable(program, BuiltIn::VerifyError)?;
-    heap.new_array(program, BYTE, 2)?;
-    let has_field = heap.field(program, BYTE, 3, 0).is_some()
-        || heap.put_field(program, BYTE, 3, 0, Value::Int(1));
-    Ok(!has_field && are_fitting(program, heap))
+fn types(program: &Program, heap: &mut Heap) -> bool {
+    heap.throwable(program, BuiltIn::VerifyError).is_ok()
+        && heap.new_array(program, BYTE, 2).is_ok()
+        && heap.field(program, BYTE, 3, 0).is_none()
+        && !heap.put_field(program, BYTE, 3, 0, Value::Int(1))
+        && are_fitting(program, heap)
 }
 
 /// Whether an array holds defaults and what is written to it, as its type keeps it.
-fn keeps_bytes(program: &Program, heap: &mut Heap) -> Result<bool, AllocError> {
-    let bytes = heap.new_array(program, BYTE, 2)?;
-    let is_made = bytes == Some(3)
+fn keeps_bytes(program: &Program, heap: &mut Heap) -> bool {
+    heap.new_array(program, BYTE, 2) == Ok(Some(3))
         && heap.element_type(program, 3) == Some(BYTE)
         && heap.length(program, 3) == Some(2)
-        && heap.class_of(program, 3) == Some(program.built_in(BuiltIn::Object));
-    let is_put = heap.put_element(program, 3, 1, Value::Int(200))
-        && !heap.put_element(program, 3, 2, Value::Int(200));
-    let is_kept = heap.element(program, 3, 0) == Some(Value::Int(0))
-        && heap.element(program, 3, 1) == Some(Value::Int(-56));
-    Ok(is_made && is_put && is_kept)
+        && heap.class_of(program, 3) == Some(program.built_in(BuiltIn::Object))
+        && heap.put_element(program, 3, 1, Value::Int(200))
+        && !heap.put_element(program, 3, 2, Value::Int(200))
+        && heap.element(program, 3, 0) == Some(Value::Int(0))
+        && heap.element(program, 3, 1) == Some(Value::Int(-56))
 }
 
 /// Whether nothing is made where there is no room.
-fn is_full(program: &Program, heap: &mut Heap) -> Result<bool, AllocError> {
-    let huge = heap.new_array(program, BYTE, usize::MAX)?;
-    let most = heap.new_array(program, BYTE, 999_996)?;
-    let more = heap.new_array(program, BYTE, 0)?;
-    let thrown = heap.throwable(program, BuiltIn::VerifyError)?;
-    Ok(huge.is_none() && most == Some(3) && more.is_none() && thrown.reference == 1)
+fn is_full(program: &Program, heap: &mut Heap) -> bool {
+    let are_made = heap.new_array(program, BYTE, usize::MAX) == Ok(None)
+        && heap.new_array(program, BYTE, 999_996) == Ok(Some(3))
+        && heap.new_array(program, BYTE, 0) == Ok(None);
+    match heap.throwable(program, BuiltIn::VerifyError) {
+        Ok(thrown) => are_made && thrown.reference == 1,
+        Err(_) => false,
+    }
 }
 
 const MONITOR: Monitor = Monitor::Object(7);
 
 /// Whether thread 1 enters the monitor twice, and thread 2 doesn't.
-fn enters(monitors: &mut Monitors) -> Result<bool, AllocError> {
-    let first = monitors.enter(1, MONITOR)?;
-    let again = monitors.enter(1, MONITOR)?;
-    let other = monitors.enter(2, MONITOR)?;
+fn enters(monitors: &mut Monitors) -> bool {
     let holder = Holder {
         thread: 1,
         count: 2,
     };
-    let are_right = first == Entry::Entered && again == Entry::Entered && other == Entry::Busy;
-    Ok(are_right && monitors.holder(MONITOR) == Some(holder))
+    monitors.enter(1, MONITOR) == Ok(Entry::Entered)
+        && monitors.enter(1, MONITOR) == Ok(Entry::Entered)
+        && monitors.enter(2, MONITOR) == Ok(Entry::Busy)
+        && monitors.holder(MONITOR) == Some(holder)
 }
 
 /// Whether thread 1 leaves the monitor, and thread 2 doesn't.
@@ -128,14 +132,13 @@ fn leaves(monitors: &mut Monitors) -> bool {
 }
 
 /// Whether a monitor is held by one thread, as often as it entered it.
-fn is_held(alloc: Global) -> Result<bool, AllocError> {
+fn is_held(alloc: Global) -> bool {
     let mut monitors = Monitors::new(alloc);
-    let is_entered = enters(&mut monitors)?;
-    Ok(is_entered && leaves(&mut monitors))
+    enters(&mut monitors) && leaves(&mut monitors)
 }
 
 /// Whether a part of a new heap is right, over a program without classes.
-pub(crate) fn is_right(alloc: Global, program: &Program, part: Part) -> Result<bool, AllocError> {
+pub(crate) fn is_right(alloc: Global, program: &Program, part: Part) -> bool {
     let mut heap = Heap::new(alloc);
     match part {
         Part::Throws => throws(program, &mut heap),

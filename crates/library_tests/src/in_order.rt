@@ -3,7 +3,7 @@
 ghost use Rattle.std.specs.Prelude.{◌<◌};
 ghost use Rattle.std.specs.List.{AllByRecursion};
 
-use crate::runs::linked;
+use crate::programs::{Question, Row, are_so};
 use bodies::NoCode;
 use hierarchy::{ClassId, Program};
 use init_core::Label;
@@ -28,8 +28,6 @@ fn text_of(alloc: Global, program: &Program, report: &Report) -> Result<Vec<u8>,
     Ok(text)
 }
 
-const ONE_CLASS: [&[u8]; 1] = [b".class A"];
-
 const ONE_CLASS_TEXT: &[u8] = b"0 t0 step6 A
 1 t0 step9 A
 2 t1 step2 A
@@ -39,23 +37,34 @@ initialized
 ";
 
 /// The text of the run of two threads with one main class, in this order.
-fn text_in_order(alloc: Global, order: &[usize]) -> Option<Vec<u8>>
+fn text_in_order(alloc: Global, program: &Program, order: &[usize]) -> Option<Vec<u8>>
     requires { AllByRecursion (λ t. t < 2) order.now }
 {
-    let program = linked(alloc, &ONE_CLASS)?;
     if program.len() == 0 {
         return None;
     }
     let main = ClassId { number: 0 };
-    let mut bodies = Vec::new(alloc);
-    bodies.push(NoCode).ok()?;
-    bodies.push(NoCode).ok()?;
-    let report = run_ordered(alloc, &program, &[main, main], order, bodies, ()).ok()?;
-    text_of(alloc, &program, &report).ok()
+    let bodies = vec![in alloc; NoCode; 2].ok()?;
+    match run_ordered(alloc, program, &[main, main], order, bodies, ()) {
+        Ok(report) => text_of(alloc, program, &report).ok(),
+        Err(_) => None,
+    }
 }
+
+/// Whether the run of two threads in this order has its text.
+pub(crate) fn is_in_order(alloc: Global, program: &Program) -> bool {
+    match text_in_order(alloc, program, &[0, 0, 1, 0, 1]) {
+        Some(text) => text.as_slice() == ONE_CLASS_TEXT,
+        None => false,
+    }
+}
+
+const ROWS: &[Row] = &[Row {
+    files: &[b".class A"],
+    question: Question::InOrder,
+}];
 
 #[test]
 fn two_threads_go_on_in_order(rt: HostRuntime) {
-    let text = text_in_order(rt.alloc(), &[0, 0, 1, 0, 1]).expect(&rt, "there is a run");
-    assert!(rt; text.as_slice() == ONE_CLASS_TEXT);
+    are_so(&rt, rt.alloc(), ROWS);
 }

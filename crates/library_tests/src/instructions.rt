@@ -2,15 +2,18 @@
 
 use jasmin_text::{Boxed, Instruction};
 use sequence::Text;
+use std::alloc::{AllocError, Global};
 use std::mem::size_of;
-use std::test::Fail;
+
+fn is_boxed(alloc: Global, bytes: &[u8]) -> Result<bool, AllocError> {
+    let operand = Text::copied(alloc, bytes)?;
+    let boxed = Boxed::new(alloc, operand)?;
+    Ok(boxed.get().as_slice() == bytes)
+}
 
 #[test]
-fn operands_in_memory_of_their_own(rt: HostRuntime) -> Result<(), Fail> {
-    let operand = Text::copied(rt.alloc(), b"java/lang/Object")?;
-    let boxed = Boxed::new(rt.alloc(), operand)?;
-    assert!(rt; boxed.get().as_slice() == b"java/lang/Object".as_slice());
-    Ok(())
+fn operands_in_memory_of_their_own(rt: HostRuntime) {
+    assert!(rt; is_boxed(rt.alloc(), b"java/lang/Object") == Ok(true));
 }
 
 #[test]

@@ -2,57 +2,51 @@
 
 use sequence::{Sequence, Text};
 use std::alloc::{AllocError, Global};
-use std::test::Fail;
 use texts::Texts;
 
-fn pushes(numbers: &mut Sequence<u8>) -> Result<bool, AllocError> {
-    let was_empty = numbers.is_empty();
-    numbers.push(3)?;
-    numbers.push(5)?;
-    Ok(was_empty && numbers.len() == 2 && numbers.as_slice() == [3, 5].as_slice())
+fn pushes(numbers: &mut Sequence<u8>) -> bool {
+    numbers.is_empty() && numbers.push(3).is_ok() && numbers.push(5).is_ok() && numbers.len() == 2
 }
 
 #[test]
-fn elements_are_in_order(rt: HostRuntime) -> Result<(), Fail> {
+fn elements_are_in_order(rt: HostRuntime) {
     let mut numbers = Sequence::new(rt.alloc());
-    assert!(rt; pushes(&mut numbers)?);
+    assert!(rt; pushes(&mut numbers) && numbers.as_slice() == [3, 5].as_slice());
     let again = Sequence::from_vec(numbers.into_vec());
     assert!(rt; again.as_slice() == [3, 5].as_slice());
-    Ok(())
 }
 
-/// Whether the text equals its copy, and no other.
-fn is_itself(text: &Text, other: &Text) -> Result<bool, AllocError> {
-    Ok(*text == text.clone()? && *text != *other)
+/// Whether a text equals its copy, and no other.
+fn is_itself(alloc: Global) -> Result<bool, AllocError> {
+    let text = Text::copied(alloc, b"java/lang/Object")?;
+    let copy = text.clone()?;
+    let other = Text::copied(alloc, b"java/lang/System")?;
+    Ok(text == copy && text != other)
 }
 
 #[test]
-fn bytes_are_compared(rt: HostRuntime) -> Result<(), Fail> {
-    let text = Text::copied(rt.alloc(), b"java/lang/Object")?;
-    let other = Text::copied(rt.alloc(), b"java/lang/System")?;
-    assert!(rt; is_itself(&text, &other)?);
-    Ok(())
+fn bytes_are_compared(rt: HostRuntime) {
+    assert!(rt; is_itself(rt.alloc()) == Ok(true));
+}
+
+fn notes(alloc: Global, texts: &mut Texts) -> bool {
+    texts.note(alloc, b"main").is_ok()
+        && texts.note(alloc, b"<clinit>").is_ok()
+        && texts.note(alloc, b"main").is_ok()
 }
 
 /// Whether each text has its place, in the order in which they were noted, and no other text has one.
-fn have_places(alloc: Global, texts: &mut Texts) -> Result<bool, AllocError> {
-    texts.note(alloc, b"main")?;
-    texts.note(alloc, b"<clinit>")?;
-    texts.note(alloc, b"main")?;
-    let in_order = texts.place(b"main") == Some(0) && texts.place(b"<clinit>") == Some(1);
-    let first = texts.at(0) == Some(b"main".as_slice());
-    Ok(
-        in_order
-            && first
-            && texts.len() == 2
-            && texts.place(b"run").is_none()
-            && texts.at(2).is_none(),
-    )
+fn have_places(texts: &Texts) -> bool {
+    texts.len() == 2
+        && texts.place(b"main") == Some(0)
+        && texts.place(b"<clinit>") == Some(1)
+        && texts.place(b"run").is_none()
+        && texts.at(0) == Some(b"main".as_slice())
+        && texts.at(2).is_none()
 }
 
 #[test]
-fn texts_are_noted_once(rt: HostRuntime) -> Result<(), Fail> {
+fn texts_are_noted_once(rt: HostRuntime) {
     let mut texts = Texts::new(rt.alloc());
-    assert!(rt; have_places(rt.alloc(), &mut texts)?);
-    Ok(())
+    assert!(rt; notes(rt.alloc(), &mut texts) && have_places(&texts));
 }

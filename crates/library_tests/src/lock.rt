@@ -3,7 +3,7 @@
 ghost use Rattle.std.specs.Prelude.{◌≡◌, ◌+◌, ◌<◌, ◌≤◌, [], vec_len, Some, IfOk};
 ghost use Rattle.init_lock.specs.Known.{seen_at, out_of, IsAway, IsAwayBut, IsSamePass};
 
-use init_lock::{Closed, GaveUp, Held, InitTable, Keeps, Pass, merge};
+use init_lock::{Closed, GaveUp, Held, InitTable, Journal, Keeps, Pass, merge};
 use std::alloc::{AllocError, Global};
 use std::sync::Wait;
 use std::test::Fail;
@@ -132,63 +132,141 @@ fn finish_both(
     Ok(table.finish(passes))
 }
 
-#[test]
-fn two_passes(rt: HostRuntime) -> Result<(), Fail> {
-    let (table, mut first, mut second) = two_of_each(rt.alloc(), 4)?;
-    assert!(rt; first.number() == 0 && second.number() == 1);
-    assert!(rt; draw_on(&table, &mut first, 0, 5) == Some(0));
-    assert!(rt; table.draw(&mut first, 6) == 1);
-    assert!(rt; draw_on(&table, &mut second, 0, 7) == Some(1));
-    let mut closed = finish_both(rt.alloc(), table, first, second)?;
-    assert!(rt; closed.records[0].events.as_slice() == [5, 7].as_slice());
-    assert!(rt; closed.records[1].events.is_empty());
-    let journal = &mut closed.journals[0];
-    assert!(rt; journal.len() == 2 && !journal.is_empty());
-    let last = journal.pop().expect(&rt, "the second event");
-    assert!(rt; last.stamp == 1 && last.place == None && last.event == 6);
-    let last = journal.pop().expect(&rt, "the first event");
-    assert!(rt; last.stamp == 0 && last.place == Some(0) && last.event == 5);
-    assert!(rt; journal.pop().is_none() && journal.is_empty());
-    let journal = &mut closed.journals[1];
-    let last = journal.pop().expect(&rt, "the only event");
-    assert!(rt; last.stamp == 2 && last.place == Some(0) && last.event == 7);
-    assert!(rt; journal.is_empty());
-    Ok(())
+// Draws on the first record by both passes, and once on no record.
+fn draws(table: &InitTable<Numbers>, first: &mut Pass<Numbers>, second: &mut Pass<Numbers>) -> bool
+    requires places { table.now.places ≡ 2 }
+    requires first { (first.old.table ≡ table.now.id) × (first.old.room ≡ 4) × IsAway first.old.places }
+    requires second { (second.old.table ≡ table.now.id) × (second.old.room ≡ 4) × IsAway second.old.places }
+    ensures first { IsSamePass first.old first.new × IsAway first.new.places }
+    ensures second { IsSamePass second.old second.new × IsAway second.new.places }
+{
+    let is_first = draw_on(table, first, 0, 5) == Some(0);
+    let is_alone = table.draw(first, 6) == 1;
+    let is_second = draw_on(table, second, 0, 7) == Some(1);
+    is_first && is_alone && is_second
+}
+
+// Draws on the first record by both passes, and then on no record by both.
+fn draws_apart(
+    table: &InitTable<Numbers>,
+    first: &mut Pass<Numbers>,
+    second: &mut Pass<Numbers>,
+) -> bool
+    requires places { table.now.places ≡ 2 }
+    requires first { (first.old.table ≡ table.now.id) × (first.old.room ≡ 4) × IsAway first.old.places }
+    requires second { (second.old.table ≡ table.now.id) × (second.old.room ≡ 4) × IsAway second.old.places }
+    ensures first { IsSamePass first.old first.new × IsAway first.new.places }
+    ensures second { IsSamePass second.old second.new × IsAway second.new.places }
+{
+    let is_first = draw_on(table, first, 0, 5) == Some(0);
+    let is_second = draw_on(table, second, 0, 7) == Some(1);
+    let are_alone = table.draw(second, 6) == 2 && table.draw(first, 8) == 3;
+    is_first && is_second && are_alone
+}
+
+// An event as it was drawn: its stamp, the place of its record, and the number.
+type Drawn = (u64, Option<usize>, u64);
+
+// Whether a journal has these events alone, from the last one.
+fn is_of(journal: &mut Journal<u64>, drawn: &[Drawn]) -> bool {
+    if journal.len() != drawn.len() || journal.is_empty() {
+        return false;
+    }
+    for (stamp, place, event) in drawn {
+        match journal.pop() {
+            Some(last) if last.stamp == *stamp && last.place == *place && last.event == *event => {}
+            _ => return false,
+        }
+    }
+    journal.pop().is_none() && journal.is_empty()
+}
+
+// Whether the journals are those of these passes.
+fn are_of(journals: &mut [Journal<u64>], first: &[Drawn], second: &[Drawn]) -> bool {
+    match journals {
+        [one, other] => is_of(one, first) && is_of(other, second),
+        _ => false,
+    }
+}
+
+// Whether the first record keeps these numbers, and the second none.
+fn are_kept(records: &[Numbers], numbers: &[u64]) -> bool {
+    match records {
+        [one, other] => one.events.as_slice() == numbers && other.events.is_empty(),
+        _ => false,
+    }
+}
+
+fn two_passes_draw(alloc: Global) -> Result<bool, AllocError> {
+    let (table, mut first, mut second) = two_of_each(alloc, 4)?;
+    let are_numbered = first.number() == 0 && second.number() == 1;
+    let are_drawn = draws(&table, &mut first, &mut second);
+    let mut closed = finish_both(alloc, table, first, second)?;
+    Ok(
+        are_numbered
+            && are_drawn
+            && are_kept(&closed.records, &[5, 7])
+            && are_of(
+                &mut closed.journals,
+                &[(1, None, 6), (0, Some(0), 5)],
+                &[(2, Some(0), 7)],
+            ),
+    )
 }
 
 #[test]
-fn merges_two_journals(rt: HostRuntime) -> Result<(), Fail> {
-    let (table, mut first, mut second) = two_of_each(rt.alloc(), 4)?;
-    assert!(rt; draw_on(&table, &mut first, 0, 5) == Some(0));
-    assert!(rt; draw_on(&table, &mut second, 0, 7) == Some(1));
-    assert!(rt; table.draw(&mut second, 6) == 2);
-    assert!(rt; table.draw(&mut first, 8) == 3);
-    let closed = finish_both(rt.alloc(), table, first, second)?;
-    let merged = merge(rt.alloc(), closed.journals)?;
-    assert!(rt; merged.as_slice() == [5, 7, 6, 8].as_slice());
-    Ok(())
+fn two_passes(rt: HostRuntime) {
+    assert!(rt; two_passes_draw(rt.alloc()) == Ok(true));
+}
+
+fn are_merged(alloc: Global) -> Result<bool, AllocError> {
+    let (table, mut first, mut second) = two_of_each(alloc, 4)?;
+    let are_drawn = draws_apart(&table, &mut first, &mut second);
+    let closed = finish_both(alloc, table, first, second)?;
+    let merged = merge(alloc, closed.journals)?;
+    Ok(are_drawn && merged.as_slice() == [5, 7, 6, 8].as_slice())
 }
 
 #[test]
-fn gives_up_and_goes_on(rt: HostRuntime) -> Result<(), Fail> {
-    let (table, mut first, mut second) = two_of_each(rt.alloc(), 1)?;
-    let Ok(held) = table.take(&rt, &mut first, 1, 0) else {
+fn merges_two_journals(rt: HostRuntime) {
+    assert!(rt; are_merged(rt.alloc()) == Ok(true));
+}
+
+// Takes the second record, and tells whether it was free. Where it was, it goes back.
+fn takes<W: Wait>(
+    rt: &W,
+    table: &InitTable<Numbers>,
+    pass: &mut Pass<Numbers>,
+    patience: u64,
+) -> bool
+    requires table { (pass.old.table ≡ table.now.id) × (table.now.places ≡ 2) }
+    requires away { IsAway pass.old.places }
+    ensures pass { IsSamePass pass.old pass.new }
+    ensures away { IsAway pass.new.places }
+{
+    match table.take(rt, pass, 1, patience) {
+        Ok(held) => {
+            table.give_back(pass, held);
+            true
+        }
+        Err(GaveUp) => false,
+    }
+}
+
+// Whether the second pass gives up while the first has the record, and then takes it.
+fn gives_up<W: Wait>(rt: &W, alloc: Global) -> Result<bool, AllocError> {
+    let (table, mut first, mut second) = two_of_each(alloc, 1)?;
+    let Ok(held) = table.take(rt, &mut first, 1, 0) else {
         unreachable!()
     };
-    let gave_up = match table.take(&rt, &mut second, 1, 3) {
-        Err(GaveUp) => true,
-        Ok(other) => {
-            table.give_back(&mut second, other);
-            false
-        }
-    };
+    let gave_up = !takes(rt, &table, &mut second, 3);
     table.give_back(&mut first, held);
-    assert!(rt; gave_up);
-    let Ok(held) = table.take(&rt, &mut second, 1, 1) else {
-        panic!(rt; "the lock is free");
-    };
-    table.give_back(&mut second, held);
-    Ok(())
+    Ok(gave_up && takes(rt, &table, &mut second, 1))
+}
+
+#[test]
+fn gives_up_and_goes_on(rt: HostRuntime) {
+    assert!(rt; gives_up(&rt, rt.alloc()) == Ok(true));
 }
 
 // Draws a number on record 0, some times.

@@ -217,49 +217,45 @@ fn ends(record: &mut ClassRecord, ending: &Ending) -> bool {
 }
 
 /// Thread 0 reads a static field.
-fn gets(record: &mut ClassRecord, place: usize, value: Value) -> Result<bool, AllocError> {
-    if let Label::InProgress(0) = record.label() {
-        if place < record.static_fields() {
-            return Ok(record.read_static(0, place)? == value);
+fn gets(record: &mut ClassRecord, place: usize, value: Value) -> bool {
+    match record.label() {
+        Label::InProgress(0) if place < record.static_fields() => {
+            record.read_static(0, place) == Ok(value)
         }
+        _ => false,
     }
-    Ok(false)
 }
 
 /// Thread 0 writes a static field.
-fn puts(record: &mut ClassRecord, place: usize, value: Value) -> Result<bool, AllocError> {
-    if let Label::InProgress(0) = record.label() {
-        if place < record.static_fields() {
-            record.write_static(0, place, value)?;
-            return Ok(true);
+fn puts(record: &mut ClassRecord, place: usize, value: Value) -> bool {
+    match record.label() {
+        Label::InProgress(0) if place < record.static_fields() => {
+            record.write_static(0, place, value).is_ok()
         }
+        _ => false,
     }
-    Ok(false)
 }
 
 /// Whether this can be done, and comes to what it must.
-fn does(record: &mut ClassRecord, deed: &Deed) -> Result<bool, AllocError> {
+fn does(record: &mut ClassRecord, deed: &Deed) -> bool {
     match deed {
-        Deed::Reserves => {
-            record.reserve()?;
-            Ok(true)
-        }
+        Deed::Reserves => record.reserve().is_ok(),
         Deed::Finds(thread, decision) => {
-            Ok(*thread < THREADS && record.enter(*thread)? == *decision)
+            *thread < THREADS && record.enter(*thread) == Ok(*decision)
         }
-        Deed::Ends(ending) => Ok(ends(record, ending)),
+        Deed::Ends(ending) => ends(record, ending),
         Deed::Gets(place, value) => gets(record, *place, *value),
         Deed::Puts(place, value) => puts(record, *place, *value),
     }
 }
 
-fn does_all(record: &mut ClassRecord, deeds: &[Deed]) -> Result<bool, AllocError> {
+fn does_all(record: &mut ClassRecord, deeds: &[Deed]) -> bool {
     for deed in deeds {
-        if !does(record, deed)? {
-            return Ok(false);
+        if !does(record, deed) {
+            return false;
         }
     }
-    Ok(true)
+    true
 }
 
 /// Whether each field holds its value. None is read.
@@ -290,19 +286,34 @@ fn history(alloc: Global, record: &ClassRecord) -> Result<Vec<Event>, AllocError
     Ok(events)
 }
 
+/// Whether the events of a record are those of the story.
+fn is_traced(
+    alloc: Global,
+    program: &Program,
+    record: &ClassRecord,
+    story: &Story,
+) -> Result<bool, AllocError> {
+    let events = history(alloc, record)?;
+    let text = write_trace(alloc, program, events.as_slice())?;
+    Ok(text.as_slice() == story.trace)
+}
+
 /// Whether the story of a new record comes to what it must.
-pub(crate) fn is_told(alloc: Global, program: &Program, story: &Story) -> Result<bool, AllocError> {
+pub(crate) fn is_told(alloc: Global, program: &Program, story: &Story) -> bool {
     if story.class >= CLASS_NUMBERS {
-        return Ok(false);
+        return false;
     }
     let class = ClassId {
         number: story.class,
     };
-    let mut record = ClassRecord::new(alloc, program, class)?;
-    let is_done = does_all(&mut record, story.deeds)?;
-    let events = history(alloc, &record)?;
-    let text = write_trace(alloc, program, events.as_slice())?;
-    Ok(is_done && stands(&record, story) && text.as_slice() == story.trace)
+    match ClassRecord::new(alloc, program, class) {
+        Ok(mut record) => {
+            does_all(&mut record, story.deeds)
+                && stands(&record, story)
+                && is_traced(alloc, program, &record, story) == Ok(true)
+        }
+        Err(_) => false,
+    }
 }
 
 #[test]
@@ -313,13 +324,15 @@ fn records_of_classes(rt: HostRuntime) {
 /// Whether the copy of an event is like it.
 fn is_copied(event: &Event) -> Result<bool, AllocError> {
     let copy = event.clone()?;
+    let kind = copy.kind()?;
     let alike = copy.thread() == event.thread() && copy.class() == event.class();
-    Ok(alike && copy.kind()? == event.kind()?)
+    Ok(alike && kind == event.kind()?)
 }
 
 /// Whether a print of a text is copied.
 fn is_print_copied(alloc: Global) -> Result<bool, AllocError> {
-    let printed = Event::print(alloc, 2, Text::copied(alloc, b"2\n")?)?;
+    let text = Text::copied(alloc, b"2\n")?;
+    let printed = Event::print(alloc, 2, text)?;
     Ok(is_copied(&printed)? && printed.text() == Some(b"2\n".as_slice()))
 }
 

@@ -3,10 +3,10 @@
 ghost use Rattle.std.specs.Prelude.{◌≡◌, ◌<◌, ◌≤◌, length, true};
 ghost use Rattle.bodies.specs.Runs.{AreMains};
 
-use crate::programs::{add, class_texts};
+use crate::programs::{Question, Row, add, are_so, is_answered};
 use bodies::NoCode;
 use guest_threads::{Gate, NoGate, run_threads};
-use hierarchy::{ClassId, Program, link};
+use hierarchy::{ClassId, Program};
 use init_core::{Event, Kind, Label};
 use jasmin_text::ClassText;
 use std::alloc::{AllocError, Global};
@@ -18,8 +18,45 @@ use std::time::Duration;
 use std::{array, thread};
 use trace::{Limits, Report, ThreadOutcome};
 
+/// Which threads run, and what is asked of their run.
+#[derive(Clone, Copy)]
+pub(crate) enum Crowd {
+    /// Sixteen at one class.
+    Sixteen,
+    /// Two at classes over the same interfaces.
+    TwoMains,
+    /// Two at one class, of which one waits.
+    OneWaits,
+    /// Two at classes that share nothing.
+    Apart,
+    /// One at the last class of a long chain.
+    OverAll,
+}
+
+/// What an event does, of what is told apart here.
+#[derive(Clone, Copy)]
+enum Step {
+    Waits,
+    FindsInitialized,
+    Begins,
+    Runs,
+    Completes,
+    Another,
+}
+
+fn step_of(event: &Event) -> Step {
+    match event.kind() {
+        Ok(Kind::Waits) => Step::Waits,
+        Ok(Kind::FindsInitialized) => Step::FindsInitialized,
+        Ok(Kind::Begins) => Step::Begins,
+        Ok(Kind::Runs) => Step::Runs,
+        Ok(Kind::Completes) => Step::Completes,
+        _ => Step::Another,
+    }
+}
+
 /// How many events there are of each step.
-#[derive(Clone, Copy, PartialEq, Eq)]
+#[derive(Clone, Copy)]
 struct Steps {
     waits: usize,
     finds_initialized: usize,
@@ -29,7 +66,7 @@ struct Steps {
     others: usize,
 }
 
-fn steps_of(events: &[Event]) -> Result<Steps, AllocError> {
+fn steps_of(events: &[Event]) -> Steps {
     let mut steps = Steps {
         waits: 0,
         finds_initialized: 0,
@@ -39,17 +76,17 @@ fn steps_of(events: &[Event]) -> Result<Steps, AllocError> {
         others: 0,
     };
     for event in events {
-        let counter = match event.kind()? {
-            Kind::Waits => &mut steps.waits,
-            Kind::FindsInitialized => &mut steps.finds_initialized,
-            Kind::Begins => &mut steps.begins,
-            Kind::Runs => &mut steps.runs,
-            Kind::Completes => &mut steps.completes,
-            _ => &mut steps.others,
+        let counter = match step_of(event) {
+            Step::Waits => &mut steps.waits,
+            Step::FindsInitialized => &mut steps.finds_initialized,
+            Step::Begins => &mut steps.begins,
+            Step::Runs => &mut steps.runs,
+            Step::Completes => &mut steps.completes,
+            Step::Another => &mut steps.others,
         };
         *counter = counter.saturating_add(1);
     }
-    Ok(steps)
+    steps
 }
 
 /// Whether each main class is one of the files.
@@ -64,40 +101,14 @@ pub(crate) fn are_of_files(program: &Program, mains: &[ClassId]) -> bool
     true
 }
 
-/// The run of these main classes, if there is one.
-fn run<R: Threads + Wait + Sync, G: Gate + Sync>(
-    rt: &R,
-    alloc: Global,
-    program: &Program,
-    mains: &[ClassId],
-    gate: &G,
-) -> Option<Report> {
-    if mains.is_empty() || mains.len() > 16 || !are_of_files(program, mains) {
-        return None;
-    }
-    let bodies = vec![in alloc; NoCode; mains.len()].ok()?;
-    run_threads(rt, alloc, program, mains, bodies, Limits::USUAL, gate).ok()
-}
-
-pub(crate) fn linked(alloc: Global, files: &[&[u8]]) -> Option<Program> {
-    match class_texts(alloc, files) {
-        Ok(classes) => link(alloc, classes).ok(),
-        Err(_) => None,
-    }
-}
-
-/// The run of the main classes of these numbers.
-fn run_of<R: Threads + Wait + Sync, G: Gate + Sync>(
-    rt: &R,
-    alloc: Global,
-    files: &[&[u8]],
-    mains: &[ClassId],
-    gate: &G,
-) -> Option<Report> {
-    match linked(alloc, files) {
-        Some(program) => run(rt, alloc, &program, mains, gate),
-        None => None,
-    }
+/// What came of a run.
+#[derive(Clone, Copy)]
+struct Ran {
+    /// Whether all threads ended normally, and all classes are initialized.
+    is_whole: bool,
+    threads: usize,
+    events: usize,
+    steps: Steps,
 }
 
 /// Whether all threads ended normally, and all classes are initialized.
@@ -115,27 +126,50 @@ fn is_whole(report: &Report) -> bool {
     true
 }
 
-const ONE: [&[u8]; 1] = [b".class A"];
-
-#[test]
-fn sixteen_threads_at_one_class(rt: HostRuntime) {
-    let mains = [ClassId { number: 0 }; 16];
-    let ran = run_of(&rt, rt.alloc(), &ONE, &mains, &NoGate);
-    let report = ran.expect(&rt, "there is a run");
-    let steps = steps_of(report.events.as_slice()).expect(&rt, "no event is a print");
-    assert!(rt; is_whole(&report) && report.outcomes.len() == 16);
-    assert!(rt; steps.begins == 1 && steps.runs == 1 && steps.completes == 1);
-    assert!(rt; steps.finds_initialized == 15 && steps.waits <= 15 && steps.others == 0);
+fn tell<G: Gate>(gate: &G, events: &[Event]) {
+    for event in events {
+        gate.at(event);
+    }
 }
 
-// Three classes in a chain, each over the same two interfaces with code.
-const CHAIN: [&[u8]; 5] = [
-    b".class A\n.implements I\n.implements J",
-    b".class B\n.super A\n.implements I\n.implements J",
-    b".class C\n.super B\n.implements I\n.implements J",
-    b".interface I\n.method m()V\nreturn\n.end method",
-    b".interface J\n.method m()V\nreturn\n.end method",
-];
+/// The run of these main classes, if there is one. Another gate is told of its events afterwards.
+fn run<R: Threads + Wait + Sync, G: Gate + Sync, A: Gate>(
+    rt: &R,
+    alloc: Global,
+    program: &Program,
+    mains: &[ClassId],
+    gate: &G,
+    afterwards: &A,
+) -> Option<Ran> {
+    if mains.is_empty() || mains.len() > 16 || !are_of_files(program, mains) {
+        return None;
+    }
+    let bodies = vec![in alloc; NoCode; mains.len()].ok()?;
+    match run_threads(rt, alloc, program, mains, bodies, Limits::USUAL, gate) {
+        Ok(report) => {
+            let events = report.events.as_slice();
+            tell(afterwards, events);
+            Some(Ran {
+                is_whole: is_whole(&report),
+                threads: report.outcomes.len(),
+                events: events.len(),
+                steps: steps_of(events),
+            })
+        }
+        Err(_) => None,
+    }
+}
+
+fn is_of_sixteen<R: Threads + Wait + Sync>(rt: &R, alloc: Global, program: &Program) -> bool {
+    let mains = [ClassId { number: 0 }; 16];
+    let Some(ran) = run(rt, alloc, program, &mains, &NoGate, &NoGate) else {
+        return false;
+    };
+    let steps = ran.steps;
+    let are_made = steps.begins == 1 && steps.runs == 1 && steps.completes == 1;
+    let are_others = steps.finds_initialized == 15 && steps.waits <= 15 && steps.others == 0;
+    ran.is_whole && ran.threads == 16 && are_made && are_others
+}
 
 /// Counts the events.
 #[derive(Drop)]
@@ -149,18 +183,18 @@ impl Gate for Counting {
     }
 }
 
-#[test]
-fn two_main_classes_at_once(rt: HostRuntime) {
+fn is_of_two_mains<R: Threads + Wait + Sync>(rt: &R, alloc: Global, program: &Program) -> bool {
     let mains = [ClassId { number: 1 }, ClassId { number: 2 }];
     let gate = Counting {
         count: AtomicU64::new(0),
     };
-    let ran = run_of(&rt, rt.alloc(), &CHAIN, &mains, &gate);
-    let report = ran.expect(&rt, "there is a run");
-    let steps = steps_of(report.events.as_slice()).expect(&rt, "no event is a print");
-    assert!(rt; is_whole(&report) && report.outcomes.len() == 2);
-    assert!(rt; steps.begins == 5 && steps.runs == 5 && steps.completes == 5 && steps.others == 0);
-    assert!(rt; gate.count.load(Ordering::SeqCst) == report.events.len() as u64);
+    let Some(ran) = run(rt, alloc, program, &mains, &gate, &NoGate) else {
+        return false;
+    };
+    let steps = ran.steps;
+    let are_made = steps.begins == 5 && steps.runs == 5 && steps.completes == 5;
+    let are_told = gate.count.load(Ordering::SeqCst) == ran.events as u64;
+    ran.is_whole && ran.threads == 2 && are_made && steps.others == 0 && are_told
 }
 
 // So often a thread is let others run at most.
@@ -175,7 +209,7 @@ struct Holding {
 impl Gate for Holding {
     fn at(&self, event: &Event) {
         self.made.fetch_add(1, Ordering::SeqCst);
-        if let Ok(Kind::Begins) = event.kind() {
+        if let Step::Begins = step_of(event) {
             for _ in 0..TURNS {
                 if self.made.load(Ordering::SeqCst) > 1 {
                     return;
@@ -186,17 +220,17 @@ impl Gate for Holding {
     }
 }
 
-#[test]
-fn one_thread_waits_for_the_other(rt: HostRuntime) {
+fn is_waited_for<R: Threads + Wait + Sync>(rt: &R, alloc: Global, program: &Program) -> bool {
     let mains = [ClassId { number: 0 }; 2];
     let gate = Holding {
         made: AtomicU64::new(0),
     };
-    let ran = run_of(&rt, rt.alloc(), &ONE, &mains, &gate);
-    let report = ran.expect(&rt, "there is a run");
-    let steps = steps_of(report.events.as_slice()).expect(&rt, "no event is a print");
-    assert!(rt; is_whole(&report) && report.events.len() == 5);
-    assert!(rt; steps.waits == 1 && steps.begins == 1 && steps.finds_initialized == 1);
+    let Some(ran) = run(rt, alloc, program, &mains, &gate, &NoGate) else {
+        return false;
+    };
+    let steps = ran.steps;
+    let are_made = steps.waits == 1 && steps.begins == 1 && steps.finds_initialized == 1;
+    ran.is_whole && ran.events == 5 && are_made
 }
 
 /// How often each step of two threads at two classes was told.
@@ -214,10 +248,10 @@ impl Tally {
 
     /// An event by another thread or at another class counts as one of the last thread at the last class.
     fn add(&self, event: &Event) {
-        let step = match event.kind() {
-            Ok(Kind::Begins) => 0,
-            Ok(Kind::Runs) => 1,
-            Ok(Kind::Completes) => 2,
+        let step = match step_of(event) {
+            Step::Begins => 0,
+            Step::Runs => 1,
+            Step::Completes => 2,
             _ => 3,
         };
         let class = event.class().map_or(1, |class| class.number.min(1));
@@ -233,6 +267,12 @@ impl Tally {
             }
         }
         true
+    }
+}
+
+impl Gate for Tally {
+    fn at(&self, event: &Event) {
+        self.add(event);
     }
 }
 
@@ -256,12 +296,17 @@ impl<'a, C> Meeting<'a, C> {
             told: Tally::new(),
         }
     }
+
+    /// Whether so many threads were let go before another one came, and each made its own steps.
+    fn is_over(&self, missed: u64) -> bool {
+        self.missed.load(Ordering::SeqCst) == missed && self.told.is_each_once()
+    }
 }
 
 impl<'a, C: Clock> Gate for Meeting<'a, C> {
     fn at(&self, event: &Event) {
         self.told.add(event);
-        if let Ok(Kind::Runs) = event.kind() {
+        if let Step::Runs = step_of(event) {
             self.running.fetch_add(1, Ordering::SeqCst);
             for _ in 0..self.turns {
                 if self.running.load(Ordering::SeqCst) > 1 {
@@ -274,25 +319,15 @@ impl<'a, C: Clock> Gate for Meeting<'a, C> {
     }
 }
 
-// Two classes that share nothing.
-const APART: [&[u8]; 2] = [b".class A", b".class B"];
-
-#[test]
-fn gate_both_at_once(rt: HostRuntime) {
+/// Whether both threads are at their step 9 at once.
+fn is_at_once<R: Threads + Wait + Sync + Clock>(rt: &R, alloc: Global, program: &Program) -> bool {
     let mains = [ClassId { number: 0 }, ClassId { number: 1 }];
-    let gate = Meeting::new(&rt, 10_000);
-    let ran = run_of(&rt, rt.alloc(), &APART, &mains, &gate);
-    let report = ran.expect(&rt, "there is a run");
+    let gate = Meeting::new(rt, 10_000);
     let made = Tally::new();
-    for event in report.events.as_slice() {
-        made.add(event);
-    }
-    assert!(rt;
-        gate.missed.load(Ordering::SeqCst) == 0,
-        "both threads are at their step 9 at once"
-    );
-    assert!(rt; is_whole(&report) && report.outcomes.len() == 2);
-    assert!(rt; made.is_each_once() && gate.told.is_each_once());
+    let Some(ran) = run(rt, alloc, program, &mains, &gate, &made) else {
+        return false;
+    };
+    ran.is_whole && ran.threads == 2 && gate.is_over(0) && made.is_each_once()
 }
 
 /// Tells a gate all that the thread of this number does at the class of the same number.
@@ -305,17 +340,22 @@ fn tell_all<G: Gate>(gate: &G, number: usize)
     gate.at(&Event::new(number, class, Kind::Completes));
 }
 
-/// Threads that work one after the other don't meet, so a run of such threads fails [`gate_both_at_once`].
+/// Whether a thread is missed that comes after the other.
+fn is_missed<C: Clock>(clock: &C, first: usize, second: usize) -> bool
+    requires first { first < 2 }
+    requires second { second < 2 }
+{
+    let gate = Meeting::new(clock, 3);
+    tell_all(&gate, first);
+    tell_all(&gate, second);
+    gate.is_over(1)
+}
+
+/// Threads that work one after the other don't meet, so a run of such threads fails [`is_at_once`].
 #[test]
 fn one_after_the_other_is_missed(rt: HostRuntime) {
-    let upwards = Meeting::new(&rt, 3);
-    tell_all(&upwards, 0);
-    tell_all(&upwards, 1);
-    assert!(rt; upwards.missed.load(Ordering::SeqCst) == 1 && upwards.told.is_each_once());
-    let downwards = Meeting::new(&rt, 3);
-    tell_all(&downwards, 1);
-    tell_all(&downwards, 0);
-    assert!(rt; downwards.missed.load(Ordering::SeqCst) == 1 && downwards.told.is_each_once());
+    assert!(rt; is_missed(&rt, 0, 1));
+    assert!(rt; is_missed(&rt, 1, 0));
 }
 
 // A chain of so many classes, each over the same interfaces with code. With these numbers the room that is made at a time
@@ -324,41 +364,112 @@ const CLASSES: usize = 22;
 
 const INTERFACES: usize = 18;
 
+/// A class of the chain over all interfaces.
+fn chained(alloc: Global, class: usize) -> Result<String, AllocError> {
+    let mut file = format!(in alloc; ".class C{class}")?;
+    if class > 0 {
+        write!(file, "\n.super C{}", class - 1)?;
+    }
+    for interface in 0..INTERFACES {
+        write!(file, "\n.implements I{interface}")?;
+    }
+    Ok(file)
+}
+
+/// Adds an interface of the chain.
+fn add_interface(
+    alloc: Global,
+    interface: usize,
+    classes: &mut Vec<ClassText>,
+) -> Result<(), AllocError> {
+    let file = format!(in alloc; ".interface I{interface}\n.method m()V\nreturn\n.end method")?;
+    add(alloc, file.as_bytes(), classes)
+}
+
 /// The classes of a long chain, from the top, and then their interfaces.
 fn long_chain(alloc: Global) -> Result<Vec<ClassText>, AllocError> {
     let mut classes = Vec::new(alloc);
     for class in 0..CLASSES {
-        let mut file = format!(in alloc; ".class C{class}")?;
-        if class > 0 {
-            write!(file, "\n.super C{}", class - 1)?;
-        }
-        for interface in 0..INTERFACES {
-            write!(file, "\n.implements I{interface}")?;
-        }
-        add(alloc, file.as_bytes(), &mut classes)?;
+        add(alloc, chained(alloc, class)?.as_bytes(), &mut classes)?;
     }
     for interface in 0..INTERFACES {
-        let file = format!(in alloc; ".interface I{interface}\n.method m()V\nreturn\n.end method")?;
-        add(alloc, file.as_bytes(), &mut classes)?;
+        add_interface(alloc, interface, &mut classes)?;
     }
     Ok(classes)
 }
 
-#[test]
-fn a_long_chain_takes_room_again_and_again(rt: HostRuntime) {
-    let classes = long_chain(rt.alloc()).expect(&rt, "there is memory");
-    let program = link(rt.alloc(), classes)
-        .ok()
-        .expect(&rt, "the classes link");
+fn is_over_all<R: Threads + Wait + Sync>(rt: &R, alloc: Global, program: &Program) -> bool {
     let mains = [ClassId {
         number: CLASSES - 1,
     }];
-    let ran = run(&rt, rt.alloc(), &program, &mains, &NoGate);
-    let report = ran.expect(&rt, "there is a run");
-    let steps = steps_of(report.events.as_slice()).expect(&rt, "no event is a print");
+    let Some(ran) = run(rt, alloc, program, &mains, &NoGate, &NoGate) else {
+        return false;
+    };
+    let steps = ran.steps;
     let begun = CLASSES + INTERFACES;
     let found = (CLASSES - 1) * INTERFACES;
-    assert!(rt; is_whole(&report) && report.events.len() == 3 * begun + found);
-    assert!(rt; steps.begins == begun && steps.runs == begun && steps.completes == begun);
-    assert!(rt; steps.finds_initialized == found);
+    let are_made = steps.begins == begun && steps.runs == begun && steps.completes == begun;
+    let are_found = steps.finds_initialized == found && ran.events == 3 * begun + found;
+    ran.is_whole && are_made && are_found
+}
+
+/// Whether what is asked of the run of such threads is so.
+pub(crate) fn is_run<R: Threads + Wait + Sync + Clock>(
+    rt: &R,
+    alloc: Global,
+    program: &Program,
+    crowd: Crowd,
+) -> bool {
+    match crowd {
+        Crowd::Sixteen => is_of_sixteen(rt, alloc, program),
+        Crowd::TwoMains => is_of_two_mains(rt, alloc, program),
+        Crowd::OneWaits => is_waited_for(rt, alloc, program),
+        Crowd::Apart => is_at_once(rt, alloc, program),
+        Crowd::OverAll => is_over_all(rt, alloc, program),
+    }
+}
+
+const CROWDS: &[Row] = &[
+    Row {
+        files: &[b".class A"],
+        question: Question::Ran(Crowd::Sixteen),
+    },
+    // Three classes in a chain, each over the same two interfaces with code.
+    Row {
+        files: &[
+            b".class A\n.implements I\n.implements J",
+            b".class B\n.super A\n.implements I\n.implements J",
+            b".class C\n.super B\n.implements I\n.implements J",
+            b".interface I\n.method m()V\nreturn\n.end method",
+            b".interface J\n.method m()V\nreturn\n.end method",
+        ],
+        question: Question::Ran(Crowd::TwoMains),
+    },
+    Row {
+        files: &[b".class A"],
+        question: Question::Ran(Crowd::OneWaits),
+    },
+    Row {
+        files: &[b".class A", b".class B"],
+        question: Question::Ran(Crowd::Apart),
+    },
+];
+
+#[test]
+fn threads_run_as_asked(rt: HostRuntime) {
+    are_so(&rt, rt.alloc(), CROWDS);
+}
+
+fn is_chain_run<R: Threads + Wait + Sync + Clock>(
+    rt: &R,
+    alloc: Global,
+) -> Result<bool, AllocError> {
+    let classes = long_chain(alloc)?;
+    let question = Question::Ran(Crowd::OverAll);
+    is_answered(rt, alloc, classes, CLASSES + INTERFACES, &question)
+}
+
+#[test]
+fn a_long_chain_takes_room_again_and_again(rt: HostRuntime) {
+    assert!(rt; is_chain_run(&rt, rt.alloc()) == Ok(true));
 }

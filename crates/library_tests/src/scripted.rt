@@ -12,7 +12,8 @@ ghost use Rattle.bodies.specs.declared.does.Does.TheVariants.{Gets, Puts};
 ghost use Rattle.library_tests.specs.AnyBodies.{any_bodies};
 ghost use Rattle.library_tests.specs.declared.scripted.Scripted.{Scripted as ScriptedFacts};
 
-use crate::runs::{are_of_files, linked};
+use crate::programs::{Question, Row, are_so};
+use crate::runs::are_of_files;
 use bodies::{Bodies, Does, Lends};
 use descriptors::BaseType;
 use exceptions::replacement;
@@ -210,64 +211,121 @@ impl Lends<()> for Scripted {
     ghost limits_lent = { λ p l s shared h. h };
 }
 
-/// The run of a main class by such bodies.
+/// How the only thread ends.
+#[derive(Clone, Copy)]
+enum Ending {
+    Normal,
+    Abrupt,
+    OutOfPatience,
+}
+
+/// A run of a main class by such bodies, and what comes of it.
+#[derive(Clone, Copy)]
+pub(crate) struct Script {
+    /// Whether it is one in order.
+    ordered: bool,
+    /// Whether initializers throw.
+    throws: bool,
+    ending: Ending,
+    /// How many events there are.
+    events: usize,
+    output: &'static [u8],
+}
+
+const MAIN: ClassId = ClassId { number: 1 };
+
+/// The run of the main class by such bodies.
 fn run<R: Threads + Wait + Sync>(
     rt: &R,
     alloc: Global,
     program: &Program,
-    main: ClassId,
-    throws: bool,
+    script: Script,
 ) -> Option<Report> {
-    let mains = [main];
+    let mains = [MAIN];
     if !are_of_files(program, &mains) {
         return None;
     }
     let mut bodies = Vec::new(alloc);
-    bodies.push(Scripted::new(throws)).ok()?;
-    let ran = run_threads(rt, alloc, program, &mains, bodies, Limits::USUAL, &NoGate);
-    ran.ok()
-}
-
-fn run_of<R: Threads + Wait + Sync>(rt: &R, alloc: Global, throws: bool) -> Option<Report> {
-    let files: [&[u8]; 2] = [b".class A\n.field static n I", b".class B"];
-    let program = linked(alloc, &files)?;
-    run(rt, alloc, &program, ClassId { number: 1 }, throws)
-}
-
-#[test]
-fn main_writes_reads_and_prints(rt: HostRuntime) {
-    let report = run_of(&rt, rt.alloc(), false).expect(&rt, "there is a run");
-    assert!(rt; report.outcomes.as_slice() == [ThreadOutcome::Normal].as_slice());
-    assert!(rt; report.events.len() == 10);
-    assert!(rt; report.output.as_slice() == b"7".as_slice());
-}
-
-#[test]
-fn what_an_initializer_throws_is_replaced(rt: HostRuntime) {
-    let report = run_of(&rt, rt.alloc(), true).expect(&rt, "there is a run");
-    let outcome = report.outcomes.as_slice().first().copied();
-    assert!(rt; matches!(outcome, Some(ThreadOutcome::Abrupt(_))));
-    assert!(rt; report.events.len() == 3);
-}
-
-/// The ordered run of a main class by such bodies.
-fn ordered_run_of(alloc: Global) -> Option<Report> {
-    let files: [&[u8]; 2] = [b".class A\n.field static n I", b".class B"];
-    let program = linked(alloc, &files)?;
-    let main = ClassId { number: 1 };
-    if main.number >= program.len() {
-        return None;
+    bodies.push(Scripted::new(script.throws)).ok()?;
+    if script.ordered {
+        run_ordered(alloc, program, &mains, &[], bodies, ()).ok()
+    } else {
+        run_threads(rt, alloc, program, &mains, bodies, Limits::USUAL, &NoGate).ok()
     }
-    let mut bodies = Vec::new(alloc);
-    bodies.push(Scripted::new(false)).ok()?;
-    run_ordered(alloc, &program, &[main], &[], bodies, ()).ok()
 }
 
+/// Whether the only thread ended so.
+fn is_ended(outcomes: &[ThreadOutcome], ending: Ending) -> bool {
+    match (outcomes, ending) {
+        ([ThreadOutcome::Normal], Ending::Normal) => true,
+        ([ThreadOutcome::Abrupt(_)], Ending::Abrupt) => true,
+        ([ThreadOutcome::Ended(Limit::Patience)], Ending::OutOfPatience) => true,
+        _ => false,
+    }
+}
+
+/// Whether the run comes to what it must.
+pub(crate) fn is_scripted<R: Threads + Wait + Sync>(
+    rt: &R,
+    alloc: Global,
+    program: &Program,
+    script: Script,
+) -> bool {
+    match run(rt, alloc, program, script) {
+        Some(report) => {
+            is_ended(report.outcomes.as_slice(), script.ending)
+                && report.events.len() == script.events
+                && report.output.as_slice() == script.output
+        }
+        None => false,
+    }
+}
+
+const FILES: &[&[u8]] = &[b".class A\n.field static n I", b".class B"];
+
+/// Main writes, reads and prints.
+const USES: Script = Script {
+    ordered: false,
+    throws: false,
+    ending: Ending::Normal,
+    events: 10,
+    output: b"7",
+};
+
+/// What an initializer throws is replaced.
+const THROWS: Script = Script {
+    ordered: false,
+    throws: true,
+    ending: Ending::Abrupt,
+    events: 3,
+    output: b"",
+};
+
+/// In order what waits gives up.
+const WAITS: Script = Script {
+    ordered: true,
+    throws: false,
+    ending: Ending::OutOfPatience,
+    events: 9,
+    output: b"",
+};
+
+const SCRIPTS: &[Row] = &[
+    Row {
+        files: FILES,
+        question: Question::Scripted(USES),
+    },
+    Row {
+        files: FILES,
+        question: Question::Scripted(THROWS),
+    },
+    Row {
+        files: FILES,
+        question: Question::Scripted(WAITS),
+    },
+];
+
 #[test]
-fn in_order_what_waits_gives_up(rt: HostRuntime) {
-    let report = ordered_run_of(rt.alloc()).expect(&rt, "there is a run");
-    let outcome = report.outcomes.as_slice().first().copied();
-    assert!(rt; outcome == Some(ThreadOutcome::Ended(Limit::Patience)));
-    assert!(rt; report.events.len() == 9);
-    assert!(rt; report.output.is_empty());
+fn bodies_do_one_of_each(rt: HostRuntime) {
+    are_so(&rt, rt.alloc(), SCRIPTS);
 }

@@ -8,7 +8,6 @@ use descriptors::{
 };
 use sequence::{Refusal, Sequence};
 use std::alloc::{AllocError, Global};
-use std::test::Fail;
 
 /// The parameters `[ILa/B;`.
 fn parameters(alloc: Global) -> Result<Sequence<FieldType>, Refusal<DescriptorFault>>
@@ -26,13 +25,12 @@ fn made_of_parts(alloc: Global) -> Result<MethodType, Refusal<DescriptorFault>> 
     Ok(MethodType::new(parameters(alloc)?, Some(outcome)))
 }
 
-/// Whether the method is that of the text.
-fn is_of_text(
-    alloc: Global,
-    method: &MethodType,
-    text: &[u8],
-) -> Result<bool, Refusal<DescriptorFault>> {
-    Ok(*method == parse_method(alloc, text)?)
+/// Whether the method is that of the text, if the text is a method's.
+fn is_of_text(alloc: Global, method: &MethodType, text: &[u8]) -> Option<bool> {
+    match parse_method(alloc, text) {
+        Ok(other) => Some(*method == other),
+        Err(_) => None,
+    }
 }
 
 /// Whether the method has two parameters and gives a boolean.
@@ -48,33 +46,47 @@ fn is_boolean(method: &MethodType) -> bool {
     }
 }
 
-/// Whether the method is that of its text, and no other.
-fn is_itself(alloc: Global, method: &MethodType) -> Result<bool, Refusal<DescriptorFault>> {
-    Ok(is_of_text(alloc, method, b"([ILa/B;)Z")? && !is_of_text(alloc, method, b"([ILa/B;)V")?)
+/// Whether the method by its parts is that of its text, and no other.
+fn is_itself(alloc: Global) -> bool {
+    match made_of_parts(alloc) {
+        Ok(method) => {
+            is_boolean(&method)
+                && is_of_text(alloc, &method, b"([ILa/B;)Z") == Some(true)
+                && is_of_text(alloc, &method, b"([ILa/B;)V") == Some(false)
+        }
+        Err(_) => false,
+    }
 }
 
 #[test]
-fn a_method_of_parts(rt: HostRuntime) -> Result<(), Fail> {
-    let method = made_of_parts(rt.alloc())?;
-    assert!(rt; is_boolean(&method) && is_itself(rt.alloc(), &method)?);
+fn a_method_of_parts(rt: HostRuntime) {
+    assert!(rt; is_itself(rt.alloc()));
     field_text_is_one();
     method_text_is_one();
-    Ok(())
 }
 
 /// Whether the names of these bytes are one.
 fn are_one(alloc: Global, bytes: &[u8], others: &[u8]) -> Result<bool, AllocError> {
-    Ok(ClassName::parse(alloc, bytes)? == ClassName::parse(alloc, others)?)
+    let name = ClassName::parse(alloc, bytes)?;
+    Ok(name == ClassName::parse(alloc, others)?)
+}
+
+/// The letter again, if it is one of a type.
+fn letter_of(letter: u8) -> Option<u8> {
+    match BaseType::of_letter(letter) {
+        Some(of) => Some(of.letter()),
+        None => None,
+    }
 }
 
 #[test]
-fn class_names_and_letters(rt: HostRuntime) -> Result<(), Fail> {
-    assert!(rt; are_one(rt.alloc(), b"a/B", b"a/B")? && !are_one(rt.alloc(), b"a/B", b"a/C")?);
-    for letter in *b"ZBCSI" {
-        assert!(rt; BaseType::of_letter(letter).map(BaseType::letter) == Some(letter));
+fn class_names_and_letters(rt: HostRuntime) {
+    assert!(rt; are_one(rt.alloc(), b"a/B", b"a/B") == Ok(true));
+    assert!(rt; are_one(rt.alloc(), b"a/B", b"a/C") == Ok(false));
+    for letter in b"ZBCSI".as_slice() {
+        assert!(rt; letter_of(*letter) == Some(*letter));
     }
-    for letter in *b"VJFDLz[" {
-        assert!(rt; BaseType::of_letter(letter).is_none());
+    for letter in b"VJFDLz[".as_slice() {
+        assert!(rt; letter_of(*letter).is_none());
     }
-    Ok(())
 }

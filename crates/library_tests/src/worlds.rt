@@ -6,9 +6,9 @@ use crate::comparing::Case;
 use crate::programs::{Question, Row, are_so};
 use crate::schedules::{Action, Choice, Run, replayed, turn};
 use hierarchy::{BuiltIn, ClassId, Program};
-use init_core::Label;
+use init_core::{Event, Label};
 use init_world::{Turn, World, safety};
-use std::alloc::{AllocError, Global};
+use std::alloc::Global;
 use trace::write_trace;
 
 const A_DEFAULT: &[u8] = b".interface A\n.method m()V\nreturn\n.end method";
@@ -142,26 +142,32 @@ fn has_labels(program: &Program, world: &World, labels: &[Label]) -> bool
 }
 
 /// Whether the next turn of thread 0 answers that the machine has ended it.
-fn is_ended(alloc: Global, program: &Program, run: &mut Run) -> Result<bool, AllocError>
+fn is_ended(alloc: Global, program: &Program, run: &mut Run) -> bool
     requires program { program.now ≡ run.old.world.program }
     requires threads { length run.old.world.threads ≡ 2 }
     ensures program { run.new.world.program ≡ run.old.world.program }
 {
     let error = program.built_in(BuiltIn::InternalError);
-    Ok(turn(alloc, program, &mut run.world, 0)? == Turn::Ended(error))
+    turn(alloc, program, &mut run.world, 0) == Ok(Turn::Ended(error))
+}
+
+/// Whether these events have this trace.
+fn is_traced(alloc: Global, program: &Program, events: &[Event], trace: &[u8]) -> bool {
+    match write_trace(alloc, program, events) {
+        Ok(text) => text.as_slice() == trace,
+        Err(_) => false,
+    }
 }
 
 /// Whether the threads do this.
-pub(crate) fn is_as_played(
-    alloc: Global,
-    program: &Program,
-    scene: &Scene,
-) -> Result<bool, AllocError> {
-    let mut run = replayed(alloc, program, &scene.mains, scene.choices)?;
-    let ended = scene.ended && is_ended(alloc, program, &mut run)?;
+pub(crate) fn is_as_played(alloc: Global, program: &Program, scene: &Scene) -> bool {
+    let Ok(mut run) = replayed(alloc, program, &scene.mains, scene.choices) else {
+        return false;
+    };
+    let ended = scene.ended && is_ended(alloc, program, &mut run);
     let labelled = has_labels(program, &run.world, scene.labels);
-    let trace = write_trace(alloc, program, &run.world.into_events())?;
-    Ok(ended == scene.ended && labelled && trace.as_slice() == scene.trace)
+    let traced = is_traced(alloc, program, &run.world.into_events(), scene.trace);
+    ended == scene.ended && labelled && traced
 }
 
 const SCENES: &[Row] = &[
