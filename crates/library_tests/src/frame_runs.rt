@@ -1,7 +1,7 @@
 //! Runs of instructions within a frame, calls and returns.
 
 use crate::frame_steps::{Deed, begin, call, drop_operands, push};
-use crate::programs::{Question, Row, are_so};
+use crate::programs::{Question, Row};
 use frames::{Cell, FramePlace, Frames, Stop};
 use hierarchy::{BuiltIn, MethodCode, Op};
 
@@ -266,7 +266,7 @@ pub(crate) fn reaches_again(
     is_reached && are_left && go_down(frames, large, depth) && frames.len() == depth
 }
 
-const ROWS: &[Row] = &[
+pub(crate) const RUNS: &[Row] = &[
     Row {
         files: &[],
         question: Question::Frames(Deed::Runs(ADDS_UP)),
@@ -304,8 +304,3 @@ const ROWS: &[Row] = &[
         question: Question::Frames(Deed::ReachesAgain(20)),
     },
 ];
-
-#[test]
-fn frames_are_run_called_and_left(rt: HostRuntime) {
-    are_so(&rt, rt.alloc(), ROWS);
-}

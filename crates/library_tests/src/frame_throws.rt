@@ -1,7 +1,7 @@
 //! Where thrown objects are caught in the frames of a thread.
 
 use crate::frame_steps::{Deed, begin, call, push};
-use crate::programs::{Question, Row, are_so};
+use crate::programs::{Question, Row};
 use frames::{Cell, FramePlace, Frames, Thrown};
 use hierarchy::{MethodCode, Program};
 use std::alloc::AllocError;
@@ -126,7 +126,7 @@ const A_BODY: Throw = Throw {
     left: 1,
 };
 
-const THROWS: &[Row] = &[
+pub(crate) const THROWS: &[Row] = &[
     Row {
         files: &[CATCHING],
         question: Question::Frames(Deed::Throws(TWO_FRAMES)),
@@ -144,8 +144,3 @@ const THROWS: &[Row] = &[
         question: Question::Frames(Deed::Throws(A_BODY)),
     },
 ];
-
-#[test]
-fn frames_are_left(rt: HostRuntime) {
-    are_so(&rt, rt.alloc(), THROWS);
-}

@@ -1,6 +1,6 @@
 //! The heap of a program without classes, and its monitors.
 
-use crate::programs::{Question, Row, are_so};
+use crate::programs::{Question, Row};
 use descriptors::BaseType;
 use heap::{Entry, Heap, Holder, Monitor, Monitors, no_class, out_of_memory};
 use hierarchy::{BuiltIn, Element, Program, ResolvedType, Value};
@@ -149,7 +149,7 @@ pub(crate) fn is_right(alloc: Global, program: &Program, part: Part) -> bool {
     }
 }
 
-const ROWS: &[Row] = &[
+pub(crate) const PARTS: &[Row] = &[
     Row {
         files: &[],
         question: Question::Heap(Part::Throws),
@@ -171,8 +171,3 @@ const ROWS: &[Row] = &[
         question: Question::Heap(Part::Monitors),
     },
 ];
-
-#[test]
-fn heaps_and_monitors(rt: HostRuntime) {
-    are_so(&rt, rt.alloc(), ROWS);
-}

@@ -3,7 +3,7 @@
 ghost use Rattle.std.specs.Prelude.{◌<◌};
 ghost use Rattle.std.specs.List.{AllByRecursion};
 
-use crate::programs::{Question, Row, are_so};
+use crate::programs::{Question, Row};
 use bodies::NoCode;
 use hierarchy::{ClassId, Program};
 use init_core::Label;
@@ -59,12 +59,7 @@ pub(crate) fn is_in_order(alloc: Global, program: &Program) -> bool {
     }
 }
 
-const ROWS: &[Row] = &[Row {
+pub(crate) const IN_ORDER: &[Row] = &[Row {
     files: &[b".class A"],
     question: Question::InOrder,
 }];
-
-#[test]
-fn two_threads_go_on_in_order(rt: HostRuntime) {
-    are_so(&rt, rt.alloc(), ROWS);
-}

@@ -2,10 +2,10 @@
 
 ghost use Rattle.std.specs.Prelude.{◌≤◌, vec_len, IfOk};
 
-use cli::{Named, NamedFault, check_named, status_of_verdict, write_judged};
+use cli::{Judged, Named, NamedFault, check_named, status_of_verdict, write_judged};
+use init_core::Event;
 use judge::{Rule, Verdict, check, explain};
 use std::alloc::Global;
-use std::test::Fail;
 
 /// A class and the trace of a run that was broken off.
 #[derive(Drop)]
@@ -31,27 +31,54 @@ impl Named for BrokenOff {
 
 const BROKEN_OFF: Verdict = Verdict::IllegalAt(2, Rule::End);
 
-#[test]
-fn a_trace_is_judged(rt: HostRuntime) -> Result<(), Fail> {
-    let alloc = rt.alloc();
-    let Ok(judged) = check_named(alloc, &mut BrokenOff, &["Solo.j"], Some("Solo"), "trace") else {
-        return Err(Fail::from("not judged"));
-    };
-    assert!(rt; judged.verdict == BROKEN_OFF && judged.events.len() == 2);
-    assert_eq!(rt; status_of_verdict(judged.verdict), 1);
-    let line = write_judged(alloc, &judged, false)?;
-    assert!(rt; line.as_slice() == b"illegal at 2: end\n".as_slice());
-    let verdict = check(alloc, &judged.program, &judged.mains, &judged.events)?;
-    assert!(rt; verdict == BROKEN_OFF);
-    let none = check(alloc, &judged.program, &judged.mains, &[])?;
-    assert!(rt; none == Verdict::Legal);
-    let words = explain(
+/// Whether the verdict is written as a line.
+fn is_written(alloc: Global, judged: &Judged) -> bool {
+    match write_judged(alloc, judged, false) {
+        Ok(line) => line.as_slice() == b"illegal at 2: end\n".as_slice(),
+        Err(_) => false,
+    }
+}
+
+/// Whether the verdict is explained in words.
+fn is_explained(alloc: Global, judged: &Judged) -> bool {
+    match explain(
         alloc,
         &judged.program,
         &judged.mains,
         &judged.events,
-        verdict,
-    )?;
-    assert!(rt; words.starts_with(b"the trace ends there\nt0 initializes Solo since event 0"));
-    Ok(())
+        judged.verdict,
+    ) {
+        Ok(words) => {
+            words.starts_with(b"the trace ends there\nt0 initializes Solo since event 0")
+        }
+        Err(_) => false,
+    }
+}
+
+/// Whether these events are judged so.
+fn is_checked(alloc: Global, judged: &Judged, events: &[Event], verdict: Verdict) -> bool {
+    check(alloc, &judged.program, &judged.mains, events) == Ok(verdict)
+}
+
+/// Whether all that is said of the trace is right.
+fn is_right(alloc: Global, judged: &Judged) -> bool {
+    judged.verdict == BROKEN_OFF
+        && judged.events.len() == 2
+        && status_of_verdict(judged.verdict) == 1
+        && is_written(alloc, judged)
+        && is_checked(alloc, judged, &judged.events, BROKEN_OFF)
+        && is_checked(alloc, judged, &[], Verdict::Legal)
+        && is_explained(alloc, judged)
+}
+
+fn is_judged(alloc: Global) -> bool {
+    match check_named(alloc, &mut BrokenOff, &["Solo.j"], Some("Solo"), "trace") {
+        Ok(judged) => is_right(alloc, &judged),
+        Err(_) => false,
+    }
+}
+
+#[test]
+fn a_trace_is_judged(rt: HostRuntime) {
+    assert!(rt; is_judged(rt.alloc()));
 }

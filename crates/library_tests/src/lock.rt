@@ -6,8 +6,7 @@ ghost use Rattle.init_lock.specs.Known.{seen_at, out_of, IsAway, IsAwayBut, IsSa
 use init_lock::{Closed, GaveUp, Held, InitTable, Journal, Keeps, Pass, merge};
 use std::alloc::{AllocError, Global};
 use std::sync::Wait;
-use std::test::Fail;
-use std::thread::join;
+use std::thread::{Threads, join};
 
 /// A record that keeps a list of numbers. Every pass may draw every number.
 #[derive(Drop)]
@@ -254,14 +253,27 @@ fn takes<W: Wait>(
 }
 
 // Whether the second pass gives up while the first has the record, and then takes it.
-fn gives_up<W: Wait>(rt: &W, alloc: Global) -> Result<bool, AllocError> {
-    let (table, mut first, mut second) = two_of_each(alloc, 1)?;
-    let Ok(held) = table.take(rt, &mut first, 1, 0) else {
+fn is_given_up<W: Wait>(
+    rt: &W,
+    table: &InitTable<Numbers>,
+    first: &mut Pass<Numbers>,
+    second: &mut Pass<Numbers>,
+) -> bool
+    requires places { table.now.places ≡ 2 }
+    requires first { (first.old.table ≡ table.now.id) × IsAway first.old.places }
+    requires second { (second.old.table ≡ table.now.id) × IsAway second.old.places }
+{
+    let Ok(held) = table.take(rt, first, 1, 0) else {
         unreachable!()
     };
-    let gave_up = !takes(rt, &table, &mut second, 3);
-    table.give_back(&mut first, held);
-    Ok(gave_up && takes(rt, &table, &mut second, 1))
+    let gave_up = !takes(rt, table, second, 3);
+    table.give_back(first, held);
+    gave_up && takes(rt, table, second, 1)
+}
+
+fn gives_up<W: Wait>(rt: &W, alloc: Global) -> Result<bool, AllocError> {
+    let (table, mut first, mut second) = two_of_each(alloc, 1)?;
+    Ok(is_given_up(rt, &table, &mut first, &mut second))
 }
 
 #[test]
@@ -295,22 +307,26 @@ fn draw_often<W: Wait>(
     pass
 }
 
-#[test]
-fn two_takers(rt: HostRuntime) -> Result<(), Fail> {
-    let (table, first, second) = two_of_each(rt.alloc(), 100)?;
+// Whether two threads that draw on the first record draw all their numbers.
+fn two_take<R: Threads + Wait + Sync>(rt: &R, alloc: Global) -> Result<bool, AllocError> {
+    let (table, first, second) = two_of_each(alloc, 100)?;
     let (first, second) = join(
-        &rt,
+        rt,
         || -> Pass<Numbers>
             requires { (first.table ≡ table.id) × (0 < table.places) × (100 ≤ first.room) × IsAway first.places }
             ensures { (result.table ≡ first.table) × (result.number ≡ first.number) × IsAway result.places }
-        { draw_often(&rt, &table, first, 5, 100) },
+        { draw_often(rt, &table, first, 5, 100) },
         || -> Pass<Numbers>
             requires { (second.table ≡ table.id) × (0 < table.places) × (100 ≤ second.room) × IsAway second.places }
             ensures { (result.table ≡ second.table) × (result.number ≡ second.number) × IsAway result.places }
-        { draw_often(&rt, &table, second, 7, 100) },
+        { draw_often(rt, &table, second, 7, 100) },
     );
-    let closed = finish_both(rt.alloc(), table, first, second)?;
-    assert!(rt; closed.records[0].events.len() == 200);
-    assert!(rt; closed.journals[0].len() == 100 && closed.journals[1].len() == 100);
-    Ok(())
+    let closed = finish_both(alloc, table, first, second)?;
+    let are_drawn = closed.journals[0].len() == 100 && closed.journals[1].len() == 100;
+    Ok(are_drawn && closed.records[0].events.len() == 200)
+}
+
+#[test]
+fn two_takers(rt: HostRuntime) {
+    assert!(rt; two_take(&rt, rt.alloc()) == Ok(true));
 }

@@ -3,7 +3,7 @@
 ghost use Rattle.std.specs.Prelude.{◌≡◌, [], None};
 ghost use Rattle.init_core.specs.Leads.{standing};
 
-use crate::programs::{Question, Row, are_so};
+use crate::programs::{Question, Row};
 use hierarchy::{BuiltIn, ClassId, Program};
 use init_core::{Answer, Completed, Decision, Ending, Next, Outcome, Procedure};
 use std::alloc::{AllocError, Global};
@@ -146,7 +146,7 @@ pub(crate) fn is_gone(
 
 const SOLO: &[&[u8]] = &[b".class Solo"];
 
-const COURSES: &[Row] = &[
+pub(crate) const COURSES: &[Row] = &[
     Row {
         files: SOLO,
         question: Question::Procedure(Course::Refuses),
@@ -164,8 +164,3 @@ const COURSES: &[Row] = &[
         question: Question::Procedure(Course::Throws),
     },
 ];
-
-#[test]
-fn steps_of_one_class(rt: HostRuntime) {
-    are_so(&rt, rt.alloc(), COURSES);
-}

@@ -2,16 +2,18 @@
 //! holds it costs its proof.
 
 use crate::comparing::{Case, is_as_compared};
+use crate::frame_runs::RUNS;
 use crate::frame_steps::{Deed, is_done};
-use crate::handlers::handlers;
-use crate::heaps::{Part, is_right};
-use crate::in_order::is_in_order;
-use crate::procedures::{Course, is_gone};
-use crate::records::{Story, is_told};
-use crate::resolved::resolved;
-use crate::runs::{Crowd, is_run};
-use crate::scripted::{Script, is_scripted};
-use crate::worlds::{Scene, is_as_played};
+use crate::frame_throws::THROWS;
+use crate::handlers::{HANDLED, handlers};
+use crate::heaps::{PARTS, Part, is_right};
+use crate::in_order::{IN_ORDER, is_in_order};
+use crate::procedures::{COURSES, Course, is_gone};
+use crate::records::{STORIES, Story, is_told};
+use crate::resolved::{RESOLVED, resolved};
+use crate::runs::{CROWDS, Crowd, is_run};
+use crate::scripted::{SCRIPTS, Script, is_scripted};
+use crate::worlds::{AGREEING, DIFFERING, SCENES, Scene, is_as_played};
 use hierarchy::{Program, link};
 use jasmin_reader::read_class;
 use jasmin_text::ClassText;
@@ -55,29 +57,25 @@ pub(crate) struct Row {
     pub question: Question,
 }
 
-/// Whether the program has so many classes, and its answer is as the question says.
+/// Whether the program's answer is as the question says.
 fn answers<R: Threads + Wait + Sync + Clock>(
     rt: &R,
     alloc: Global,
     program: &Program,
-    count: usize,
     question: &Question,
-) -> Result<bool, AllocError> {
-    if program.len() != count {
-        return Ok(false);
-    }
+) -> bool {
     match question {
-        Question::Record(story) => Ok(is_told(alloc, program, story)),
-        Question::Procedure(course) => is_gone(alloc, program, *course),
-        Question::Handlers => Ok(handlers(program)),
-        Question::Frames(deed) => Ok(is_done(alloc, program, deed)),
-        Question::Heap(part) => Ok(is_right(alloc, program, *part)),
-        Question::Resolved => Ok(resolved(program)),
-        Question::Compared(case) => is_as_compared(alloc, program, case),
-        Question::Played(scene) => Ok(is_as_played(alloc, program, scene)),
-        Question::InOrder => Ok(is_in_order(alloc, program)),
-        Question::Ran(crowd) => Ok(is_run(rt, alloc, program, *crowd)),
-        Question::Scripted(script) => Ok(is_scripted(rt, alloc, program, *script)),
+        Question::Record(story) => is_told(alloc, program, story),
+        Question::Procedure(course) => is_gone(alloc, program, *course) == Ok(true),
+        Question::Handlers => handlers(program),
+        Question::Frames(deed) => is_done(alloc, program, deed),
+        Question::Heap(part) => is_right(alloc, program, *part),
+        Question::Resolved => resolved(program),
+        Question::Compared(case) => is_as_compared(alloc, program, case) == Ok(true),
+        Question::Played(scene) => is_as_played(alloc, program, scene),
+        Question::InOrder => is_in_order(alloc, program),
+        Question::Ran(crowd) => is_run(rt, alloc, program, *crowd),
+        Question::Scripted(script) => is_scripted(rt, alloc, program, *script),
     }
 }
 
@@ -110,30 +108,53 @@ pub(crate) fn is_answered<R: Threads + Wait + Sync + Clock>(
     classes: Vec<ClassText>,
     count: usize,
     question: &Question,
-) -> Result<bool, AllocError> {
+) -> bool {
     match link(alloc, classes) {
-        Ok(program) => answers(rt, alloc, &program, count, question),
-        Err(_) => Ok(false),
+        Ok(program) => program.len() == count && answers(rt, alloc, &program, question),
+        Err(_) => false,
     }
 }
 
 /// Whether all files are classes, which link, and the program's answer is as the question says.
-fn is_so<R: Threads + Wait + Sync + Clock>(
-    rt: &R,
-    alloc: Global,
-    row: &Row,
-) -> Result<bool, AllocError> {
-    let classes = class_texts(alloc, row.files)?;
-    is_answered(rt, alloc, classes, row.files.len(), &row.question)
+fn is_so<R: Threads + Wait + Sync + Clock>(rt: &R, alloc: Global, row: &Row) -> bool {
+    match class_texts(alloc, row.files) {
+        Ok(classes) => is_answered(rt, alloc, classes, row.files.len(), &row.question),
+        Err(_) => false,
+    }
 }
 
+/// All rows, by what they are of.
+const SUBJECTS: &[(&str, &[Row])] = &[
+    ("records of classes", STORIES),
+    ("steps of one class", COURSES),
+    ("the first row that fits catches", HANDLED),
+    ("frames are run, called and left", RUNS),
+    ("frames are left", THROWS),
+    ("heaps and monitors", PARTS),
+    ("instructions are resolved once", RESOLVED),
+    ("World agrees with the twin on small programs", AGREEING),
+    ("the comparison notices other needs", DIFFERING),
+    ("threads play their scenes", SCENES),
+    ("two threads go on in order", IN_ORDER),
+    ("threads at once", CROWDS),
+    ("bodies that do one of each", SCRIPTS),
+];
+
 /// All programs answer as their questions say.
-pub(crate) fn are_so<R: Threads + Wait + Sync + Clock + Abort>(
+fn are_so<R: Threads + Wait + Sync + Clock + Abort>(
     rt: &R,
     alloc: Global,
+    subject: &str,
     rows: &[Row],
 ) {
     for (place, row) in rows.iter().enumerate() {
-        assert!(rt; is_so(rt, alloc, row) == Ok(true), "row {place}");
+        assert!(rt; is_so(rt, alloc, row), "{subject}: row {place}");
+    }
+}
+
+#[test]
+fn programs_answer(rt: HostRuntime) {
+    for (subject, rows) in SUBJECTS {
+        are_so(&rt, rt.alloc(), subject, rows);
     }
 }

@@ -74,7 +74,7 @@ fn is_refused<R: Threads + Wait + Sync, O: io::Write>(
     status == 3 && err.as_slice() == line && !files.is_written
 }
 
-const BY_FILES: [(&[&str], &[u8]); 5] = [
+const BY_FILES: &[(&[&str], &[u8])] = &[
     (
         &[
             "jinit",
@@ -106,19 +106,28 @@ const BY_FILES: [(&[&str], &[u8]); 5] = [
     ),
 ];
 
+/// Whether these words are refused so, and nothing is written on the output.
+fn is_refused_by_files<R: Threads + Wait + Sync>(
+    rt: &R,
+    alloc: Global,
+    words: &[&str],
+    line: &[u8],
+) -> bool {
+    let mut out = Vec::new(alloc);
+    is_refused(rt, alloc, words, &mut out, line) && out.is_empty()
+}
+
 #[test]
 fn refused_by_files(rt: HostRuntime) {
-    for (words, line) in BY_FILES {
-        let mut out = Vec::new(rt.alloc());
+    for (place, (words, line)) in BY_FILES.iter().enumerate() {
         assert!(rt;
-            is_refused(&rt, rt.alloc(), words, &mut out, line),
-            "at {words:?}"
+            is_refused_by_files(&rt, rt.alloc(), words, line),
+            "row {place}"
         );
-        assert!(rt; out.is_empty(), "at {words:?}");
     }
 }
 
-const WITH_OUTPUT: [&[&str]; 6] = [
+const WITH_OUTPUT: &[&[&str]] = &[
     &[
         "jinit", "check", "--mains", "Solo", "--trace", "empty", "Solo.j",
     ],
@@ -133,10 +142,10 @@ const WITH_OUTPUT: [&[&str]; 6] = [
 
 #[test]
 fn refused_by_the_output(rt: HostRuntime) {
-    for words in WITH_OUTPUT {
+    for (place, words) in WITH_OUTPUT.iter().enumerate() {
         assert!(rt;
             is_refused(&rt, rt.alloc(), words, &mut Full, b"io: output\n"),
-            "at {words:?}"
+            "row {place}"
         );
     }
 }

@@ -1,6 +1,6 @@
 //! Instructions as they are resolved, and what else running a class needs.
 
-use crate::programs::{Question, Row, are_so};
+use crate::programs::{Question, Row};
 use hierarchy::{
     BuiltIn, BuiltInMethod, Element, ElementKind, MethodCode, Op, Printed, Program, ResolvedType,
     static_count,
@@ -242,12 +242,7 @@ pub(crate) fn resolved(program: &Program) -> bool {
         && program.code(2).is_none()
 }
 
-const ROWS: &[Row] = &[Row {
+pub(crate) const RESOLVED: &[Row] = &[Row {
     files: &[MEMBERS, MAIN],
     question: Question::Resolved,
 }];
-
-#[test]
-fn instructions_are_resolved_once(rt: HostRuntime) {
-    are_so(&rt, rt.alloc(), ROWS);
-}

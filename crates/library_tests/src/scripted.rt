@@ -12,7 +12,7 @@ ghost use Rattle.bodies.specs.declared.does.Does.TheVariants.{Gets, Puts};
 ghost use Rattle.library_tests.specs.AnyBodies.{any_bodies};
 ghost use Rattle.library_tests.specs.declared.scripted.Scripted.{Scripted as ScriptedFacts};
 
-use crate::programs::{Question, Row, are_so};
+use crate::programs::{Question, Row};
 use crate::runs::are_of_files;
 use bodies::{Bodies, Does, Lends};
 use descriptors::BaseType;
@@ -310,7 +310,7 @@ const WAITS: Script = Script {
     output: b"",
 };
 
-const SCRIPTS: &[Row] = &[
+pub(crate) const SCRIPTS: &[Row] = &[
     Row {
         files: FILES,
         question: Question::Scripted(USES),
@@ -324,8 +324,3 @@ const SCRIPTS: &[Row] = &[
         question: Question::Scripted(WAITS),
     },
 ];
-
-#[test]
-fn bodies_do_one_of_each(rt: HostRuntime) {
-    are_so(&rt, rt.alloc(), SCRIPTS);
-}

@@ -14,9 +14,8 @@ ghost use Rattle.cli.specs.Limits.{AreLimits};
 ghost use Rattle.cli.specs.Running.{IsRunOfNamed};
 
 use cli::{Named, NamedFault, serve};
-use std::alloc::Global;
+use std::alloc::{AllocError, Global};
 use std::sync::Wait;
-use std::test::Fail;
 use std::thread::Threads;
 
 /// One file, by the name `sheet`. There is no other, and none can be made.
@@ -68,14 +67,17 @@ fn trace_the_sheet<R: Threads + Wait + Sync>(rt: &R, alloc: Global, sheet: &mut 
     serve(rt, alloc, WORDS.as_slice(), sheet, &mut out, &mut err)
 }
 
-#[test]
-fn a_file_becomes_its_trace(rt: HostRuntime) -> Result<(), Fail> {
+/// Whether the sheet holds the trace of Solo in the place of its class.
+fn becomes_its_trace<R: Threads + Wait + Sync>(rt: &R, alloc: Global) -> Result<bool, AllocError> {
     let mut sheet = Sheet {
-        bytes: Vec::from_slice(rt.alloc(), b".class Solo")?,
+        bytes: Vec::from_slice(alloc, b".class Solo")?,
     };
-    assert_eq!(rt; trace_the_sheet(&rt, rt.alloc(), &mut sheet), 0);
-    assert!(rt;
-        sheet.bytes.as_slice() == b"0 t0 step6 Solo\n1 t0 step9 Solo\n2 t0 step10 Solo\n".as_slice()
-    );
-    Ok(())
+    let status = trace_the_sheet(rt, alloc, &mut sheet);
+    let trace = b"0 t0 step6 Solo\n1 t0 step9 Solo\n2 t0 step10 Solo\n".as_slice();
+    Ok(status == 0 && sheet.bytes.as_slice() == trace)
+}
+
+#[test]
+fn a_file_becomes_its_trace(rt: HostRuntime) {
+    assert!(rt; becomes_its_trace(&rt, rt.alloc()) == Ok(true));
 }

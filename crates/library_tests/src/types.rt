@@ -79,14 +79,29 @@ fn letter_of(letter: u8) -> Option<u8> {
     }
 }
 
+/// Whether each of these is the letter of a type, and the type's letter.
+fn are_letters(letters: &[u8]) -> bool {
+    for letter in letters {
+        if letter_of(*letter) != Some(*letter) {
+            return false;
+        }
+    }
+    true
+}
+
+/// Whether none of these is the letter of a type.
+fn are_no_letters(bytes: &[u8]) -> bool {
+    for byte in bytes {
+        if BaseType::of_letter(*byte).is_some() {
+            return false;
+        }
+    }
+    true
+}
+
 #[test]
 fn class_names_and_letters(rt: HostRuntime) {
     assert!(rt; are_one(rt.alloc(), b"a/B", b"a/B") == Ok(true));
     assert!(rt; are_one(rt.alloc(), b"a/B", b"a/C") == Ok(false));
-    for letter in b"ZBCSI".as_slice() {
-        assert!(rt; letter_of(*letter) == Some(*letter));
-    }
-    for letter in b"VJFDLz[".as_slice() {
-        assert!(rt; letter_of(*letter).is_none());
-    }
+    assert!(rt; are_letters(b"ZBCSI") && are_no_letters(b"VJFDLz["));
 }

@@ -3,7 +3,7 @@
 ghost use Rattle.std.specs.Prelude.{◌≡◌, length};
 
 use crate::comparing::Case;
-use crate::programs::{Question, Row, are_so};
+use crate::programs::{Question, Row};
 use crate::schedules::{Action, Choice, Run, replayed, turn};
 use hierarchy::{BuiltIn, ClassId, Program};
 use init_core::{Event, Label};
@@ -15,7 +15,7 @@ const A_DEFAULT: &[u8] = b".interface A\n.method m()V\nreturn\n.end method";
 
 /// World and the twin agree on each list of fewer events than the depth that two threads can make, and on each event
 /// that may follow it: so on all beginnings of legal interleavings of that many events.
-const AGREEING: &[Row] = &[
+pub(crate) const AGREEING: &[Row] = &[
     Row {
         files: &[b".class A"],
         question: Question::Compared(Case {
@@ -83,7 +83,7 @@ const AGREEING: &[Row] = &[
 ];
 
 /// B needs A, which the first case leaves out; in the second it needs nothing, and A is told. The comparison finds both.
-const DIFFERING: &[Row] = &[
+pub(crate) const DIFFERING: &[Row] = &[
     Row {
         files: &[b".class A", b".class B\n.super A"],
         question: Question::Compared(Case {
@@ -105,16 +105,6 @@ const DIFFERING: &[Row] = &[
         }),
     },
 ];
-
-#[test]
-fn agrees_on_small_programs(rt: HostRuntime) {
-    are_so(&rt, rt.alloc(), AGREEING);
-}
-
-#[test]
-fn notices_other_needs(rt: HostRuntime) {
-    are_so(&rt, rt.alloc(), DIFFERING);
-}
 
 /// What two threads do, and what comes of it.
 #[derive(Clone, Copy)]
@@ -170,7 +160,7 @@ pub(crate) fn is_as_played(alloc: Global, program: &Program, scene: &Scene) -> b
     ended == scene.ended && labelled && traced
 }
 
-const SCENES: &[Row] = &[
+pub(crate) const SCENES: &[Row] = &[
     // B extends A, and one thread requests B.
     Row {
         files: &[b".class A", b".class B\n.super A"],
@@ -245,11 +235,6 @@ const SCENES: &[Row] = &[
         }),
     },
 ];
-
-#[test]
-fn threads_play_their_scenes(rt: HostRuntime) {
-    are_so(&rt, rt.alloc(), SCENES);
-}
 
 /// The law is there for all callers.
 #[test]
