@@ -5,6 +5,7 @@ use jasmin_words::integer::{push_decimal, push_integer};
 use jasmin_words::name::{MemberName, same};
 use jasmin_words::quote::push_quoted;
 use jasmin_words::token::is_text;
+use sequence::Writer;
 use std::alloc::{AllocError, Global};
 
 /// What is written.
@@ -24,20 +25,24 @@ const WRITTEN: [(Written, &[u8]); 2] = [
     ),
 ];
 
-fn write(text: &mut Vec<u8>, written: Written) -> bool {
+fn write(text: &mut Writer, written: Written) {
     match written {
         Written::Integers => {
-            push_integer(text, -2_147_483_648).is_ok()
-                && push_integer(text, 0).is_ok()
-                && push_decimal(text, 65_535).is_ok()
+            push_integer(text, -2_147_483_648);
+            push_integer(text, 0);
+            push_decimal(text, 65_535);
         }
-        Written::Quoted(bytes) => push_quoted(text, bytes).is_ok(),
+        Written::Quoted(bytes) => push_quoted(text, bytes),
     }
 }
 
 fn is_written(alloc: Global, written: Written, wanted: &[u8]) -> bool {
-    let mut text = Vec::new(alloc);
-    write(&mut text, written) && text.as_slice() == wanted
+    let mut text = Writer::new(alloc);
+    write(&mut text, written);
+    match text.into_text() {
+        Ok(text) => text.as_slice() == wanted,
+        Err(_) => false,
+    }
 }
 
 #[test]
