@@ -14,13 +14,14 @@
 //! - `«300 times ab»` is `ab` 300 times. In what is repeated, `#` is the number of the repeat, from 0, and `¶` a
 //!   line feed.
 
-use std::alloc::{AllocError, Global};
+use jasmin_words::integer::push_decimal;
+use std::alloc::Global;
 
 /// A head with its body.
 #[derive(Drop)]
-pub(crate) struct Part {
+pub(crate) struct Part<'a> {
     /// The text of the head, without its marks.
-    pub(crate) head: Vec<u8>,
+    pub(crate) head: &'a str,
     /// Whether the head is a `== ==`.
     pub(crate) is_group: bool,
     /// The bytes that the body spells.
@@ -31,8 +32,13 @@ pub(crate) struct Part {
 
 /// The parts of a file, in their order.
 #[derive(Drop)]
-pub(crate) struct Archive {
-    pub(crate) parts: Vec<Part>,
+pub(crate) struct Archive<'a> {
+    alloc: Global,
+    pub(crate) parts: Vec<Part<'a>>,
+    /// The first line with a malformed escape, if there is one: 0 where the file isn't UTF-8.
+    pub(crate) bad_line: Option<usize>,
+    /// Whether memory was refused: then there are more parts, or longer ones.
+    pub(crate) is_refused: bool,
 }
 
 /// The text of a head, and whether it begins a group.
@@ -44,179 +50,166 @@ fn head_of(line: &str) -> Option<(&str, bool)> {
     Some((text.strip_suffix(" ==")?, true))
 }
 
-/// Adds the bytes that hexadecimal digits spell, or answers that they spell none.
-fn push_bytes(body: &mut Vec<u8>, digits: &str) -> Result<bool, AllocError> {
-    for word in digits.split_whitespace() {
-        match u8::from_str_radix(word, 16) {
-            Ok(byte) => body.push(byte)?,
-            Err(_) => return Ok(false),
+impl<'a> Archive<'a> {
+    /// The archive that a file's bytes spell, up to a malformed escape.
+    pub(crate) fn read(alloc: Global, bytes: &'a [u8]) -> Archive<'a> {
+        let mut archive = Archive {
+            alloc,
+            parts: Vec::new(alloc),
+            bad_line: None,
+            is_refused: false,
+        };
+        match std::str::from_utf8(bytes) {
+            Ok(text) => archive.push_text(text),
+            Err(_) => archive.bad_line = Some(0),
+        }
+        archive
+    }
+
+    /// Adds bytes to the last part's body.
+    fn push(&mut self, bytes: &[u8]) {
+        if let Some(part) = self.parts.last_mut() {
+            if part.body.extend_from_slice(bytes).is_err() {
+                self.is_refused = true;
+            }
         }
     }
-    Ok(true)
-}
 
-/// Adds a text with the number of the repeat for `#`.
-fn push_copy(
-    alloc: Global,
-    body: &mut Vec<u8>,
-    number: usize,
-    text: &str,
-) -> Result<(), AllocError> {
-    let number = format!(in alloc; "{number}")?;
-    let copy = text.replace(alloc, '#', number.as_str())?;
-    body.extend_from_slice(copy.as_bytes())
-}
-
-/// Adds a text so many times as it is.
-fn push_repeats(body: &mut Vec<u8>, count: usize, text: &str) -> Result<(), AllocError> {
-    for _repeat in 0..count {
-        body.extend_from_slice(text.as_bytes())?;
-    }
-    Ok(())
-}
-
-/// Adds a text so many times, with the number of the repeat for `#` and a line feed for `¶`.
-fn push_times(
-    alloc: Global,
-    body: &mut Vec<u8>,
-    count: usize,
-    text: &str,
-) -> Result<(), AllocError> {
-    let text = text.replace(alloc, '¶', "\n")?;
-    if !text.contains('#') {
-        return push_repeats(body, count, text.as_str());
-    }
-    for number in 0..count {
-        push_copy(alloc, body, number, text.as_str())?;
-    }
-    Ok(())
-}
-
-/// Adds what an escape spells, or answers that it is malformed.
-fn push_escape(alloc: Global, body: &mut Vec<u8>, escape: &str) -> Result<bool, AllocError> {
-    let Some((count, text)) = escape.split_once(" times ") else {
-        return push_bytes(body, escape);
-    };
-    let Ok(count) = count.parse::<usize>() else {
-        return Ok(false);
-    };
-    push_times(alloc, body, count, text)?;
-    Ok(true)
-}
-
-/// Adds what is spelled after a `«`, or answers that the escape is malformed.
-fn push_piece(alloc: Global, body: &mut Vec<u8>, piece: &str) -> Result<bool, AllocError> {
-    let Some((escape, after)) = piece.split_once('»') else {
-        return Ok(false);
-    };
-    if !push_escape(alloc, body, escape)? {
-        return Ok(false);
-    }
-    body.extend_from_slice(after.as_bytes())?;
-    Ok(true)
-}
-
-/// Adds what the pieces of a line before each `«` and after spell, or answers that an escape is malformed.
-fn push_pieces(alloc: Global, body: &mut Vec<u8>, line: &str) -> Result<bool, AllocError> {
-    let mut is_first = true;
-    for piece in line.split('«') {
-        if is_first {
-            body.extend_from_slice(piece.as_bytes())?;
-        } else if !push_piece(alloc, body, piece)? {
-            return Ok(false);
+    /// Adds a number to the last part's body.
+    fn push_number(&mut self, number: usize) {
+        if let Some(part) = self.parts.last_mut() {
+            if push_decimal(&mut part.body, number).is_err() {
+                self.is_refused = true;
+            }
         }
-        is_first = false;
     }
-    Ok(true)
-}
 
-/// Adds what a line of a body spells, or answers that an escape is malformed.
-fn push_line(alloc: Global, body: &mut Vec<u8>, line: &str) -> Result<bool, AllocError> {
-    let is_good = push_pieces(alloc, body, line)?;
-    if !line.ends_with("«»") {
-        body.push(b'\n')?;
-    }
-    Ok(is_good)
-}
-
-/// Adds a part with an empty body.
-fn push_part(
-    alloc: Global,
-    parts: &mut Vec<Part>,
-    head: &str,
-    is_group: bool,
-    line: usize,
-) -> Result<(), AllocError> {
-    let part = Part {
-        head: Vec::from_slice(alloc, head.as_bytes())?,
-        is_group,
-        body: Vec::new(alloc),
-        line,
-    };
-    parts.push(part)?;
-    Ok(())
-}
-
-/// Adds a line to the last part's body, or answers that an escape is malformed.
-fn push_body(alloc: Global, parts: &mut Vec<Part>, line: &str) -> Result<bool, AllocError> {
-    match parts.last_mut() {
-        Some(part) => push_line(alloc, &mut part.body, line),
-        None => Ok(true),
-    }
-}
-
-/// Takes the empty line before a group from the last part's body.
-fn drop_empty_line(parts: &mut Vec<Part>) {
-    if let Some(part) = parts.last_mut() {
-        let _ = part.body.pop();
-    }
-}
-
-/// Adds a line: a head, or a line of the last part's body. Answers whether its escapes are well formed.
-fn push_any(
-    alloc: Global,
-    parts: &mut Vec<Part>,
-    line: &str,
-    number: usize,
-    is_after_empty: bool,
-) -> Result<bool, AllocError> {
-    let Some((head, is_group)) = head_of(line) else {
-        return push_body(alloc, parts, line);
-    };
-    if is_group && is_after_empty {
-        drop_empty_line(parts);
-    }
-    push_part(alloc, parts, head, is_group, number)?;
-    Ok(true)
-}
-
-/// Adds the parts of a text, or answers the number of the first line with a malformed escape.
-fn push_text(
-    alloc: Global,
-    parts: &mut Vec<Part>,
-    text: &str,
-) -> Result<Option<usize>, AllocError> {
-    let mut number: usize = 0;
-    let mut is_after_empty = false;
-    for line in text.split_terminator('\n') {
-        number = number.saturating_add(1);
-        if !push_any(alloc, parts, line, number, is_after_empty)? {
-            return Ok(Some(number));
+    /// Adds the bytes that hexadecimal digits spell, or answers that they spell none.
+    fn push_bytes(&mut self, digits: &str) -> bool {
+        for word in digits.split_whitespace() {
+            match u8::from_str_radix(word, 16) {
+                Ok(byte) => self.push(&[byte]),
+                Err(_) => return false,
+            }
         }
-        is_after_empty = line.is_empty();
+        true
     }
-    Ok(None)
-}
 
-/// Adds the parts of a file, or answers the number of the first line with a malformed escape: 0 where the file isn't
-/// UTF-8.
-pub(crate) fn push_parts(
-    alloc: Global,
-    parts: &mut Vec<Part>,
-    bytes: &[u8],
-) -> Result<Option<usize>, AllocError> {
-    match std::str::from_utf8(bytes) {
-        Ok(text) => push_text(alloc, parts, text),
-        Err(_) => Ok(Some(0)),
+    /// Adds a text with the number of the repeat for `#` and a line feed for `¶`.
+    fn push_copy(&mut self, number: usize, text: &str) {
+        for character in text.chars() {
+            match character {
+                '#' => self.push_number(number),
+                '¶' => self.push(b"\n"),
+                other => self.push(other.encode_utf8(&mut [0; 4]).as_bytes()),
+            }
+        }
+    }
+
+    /// Adds copies of a text.
+    fn push_times(&mut self, count: usize, text: &str) {
+        for number in 0..count {
+            if self.is_refused {
+                return;
+            }
+            self.push_copy(number, text);
+        }
+    }
+
+    /// Adds what an escape spells, or answers that it is malformed.
+    fn push_escape(&mut self, escape: &str) -> bool {
+        let Some((count, text)) = escape.split_once(" times ") else {
+            return self.push_bytes(escape);
+        };
+        let Ok(count) = count.parse::<usize>() else {
+            return false;
+        };
+        self.push_times(count, text);
+        true
+    }
+
+    /// Adds what is spelled after a `«`, or answers that the escape is malformed.
+    fn push_piece(&mut self, piece: &str) -> bool {
+        let Some((escape, after)) = piece.split_once('»') else {
+            return false;
+        };
+        if !self.push_escape(escape) {
+            return false;
+        }
+        self.push(after.as_bytes());
+        true
+    }
+
+    /// Adds what the pieces of a line before each `«` and after spell, or answers that an escape is malformed.
+    fn push_pieces(&mut self, line: &str) -> bool {
+        let mut is_first = true;
+        for piece in line.split('«') {
+            if is_first {
+                self.push(piece.as_bytes());
+            } else if !self.push_piece(piece) {
+                return false;
+            }
+            is_first = false;
+        }
+        true
+    }
+
+    /// Adds a line to the last part's body, or answers that an escape is malformed.
+    fn push_line(&mut self, line: &str) -> bool {
+        if self.parts.is_empty() {
+            return true;
+        }
+        let is_good = self.push_pieces(line);
+        if !line.ends_with("«»") {
+            self.push(b"\n");
+        }
+        is_good
+    }
+
+    /// Adds a part with an empty body.
+    fn push_part(&mut self, head: &'a str, is_group: bool, line: usize) {
+        let body = Vec::new(self.alloc);
+        let part = Part {
+            head,
+            is_group,
+            body,
+            line,
+        };
+        if self.parts.push(part).is_err() {
+            self.is_refused = true;
+        }
+    }
+
+    /// Takes the empty line before a group from the last part's body.
+    fn drop_empty_line(&mut self) {
+        if let Some(part) = self.parts.last_mut() {
+            let _ = part.body.pop();
+        }
+    }
+
+    /// Adds a line: a head, or a line of the last part's body. Answers whether its escapes are well formed.
+    fn push_any(&mut self, line: &'a str, number: usize, is_after_empty: bool) -> bool {
+        let Some((head, is_group)) = head_of(line) else {
+            return self.push_line(line);
+        };
+        if is_group && is_after_empty {
+            self.drop_empty_line();
+        }
+        self.push_part(head, is_group, number);
+        true
+    }
+
+    /// Adds the parts of a text, up to the first line with a malformed escape.
+    fn push_text(&mut self, text: &'a str) {
+        let mut number: usize = 0;
+        let mut is_after_empty = false;
+        for line in text.split_terminator('\n') {
+            number = number.saturating_add(1);
+            if !self.push_any(line, number, is_after_empty) {
+                self.bad_line = Some(number);
+                return;
+            }
+            is_after_empty = line.is_empty();
+        }
     }
 }

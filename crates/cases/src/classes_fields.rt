@@ -1,21 +1,24 @@
 //! What the static fields of a class hold.
 
-use crate::classes_members::field_text;
+use crate::classes_members::push_field;
+use crate::text::Text;
 use hierarchy::{ClassId, Program, Value};
 use statics::{Bank, narrowed, static_field_at};
-use std::alloc::{AllocError, Global};
+use std::alloc::Global;
 
 /// Adds a value: an int, `null`, or a reference by its number, `#3`.
-fn push_value(alloc: Global, text: &mut String, value: Value) -> Result<(), AllocError> {
-    let word = match value {
-        Value::Int(number) => format!(in alloc; "{number}")?,
-        Value::Null => String::from_str(alloc, "null")?,
-        Value::Reference(number) => format!(in alloc; "#{number}")?,
-    };
-    if !text.is_empty() {
-        text.push(' ')?;
+fn push_value(text: &mut Text, value: Value) {
+    if !text.bytes().is_empty() {
+        text.push(b" ");
     }
-    text.push_str(word.as_str())
+    match value {
+        Value::Int(number) => text.show(&number),
+        Value::Null => text.push(b"null"),
+        Value::Reference(number) => {
+            text.push(b"#");
+            text.show(&number);
+        }
+    }
 }
 
 /// The value that a word spells.
@@ -37,35 +40,19 @@ fn place_of(program: &Program, asked: &str) -> Option<(ClassId, usize)> {
     Some((class, place))
 }
 
-/// The name and type of a static field, if the class has it.
-fn named(
-    alloc: Global,
-    program: &Program,
-    class: ClassId,
-    place: usize,
-) -> Result<String, AllocError> {
+/// Adds the name and type of a static field, if the class has it.
+fn push_named(alloc: Global, text: &mut Text, program: &Program, class: ClassId, place: usize) {
     match static_field_at(program, class, place) {
-        Some(field) => field_text(alloc, field),
-        None => String::from_str(alloc, "none"),
+        Some(field) => push_field(alloc, text, field),
+        None => text.push(b"none"),
     }
 }
 
-/// Adds what a field holds before it is given its constant, and after.
-fn push_constant(
-    alloc: Global,
-    text: &mut String,
-    bank: &mut Bank,
-    place: usize,
-) -> Result<(), AllocError> {
-    if place >= bank.len() {
-        return Ok(());
+/// Adds what a field holds, if there is the field.
+fn push_held(text: &mut Text, bank: &Bank, place: usize) {
+    if place < bank.len() {
+        push_value(text, bank.get(place));
     }
-    push_value(alloc, text, bank.get(place))?;
-    bank.constants();
-    if place >= bank.len() {
-        return Ok(());
-    }
-    push_value(alloc, text, bank.get(place))
 }
 
 /// A static field, and what it holds before step 6 and after it.
@@ -73,14 +60,21 @@ pub(crate) fn static_fields(
     alloc: Global,
     program: &Program,
     asked: &str,
-) -> Result<Option<String>, AllocError> {
+    came: &mut Text,
+) -> bool {
     let Some((class, place)) = place_of(program, asked) else {
-        return Ok(None);
+        return false;
     };
-    let mut text = named(alloc, program, class, place)?;
-    let mut bank = Bank::prepared(alloc, program, class)?;
-    push_constant(alloc, &mut text, &mut bank, place)?;
-    Ok(Some(text))
+    push_named(alloc, came, program, class, place);
+    match Bank::prepared(alloc, program, class) {
+        Ok(mut bank) => {
+            push_held(came, &bank, place);
+            bank.constants();
+            push_held(came, &bank, place);
+        }
+        Err(_) => came.refuse(),
+    }
+    true
 }
 
 /// Has a field hold a value, narrowed to its type, if there is the field.
@@ -91,32 +85,31 @@ fn put(bank: &mut Bank, place: usize, value: Value) {
     }
 }
 
-/// What all fields hold.
-fn values(alloc: Global, bank: &Bank) -> Result<String, AllocError> {
-    let mut text = String::new(alloc);
+/// Adds what all fields hold.
+fn push_values(text: &mut Text, bank: &Bank) {
     for place in 0..bank.len() {
-        push_value(alloc, &mut text, bank.get(place))?;
+        push_value(text, bank.get(place));
     }
-    Ok(text)
 }
 
 /// What the static fields of a class hold after a put.
-pub(crate) fn puts(
-    alloc: Global,
-    program: &Program,
-    asked: &str,
-) -> Result<Option<String>, AllocError> {
+pub(crate) fn puts(alloc: Global, program: &Program, asked: &str, came: &mut Text) -> bool {
     let Some((front, word)) = asked.rsplit_once(' ') else {
-        return Ok(None);
+        return false;
     };
     let Some((class, place)) = place_of(program, front) else {
-        return Ok(None);
+        return false;
     };
     let Some(value) = value(word) else {
-        return Ok(None);
+        return false;
     };
-    let mut bank = Bank::prepared(alloc, program, class)?;
-    bank.constants();
-    put(&mut bank, place, value);
-    Ok(Some(values(alloc, &bank)?))
+    match Bank::prepared(alloc, program, class) {
+        Ok(mut bank) => {
+            bank.constants();
+            put(&mut bank, place, value);
+            push_values(came, &bank);
+        }
+        Err(_) => came.refuse(),
+    }
+    true
 }

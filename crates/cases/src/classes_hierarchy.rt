@@ -1,138 +1,110 @@
 //! The numbers, supertypes, needs and quoted texts of a program's classes.
 
-use crate::classes_members::class_name;
+use crate::classes_members::push_class;
+use crate::text::Text;
 use hierarchy::{BUILT_IN_COUNT, BuiltIn, ClassId, Program};
 use init_order::needs;
-use std::alloc::{AllocError, Global};
+use std::alloc::Global;
 
-fn none(alloc: Global) -> Result<String, AllocError> {
-    String::from_str(alloc, "none")
+/// Adds the names of these classes.
+fn push_names(text: &mut Text, program: &Program, classes: &[ClassId]) {
+    for class in classes {
+        if !text.bytes().is_empty() {
+            text.push(b" ");
+        }
+        push_class(text, program, *class);
+    }
 }
 
-/// The names of these classes.
-fn names(alloc: Global, program: &Program, classes: &[ClassId]) -> Result<String, AllocError> {
+/// Adds the names of these classes, or that there are none.
+fn push_any_names(text: &mut Text, program: &Program, classes: &[ClassId]) {
     if classes.is_empty() {
-        return none(alloc);
+        text.push(b"none");
     }
-    let mut text = String::new(alloc);
-    for class in classes {
-        if !text.is_empty() {
-            text.push(' ')?;
-        }
-        text.push_str(class_name(program, *class))?;
-    }
-    Ok(text)
+    push_names(text, program, classes);
 }
 
 /// The classes that are initialized before a class's initializer runs.
-pub(crate) fn needed(
-    alloc: Global,
-    program: &Program,
-    asked: &str,
-) -> Result<Option<String>, AllocError> {
+pub(crate) fn needed(alloc: Global, program: &Program, asked: &str, came: &mut Text) -> bool {
     let Some(class) = program.class_named(asked.as_bytes()) else {
-        return Ok(None);
+        return false;
     };
-    let classes = needs(alloc, program, class)?;
-    Ok(Some(names(alloc, program, classes.as_slice())?))
+    match needs(alloc, program, class) {
+        Ok(classes) => push_any_names(came, program, &classes),
+        Err(_) => came.refuse(),
+    }
+    true
 }
 
 /// The name of a class's number, the number of a class's name.
-pub(crate) fn numbers(
-    alloc: Global,
-    program: &Program,
-    asked: &str,
-) -> Result<Option<String>, AllocError> {
-    if let Ok(number) = asked.parse::<usize>() {
-        return Ok(Some(names(alloc, program, &[ClassId { number }])?));
+pub(crate) fn numbers(program: &Program, asked: &str, came: &mut Text) -> bool {
+    match (
+        asked.parse::<usize>(),
+        program.class_named(asked.as_bytes()),
+    ) {
+        (Ok(number), _) => push_class(came, program, ClassId { number }),
+        (Err(_), Some(class)) => came.show(&class.number),
+        (Err(_), None) => came.push(b"none"),
     }
-    match program.class_named(asked.as_bytes()) {
-        Some(class) => {
-            let number = class.number;
-            Ok(Some(format!(in alloc; "{number}")?))
-        }
-        None => Ok(Some(none(alloc)?)),
-    }
+    true
 }
 
-/// The built-in class of that name without a package.
-fn built_in(alloc: Global, asked: &str) -> Result<Option<BuiltIn>, AllocError> {
+/// The whole name of a built-in class, of which the name without a package is asked.
+pub(crate) fn built_in_names(program: &Program, asked: &str, came: &mut Text) -> bool {
     for place in 0..BUILT_IN_COUNT {
         if let Some(class) = BuiltIn::at(place) {
-            let name = format!(in alloc; "{class:?}")?;
-            if name.as_str() == asked {
-                return Ok(Some(class));
+            came.show_name(&class);
+            let is_asked = came.bytes() == asked.as_bytes();
+            came.clear();
+            if is_asked {
+                push_class(came, program, program.built_in(class));
+                return true;
             }
         }
     }
-    Ok(None)
-}
-
-/// The whole name of a built-in class.
-pub(crate) fn built_in_names(
-    alloc: Global,
-    program: &Program,
-    asked: &str,
-) -> Result<Option<String>, AllocError> {
-    match built_in(alloc, asked)? {
-        Some(class) => Ok(Some(names(alloc, program, &[program.built_in(class)])?)),
-        None => Ok(None),
-    }
+    false
 }
 
 /// The direct supertypes of a class of the files.
-pub(crate) fn supertypes(
-    alloc: Global,
-    program: &Program,
-    asked: &str,
-) -> Result<Option<String>, AllocError> {
+pub(crate) fn supertypes(program: &Program, asked: &str, came: &mut Text) -> bool {
     let Some(class) = program.class_named(asked.as_bytes()) else {
-        return Ok(None);
+        return false;
     };
     let Some(class) = program.class(class) else {
-        return Ok(None);
+        return false;
     };
-    let superclass = class_name(program, class.superclass);
-    if class.interfaces.is_empty() {
-        return Ok(Some(String::from_str(alloc, superclass)?));
-    }
-    let interfaces = names(alloc, program, class.interfaces.as_slice())?;
-    Ok(Some(format!(in alloc; "{superclass} {interfaces}")?))
+    push_class(came, program, class.superclass);
+    push_names(came, program, class.interfaces.as_slice());
+    true
 }
 
 /// The superinterfaces that a class implements by itself.
-pub(crate) fn superinterfaces_of(
-    alloc: Global,
-    program: &Program,
-    asked: &str,
-) -> Result<Option<String>, AllocError> {
+pub(crate) fn superinterfaces_of(program: &Program, asked: &str, came: &mut Text) -> bool {
     let Some(class) = program.class_named(asked.as_bytes()) else {
-        return Ok(None);
+        return false;
     };
-    let mut superinterfaces = Vec::new(alloc);
     for superinterface in program.superinterfaces(class) {
-        superinterfaces.push(superinterface)?;
+        push_names(came, program, &[superinterface]);
     }
-    Ok(Some(names(alloc, program, &superinterfaces)?))
+    if came.bytes().is_empty() {
+        came.push(b"none");
+    }
+    true
 }
 
 /// Whether a class is below another one.
-pub(crate) fn subtypes(
-    alloc: Global,
-    program: &Program,
-    asked: &str,
-) -> Result<Option<String>, AllocError> {
+pub(crate) fn subtypes(program: &Program, asked: &str, came: &mut Text) -> bool {
     let Some((class, other)) = asked.split_once(" <: ") else {
-        return Ok(None);
+        return false;
     };
     let Some(class) = program.class_named(class.as_bytes()) else {
-        return Ok(None);
+        return false;
     };
     let Some(other) = program.class_named(other.as_bytes()) else {
-        return Ok(None);
+        return false;
     };
-    let is_below = program.is_subtype(class, other);
-    Ok(Some(format!(in alloc; "{is_below}")?))
+    came.show(&program.is_subtype(class, other));
+    true
 }
 
 /// What stands between two quotes.
@@ -141,16 +113,13 @@ fn quoted(text: &str) -> Option<&str> {
 }
 
 /// The number of a quoted text.
-pub(crate) fn text_references(
-    alloc: Global,
-    program: &Program,
-    asked: &str,
-) -> Result<Option<String>, AllocError> {
+pub(crate) fn text_references(program: &Program, asked: &str, came: &mut Text) -> bool {
     let Some(text) = quoted(asked) else {
-        return Ok(None);
+        return false;
     };
     match program.text_reference(text.as_bytes()) {
-        Some(number) => Ok(Some(format!(in alloc; "{number}")?)),
-        None => Ok(Some(none(alloc)?)),
+        Some(number) => came.show(&number),
+        None => came.push(b"none"),
     }
+    true
 }

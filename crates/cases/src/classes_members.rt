@@ -1,12 +1,12 @@
 //! To which fields and methods references resolve.
 
-use crate::classes::shown;
-use descriptors::{FieldType, MethodType, parse_field, parse_method, write_field, write_method};
+use crate::text::Text;
+use descriptors::{MethodType, parse_field, parse_method, write_field, write_method};
 use hierarchy::{
     BuiltIn, BuiltInMethod, ClassId, FieldId, FieldKind, Invoke, MethodId, Printed, Program,
 };
 use jasmin_text::{Field, Method};
-use std::alloc::{AllocError, Global};
+use std::alloc::Global;
 
 /// The method that an instruction names.
 #[derive(Drop)]
@@ -23,57 +23,35 @@ fn member<'a>(program: &Program, text: &'a str) -> Option<(ClassId, &'a str)> {
     Some((class, name))
 }
 
-fn field_type(alloc: Global, descriptor: &str) -> Option<FieldType> {
-    parse_field(alloc, descriptor.as_bytes()).ok()
-}
-
-/// The type of a method whose descriptor stands behind its `(`.
-fn method_type(alloc: Global, after: &str) -> Result<Option<MethodType>, AllocError> {
-    let descriptor = format!(in alloc; "({after}")?;
-    Ok(parse_method(alloc, descriptor.as_bytes()).ok())
-}
-
 /// The method that an instruction names, `A/own()V`.
 pub(crate) fn method_reference<'a>(
     alloc: Global,
     program: &Program,
     text: &'a str,
-) -> Result<Option<MethodReference<'a>>, AllocError> {
-    let Some((front, after)) = text.split_once('(') else {
-        return Ok(None);
-    };
-    let Some((class, name)) = member(program, front) else {
-        return Ok(None);
-    };
-    let Some(method_type) = method_type(alloc, after)? else {
-        return Ok(None);
-    };
-    Ok(Some(MethodReference {
-        class,
-        name,
-        method_type,
-    }))
-}
-
-/// The name of a class.
-pub(crate) fn class_name(program: &Program, class: ClassId) -> &str {
-    match program.name(class) {
-        Some(name) => shown(name),
-        None => "?",
+) -> Option<MethodReference<'a>> {
+    let (front, _) = text.split_once('(')?;
+    let descriptor = text.strip_prefix(front)?;
+    let (class, name) = member(program, front)?;
+    match parse_method(alloc, descriptor.as_bytes()) {
+        Ok(method_type) => Some(MethodReference {
+            class,
+            name,
+            method_type,
+        }),
+        Err(_) => None,
     }
 }
 
-/// An error, by its name without a package.
-pub(crate) fn error_text(alloc: Global, error: BuiltIn) -> Result<String, AllocError> {
-    format!(in alloc; "{error:?}")
+/// Adds the name of a class.
+pub(crate) fn push_class(text: &mut Text, program: &Program, class: ClassId) {
+    text.push(program.name(class).unwrap_or(b"?"));
 }
 
-/// A field by its name and type, `top I`.
-pub(crate) fn field_text(alloc: Global, field: &Field) -> Result<String, AllocError> {
-    let descriptor = write_field(alloc, &field.field_type)?;
-    let name = shown(field.name.as_slice());
-    let descriptor = shown(descriptor.as_slice());
-    format!(in alloc; "{name} {descriptor}")
+/// Adds a field by its name and type, `top I`.
+pub(crate) fn push_field(alloc: Global, text: &mut Text, field: &Field) {
+    text.push(field.name.as_slice());
+    text.push(b" ");
+    text.push_made(write_field(alloc, &field.field_type));
 }
 
 fn field_at(program: &Program, class: ClassId, place: usize) -> Option<&Field> {
@@ -84,78 +62,101 @@ fn method_at(program: &Program, class: ClassId, place: usize) -> Option<&Method>
     program.class(class)?.methods.as_slice().get(place)
 }
 
-/// A field by the class that declares it, its name and its type.
-fn found_field(alloc: Global, program: &Program, field: FieldId) -> Result<String, AllocError> {
-    match field {
-        FieldId::Out => String::from_str(alloc, "java/lang/System/out Ljava/io/PrintStream;"),
-        FieldId::Declared(class, place) => match field_at(program, class, place) {
-            Some(field) => {
-                let class = class_name(program, class);
-                let field = field_text(alloc, field)?;
-                format!(in alloc; "{class}/{field}")
-            }
-            None => String::from_str(alloc, "?"),
-        },
+/// Adds a field by the class that declares it, its name and its type.
+fn push_declared_field(
+    alloc: Global,
+    text: &mut Text,
+    program: &Program,
+    class: ClassId,
+    place: usize,
+) {
+    match field_at(program, class, place) {
+        Some(field) => {
+            push_class(text, program, class);
+            text.push(b"/");
+            push_field(alloc, text, field);
+        }
+        None => text.push(b"?"),
     }
 }
 
-fn printed(printed: Printed) -> &'static str {
+/// Adds a field by the class that declares it, its name and its type, or an error by its name without a package.
+fn push_found_field(
+    alloc: Global,
+    text: &mut Text,
+    program: &Program,
+    found: Result<FieldId, BuiltIn>,
+) {
+    match found {
+        Ok(FieldId::Out) => text.push(b"java/lang/System/out Ljava/io/PrintStream;"),
+        Ok(FieldId::Declared(class, place)) => {
+            push_declared_field(alloc, text, program, class, place)
+        }
+        Err(error) => text.show_name(&error),
+    }
+}
+
+fn printed(printed: Printed) -> &'static [u8] {
     match printed {
-        Printed::Int => "I",
-        Printed::Char => "C",
-        Printed::Boolean => "Z",
-        Printed::Text => "Ljava/lang/String;",
+        Printed::Int => b"I",
+        Printed::Char => b"C",
+        Printed::Boolean => b"Z",
+        Printed::Text => b"Ljava/lang/String;",
     }
 }
 
-/// A method of a built-in class by its name and descriptor.
-fn built_in_text(alloc: Global, method: BuiltInMethod) -> Result<String, AllocError> {
+/// Adds a method of a built-in class by its name and descriptor.
+fn push_built_in(text: &mut Text, method: BuiltInMethod) {
     match method {
-        BuiltInMethod::Init => String::from_str(alloc, "<init>()V"),
-        BuiltInMethod::InitWithText => String::from_str(alloc, "<init>(Ljava/lang/String;)V"),
-        BuiltInMethod::PrintLineAlone => String::from_str(alloc, "println()V"),
+        BuiltInMethod::Init => text.push(b"<init>()V"),
+        BuiltInMethod::InitWithText => text.push(b"<init>(Ljava/lang/String;)V"),
+        BuiltInMethod::PrintLineAlone => text.push(b"println()V"),
         BuiltInMethod::Print(argument) => {
-            let argument = printed(argument);
-            format!(in alloc; "print({argument})V")
+            text.push(b"print(");
+            text.push(printed(argument));
+            text.push(b")V");
         }
         BuiltInMethod::PrintLine(argument) => {
-            let argument = printed(argument);
-            format!(in alloc; "println({argument})V")
+            text.push(b"println(");
+            text.push(printed(argument));
+            text.push(b")V");
         }
     }
 }
 
-/// A method by its name and descriptor, `own()V`.
-fn method_text(alloc: Global, method: &Method) -> Result<String, AllocError> {
-    let descriptor = write_method(alloc, &method.method_type)?;
-    let name = shown(method.name.as_slice());
-    let descriptor = shown(descriptor.as_slice());
-    format!(in alloc; "{name}{descriptor}")
-}
-
-fn name_and_type(alloc: Global, program: &Program, method: MethodId) -> Result<String, AllocError> {
+/// Adds a method by its name and descriptor, `own()V`.
+fn push_method(alloc: Global, text: &mut Text, method: Option<&Method>) {
     match method {
-        MethodId::BuiltIn(_, method) => built_in_text(alloc, method),
-        MethodId::Declared(class, place) => match method_at(program, class, place) {
-            Some(method) => method_text(alloc, method),
-            None => String::from_str(alloc, "?"),
-        },
+        Some(method) => {
+            text.push(method.name.as_slice());
+            text.push_made(write_method(alloc, &method.method_type));
+        }
+        None => text.push(b"?"),
     }
 }
 
-/// A method by the class that declares it, its name and its descriptor, or an error.
-pub(crate) fn found_method(
+/// Adds a method by the class that declares it, its name and its descriptor.
+fn push_declared(alloc: Global, text: &mut Text, program: &Program, method: MethodId) {
+    push_class(text, program, program.declaring_class(method));
+    text.push(b"/");
+    match method {
+        MethodId::BuiltIn(_, method) => push_built_in(text, method),
+        MethodId::Declared(class, place) => {
+            push_method(alloc, text, method_at(program, class, place))
+        }
+    }
+}
+
+/// Adds a method by the class that declares it, its name and its descriptor, or an error by its name without a package.
+pub(crate) fn push_found(
     alloc: Global,
+    text: &mut Text,
     program: &Program,
     found: Result<MethodId, BuiltIn>,
-) -> Result<String, AllocError> {
+) {
     match found {
-        Ok(method) => {
-            let text = name_and_type(alloc, program, method)?;
-            let class = class_name(program, program.declaring_class(method));
-            format!(in alloc; "{class}/{text}")
-        }
-        Err(error) => error_text(alloc, error),
+        Ok(method) => push_declared(alloc, text, program, method),
+        Err(error) => text.show_name(&error),
     }
 }
 
@@ -178,48 +179,33 @@ pub(crate) fn invoke(instruction: &str) -> Option<Invoke> {
     }
 }
 
-/// The field that `A/own I` names: its class, its name and its type.
-fn field_reference<'a>(
-    alloc: Global,
-    program: &Program,
-    text: &'a str,
-) -> Option<(ClassId, &'a str, FieldType)> {
-    let (front, descriptor) = text.split_once(' ')?;
-    let (class, name) = member(program, front)?;
-    Some((class, name, field_type(alloc, descriptor)?))
-}
-
-/// A field, or an error.
-fn field_or_error(
-    alloc: Global,
-    program: &Program,
-    found: Result<FieldId, BuiltIn>,
-) -> Result<String, AllocError> {
-    match found {
-        Ok(field) => found_field(alloc, program, field),
-        Err(error) => error_text(alloc, error),
-    }
-}
-
 /// To which field `A/own I` resolves.
 fn resolves_field(
     alloc: Global,
     program: &Program,
     kind: FieldKind,
     text: &str,
-) -> Result<Option<String>, AllocError> {
-    let Some((class, name, field_type)) = field_reference(alloc, program, text) else {
-        return Ok(None);
+    came: &mut Text,
+) -> bool {
+    let Some((front, descriptor)) = text.split_once(' ') else {
+        return false;
+    };
+    let Some((class, name)) = member(program, front) else {
+        return false;
+    };
+    let Ok(field_type) = parse_field(alloc, descriptor.as_bytes()) else {
+        return false;
     };
     let found = program.resolve_field(class, name.as_bytes(), &field_type, kind);
-    Ok(Some(field_or_error(alloc, program, found)?))
+    push_found_field(alloc, came, program, found);
+    true
 }
 
 /// To which method a reference resolves.
 pub(crate) fn resolved(
     program: &Program,
     how: Invoke,
-    reference: &MethodReference,
+    reference: &MethodReference<'_>,
 ) -> Result<MethodId, BuiltIn> {
     let name = reference.name.as_bytes();
     program.resolve_method(how, reference.class, name, &reference.method_type)
@@ -231,28 +217,27 @@ fn resolves_method(
     program: &Program,
     how: Invoke,
     text: &str,
-) -> Result<Option<String>, AllocError> {
-    let Some(reference) = method_reference(alloc, program, text)? else {
-        return Ok(None);
-    };
-    let found = resolved(program, how, &reference);
-    Ok(Some(found_method(alloc, program, found)?))
+    came: &mut Text,
+) -> bool {
+    match method_reference(alloc, program, text) {
+        Some(reference) => {
+            push_found(alloc, came, program, resolved(program, how, &reference));
+            true
+        }
+        None => false,
+    }
 }
 
 /// To which field or method the reference of an instruction resolves.
-pub(crate) fn resolves(
-    alloc: Global,
-    program: &Program,
-    asked: &str,
-) -> Result<Option<String>, AllocError> {
+pub(crate) fn resolves(alloc: Global, program: &Program, asked: &str, came: &mut Text) -> bool {
     let Some((instruction, reference)) = asked.split_once(' ') else {
-        return Ok(None);
+        return false;
     };
     if let Some(kind) = field_kind(instruction) {
-        return resolves_field(alloc, program, kind, reference);
+        return resolves_field(alloc, program, kind, reference, came);
     }
     match invoke(instruction) {
-        Some(how) => resolves_method(alloc, program, how, reference),
-        None => Ok(None),
+        Some(how) => resolves_method(alloc, program, how, reference, came),
+        None => false,
     }
 }

@@ -1,8 +1,9 @@
 //! Which methods instructions run.
 
-use crate::classes_members::{MethodReference, found_method, invoke, method_reference, resolved};
+use crate::classes_members::{MethodReference, invoke, method_reference, push_found, resolved};
+use crate::text::Text;
 use hierarchy::{BuiltIn, Call, ClassId, Invoke, MethodId, Program};
-use std::alloc::{AllocError, Global};
+use std::alloc::Global;
 
 /// The reference, and the class behind it: an object's, `A/own()V on C`, or the one whose code makes the call,
 /// `A/own()V in C`.
@@ -27,7 +28,7 @@ fn selected(
     program: &Program,
     how: Invoke,
     call: Call,
-    reference: &MethodReference,
+    reference: &MethodReference<'_>,
 ) -> Result<MethodId, BuiltIn> {
     match resolved(program, how, reference) {
         Ok(method) => {
@@ -38,55 +39,48 @@ fn selected(
     }
 }
 
-/// The text of the reference, and the class behind it.
-fn parted<'a>(program: &Program, how: Invoke, asked: &'a str) -> Option<(&'a str, ClassId)> {
-    let (reference, class) = cut(asked, how)?;
-    Some((reference, program.class_named(class.as_bytes())?))
-}
-
 /// Which method an instruction with this reference runs.
 fn selects_by(
     alloc: Global,
     program: &Program,
     how: Invoke,
     class: ClassId,
-    reference: &MethodReference,
-) -> Result<Option<String>, AllocError> {
-    match call(how, reference.class, class) {
-        Some(call) => {
-            let found = selected(program, how, call, reference);
-            Ok(Some(found_method(alloc, program, found)?))
-        }
-        None => Ok(None),
-    }
+    reference: &MethodReference<'_>,
+    came: &mut Text,
+) -> bool {
+    let Some(call) = call(how, reference.class, class) else {
+        return false;
+    };
+    push_found(
+        alloc,
+        came,
+        program,
+        selected(program, how, call, reference),
+    );
+    true
 }
 
-fn selects_of(
-    alloc: Global,
-    program: &Program,
-    how: Invoke,
-    asked: &str,
-) -> Result<Option<String>, AllocError> {
-    let Some((text, class)) = parted(program, how, asked) else {
-        return Ok(None);
+/// Which method an instruction of this kind runs.
+fn selects_of(alloc: Global, program: &Program, how: Invoke, asked: &str, came: &mut Text) -> bool {
+    let Some((text, class)) = cut(asked, how) else {
+        return false;
     };
-    match method_reference(alloc, program, text)? {
-        Some(reference) => selects_by(alloc, program, how, class, &reference),
-        None => Ok(None),
+    let Some(class) = program.class_named(class.as_bytes()) else {
+        return false;
+    };
+    match method_reference(alloc, program, text) {
+        Some(reference) => selects_by(alloc, program, how, class, &reference, came),
+        None => false,
     }
 }
 
 /// Which method an instruction runs.
-pub(crate) fn selects(
-    alloc: Global,
-    program: &Program,
-    asked: &str,
-) -> Result<Option<String>, AllocError> {
+pub(crate) fn selects(alloc: Global, program: &Program, asked: &str, came: &mut Text) -> bool {
     let Some((instruction, rest)) = asked.split_once(' ') else {
-        return Ok(None);
+        return false;
     };
     match invoke(instruction) {
-        Some(how) => selects_of(alloc, program, how, rest),
-        None => Ok(None),
+        Some(how) => selects_of(alloc, program, how, rest, came),
+        None => false,
     }
 }

@@ -5,7 +5,7 @@
 //! - `-- a method: 3 parameters --`, `-- a method: FAULT --`: the body is a method descriptor, likewise.
 //! - `-- a class name --`, `-- no class name --`: the body is a word that is the name of a class or none.
 
-use crate::classes::shown;
+use crate::text::Text;
 use descriptors::{
     ClassName, ElementType, FieldType, MethodType, is_class_name, parse_field, parse_method,
     write_field, write_method,
@@ -13,91 +13,83 @@ use descriptors::{
 use sequence::Refusal;
 use std::alloc::{AllocError, Global};
 
-/// What an element is.
-fn element_text(alloc: Global, element: &ElementType) -> Result<String, AllocError> {
+/// Adds what an element is.
+fn push_element(text: &mut Text, element: &ElementType) {
     match element {
-        ElementType::Base(base) => format!(in alloc; "{base:?}"),
+        ElementType::Base(base) => text.show_name(base),
         ElementType::Class(name) => {
-            let name = shown(name.as_slice());
-            format!(in alloc; "class {name}")
+            text.push(b"class ");
+            text.push(name.as_slice());
         }
     }
 }
 
-/// A field's type.
-fn field_text(alloc: Global, field: &FieldType) -> Result<String, AllocError> {
-    let element = element_text(alloc, &field.element)?;
-    let dimensions = field.dimensions;
-    format!(in alloc; "a field: {element}, {dimensions} dimensions")
-}
-
-/// A field's type, where it is written as this text.
-fn spelled_field(alloc: Global, field: &FieldType, text: &[u8]) -> Result<String, AllocError> {
-    let written = write_field(alloc, field)?;
-    if written.as_slice() == text {
-        return field_text(alloc, field);
-    }
-    String::from_str(alloc, "a field: written otherwise")
-}
-
-/// What a text is as a field descriptor.
-pub(crate) fn field_answer(alloc: Global, text: &[u8]) -> Result<String, AllocError> {
-    match parse_field(alloc, text) {
-        Ok(field) => spelled_field(alloc, &field, text),
-        Err(Refusal::Memory) => Err(AllocError),
-        Err(Refusal::Fault(fault)) => format!(in alloc; "a field: {fault}"),
+/// Adds a field's type, where it is written as this descriptor.
+fn push_field(alloc: Global, came: &mut Text, field: &FieldType, descriptor: &[u8]) {
+    match write_field(alloc, field) {
+        Ok(written) if written.as_slice() == descriptor => {
+            push_element(came, &field.element);
+            came.push(b", ");
+            came.show(&field.dimensions);
+            came.push(b" dimensions");
+        }
+        Ok(_) => came.push(b"written otherwise"),
+        Err(_) => came.refuse(),
     }
 }
 
-fn is_written(alloc: Global, method: &MethodType, text: &[u8]) -> Result<bool, AllocError> {
-    Ok(write_method(alloc, method)?.as_slice() == text)
+/// Adds what a text is as a field descriptor.
+pub(crate) fn push_field_answer(alloc: Global, came: &mut Text, descriptor: &[u8]) {
+    came.push(b"a field: ");
+    match parse_field(alloc, descriptor) {
+        Ok(field) => push_field(alloc, came, &field, descriptor),
+        Err(Refusal::Memory) => came.refuse(),
+        Err(Refusal::Fault(fault)) => came.show(&fault),
+    }
 }
 
-/// Whether a method's copy equals it, and is written as this text.
-fn is_copied(alloc: Global, method: &MethodType, text: &[u8]) -> Result<bool, AllocError> {
+/// Whether a method's copy equals it, and is written as this descriptor.
+fn is_copied(alloc: Global, method: &MethodType, descriptor: &[u8]) -> Result<bool, AllocError> {
     let copy = method.clone()?;
-    Ok(copy == *method && is_written(alloc, &copy, text)?)
+    Ok(copy == *method && write_method(alloc, &copy)?.as_slice() == descriptor)
 }
 
-/// A method's type, where its copy is written as this text.
-fn spelled_method(alloc: Global, method: &MethodType, text: &[u8]) -> Result<String, AllocError> {
-    if !is_copied(alloc, method, text)? {
-        return String::from_str(alloc, "a method: written otherwise");
-    }
-    let count = method.parameters().len();
-    format!(in alloc; "a method: {count} parameters")
-}
-
-/// What a text is as a method descriptor.
-pub(crate) fn method_answer(alloc: Global, text: &[u8]) -> Result<String, AllocError> {
-    match parse_method(alloc, text) {
-        Ok(method) => spelled_method(alloc, &method, text),
-        Err(Refusal::Memory) => Err(AllocError),
-        Err(Refusal::Fault(fault)) => format!(in alloc; "a method: {fault}"),
+/// Adds a method's type, where its copy is written as this descriptor.
+fn push_method(alloc: Global, came: &mut Text, method: &MethodType, descriptor: &[u8]) {
+    match is_copied(alloc, method, descriptor) {
+        Ok(true) => {
+            came.show(&method.parameters().len());
+            came.push(b" parameters");
+        }
+        Ok(false) => came.push(b"written otherwise"),
+        Err(_) => came.refuse(),
     }
 }
 
-/// Whether a class name has these bytes, and its copy equals it.
-fn is_kept(name: &ClassName, word: &[u8]) -> Result<bool, AllocError> {
-    let copy = name.clone()?;
-    Ok(name.as_slice() == word && copy == *name)
+/// Adds what a text is as a method descriptor.
+pub(crate) fn push_method_answer(alloc: Global, came: &mut Text, descriptor: &[u8]) {
+    came.push(b"a method: ");
+    match parse_method(alloc, descriptor) {
+        Ok(method) => push_method(alloc, came, &method, descriptor),
+        Err(Refusal::Memory) => came.refuse(),
+        Err(Refusal::Fault(fault)) => came.show(&fault),
+    }
 }
 
-/// Whether a word is the name of a class.
-pub(crate) fn class_name_answer(alloc: Global, word: &[u8]) -> Result<String, AllocError> {
-    let is_name = match ClassName::parse(alloc, word)? {
-        Some(name) => is_kept(&name, word)?,
-        None => false,
-    };
-    if is_name != is_class_name(word) {
-        return String::from_str(alloc, "a class name of other bytes");
+/// Whether a word is the name of a class, with these bytes, whose copy equals it.
+fn is_kept(alloc: Global, word: &[u8]) -> Result<bool, AllocError> {
+    match ClassName::parse(alloc, word)? {
+        Some(name) => Ok(name.as_slice() == word && name.clone()? == name),
+        None => Ok(false),
     }
-    String::from_str(
-        alloc,
-        if is_name {
-            "a class name"
-        } else {
-            "no class name"
-        },
-    )
+}
+
+/// Adds whether a word is the name of a class.
+pub(crate) fn push_class_name_answer(alloc: Global, came: &mut Text, word: &[u8]) {
+    match is_kept(alloc, word) {
+        Ok(is_name) if is_name != is_class_name(word) => came.push(b"a class name of other bytes"),
+        Ok(true) => came.push(b"a class name"),
+        Ok(false) => came.push(b"no class name"),
+        Err(_) => came.refuse(),
+    }
 }

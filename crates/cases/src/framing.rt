@@ -1,6 +1,6 @@
 //! What stands around a case, and the answer that its head demands of it there.
 
-use std::alloc::{AllocError, Global};
+use crate::text::Text;
 use std::str::from_utf8;
 
 /// What stands before and after a case.
@@ -24,19 +24,16 @@ pub(crate) fn without_line_feed(body: &[u8]) -> &[u8] {
     body.strip_suffix(b"\n").unwrap_or(body)
 }
 
-/// The case in its frame.
-pub(crate) fn framed(
-    alloc: Global,
-    frame: Option<Frame<'_>>,
-    case: &[u8],
-) -> Result<Vec<u8>, AllocError> {
-    let Some(Frame { before, after }) = frame else {
-        return Vec::from_slice(alloc, case);
-    };
-    let mut text = Vec::from_slice(alloc, before)?;
-    text.extend_from_slice(without_line_feed(case))?;
-    text.extend_from_slice(after)?;
-    Ok(text)
+/// Adds the case in its frame.
+pub(crate) fn push_framed(text: &mut Text, frame: Option<Frame<'_>>, case: &[u8]) {
+    match frame {
+        Some(Frame { before, after }) => {
+            text.push(before);
+            text.push(without_line_feed(case));
+            text.push(after);
+        }
+        None => text.push(case),
+    }
 }
 
 /// The first line of a case in its frame.
@@ -52,15 +49,11 @@ fn first_line(frame: Option<Frame<'_>>) -> usize {
     line
 }
 
-/// The answer that a head demands of a case in its frame. A head that names no line means the first of the case.
-pub(crate) fn answer_wanted(
-    alloc: Global,
-    head: &str,
-    frame: Option<Frame<'_>>,
-) -> Result<String, AllocError> {
-    if head == "read" || head.contains(" in line ") {
-        return String::from_str(alloc, head);
+/// Adds the answer that a head demands of a case in its frame. A head that names no line means the first of the case.
+pub(crate) fn push_wanted(text: &mut Text, head: &str, frame: Option<Frame<'_>>) {
+    text.push(head.as_bytes());
+    if head != "read" && !head.contains(" in line ") {
+        text.push(b" in line ");
+        text.show(&first_line(frame));
     }
-    let line = first_line(frame);
-    format!(in alloc; "{head} in line {line}")
 }

@@ -18,14 +18,17 @@ mod classes_selection;
 mod descriptor_words;
 mod framing;
 mod jasmin;
+mod linked;
 mod programs;
 mod report;
+mod text;
 mod traces;
 mod words;
 
-use crate::archive::{Archive, push_parts};
+use crate::archive::{Archive, Part};
+use crate::linked::Asked;
 use crate::report::Report;
-use std::alloc::{Alloc, AllocError, Global};
+use std::alloc::{Alloc, Global};
 use std::io::Write;
 use std::process::ExitCode;
 use std::rt::Files;
@@ -38,19 +41,19 @@ fn judge<R: Threads + Wait + Sync>(
     rt: &R,
     alloc: Global,
     file: &str,
-    archive: &Archive,
-    report: &mut Report,
-) -> Result<(), AllocError> {
+    parts: &[Part<'_>],
+    report: &mut Report<'_>,
+) {
     if file.ends_with(".txtar") {
-        programs::judge(rt, alloc, archive, report)
+        programs::judge(rt, alloc, parts, report)
     } else if file.contains("classes/") {
-        classes::judge(alloc, archive, report)
+        linked::judge(alloc, Asked::Classes, parts, report)
     } else if file.contains("jasmin/") {
-        jasmin::judge(alloc, archive, report)
+        jasmin::judge(alloc, parts, report)
     } else if file.contains("traces/") {
-        traces::judge(alloc, archive, report)
+        linked::judge(alloc, Asked::Traces, parts, report)
     } else {
-        report.refuses("not in a folder of cases")
+        report.refuses(b"not in a folder of cases")
     }
 }
 
@@ -60,40 +63,42 @@ fn judge_bytes<R: Threads + Wait + Sync>(
     alloc: Global,
     file: &str,
     bytes: &[u8],
-    report: &mut Report,
-) -> Result<(), AllocError> {
-    let mut parts = Vec::new(alloc);
-    match push_parts(alloc, &mut parts, bytes) {
-        Ok(None) => judge(rt, alloc, file, &Archive { parts }, report),
-        Ok(Some(line)) => report.refuses_line(line),
-        Err(_) => report.refuses("out of memory"),
+    report: &mut Report<'_>,
+) {
+    let archive = Archive::read(alloc, bytes);
+    if archive.is_refused {
+        report.refuses(b"out of memory");
+    } else if let Some(line) = archive.bad_line {
+        report.refuses_line(line);
+    } else {
+        judge(rt, alloc, file, &archive.parts, report);
     }
 }
 
 /// Judges the cases of a file of this name.
-fn judge_file<R: Files + Alloc + Threads + Wait + Sync>(
+fn judge_file<'a, R: Files + Alloc + Threads + Wait + Sync>(
     rt: &R,
     alloc: Global,
-    file: &str,
-    report: &mut Report,
-) -> Result<(), AllocError> {
-    report.begins(file)?;
+    file: &'a str,
+    report: &mut Report<'a>,
+) {
+    report.begins(file);
     match fs::read(rt, file) {
-        Ok(bytes) => judge_bytes(rt, alloc, file, bytes.as_slice(), report)?,
-        Err(_) => report.refuses("can't be read")?,
+        Ok(bytes) => judge_bytes(rt, alloc, file, &bytes, report),
+        Err(_) => report.refuses(b"can't be read"),
     }
-    report.ends()
+    report.ends();
 }
 
 /// Judges the files of these names, after the program's own, and answers whether all cases passed.
-fn judge_all<R: Files + Alloc + Threads + Wait + Sync>(
+fn judge_all<'a, R: Files + Alloc + Threads + Wait + Sync>(
     rt: &R,
     alloc: Global,
-    args: &[String],
-    report: &mut Report,
-) -> Result<bool, AllocError> {
+    args: &'a [String],
+    report: &mut Report<'a>,
+) -> bool {
     for file in args.iter().skip(1) {
-        judge_file(rt, alloc, file.as_str(), report)?;
+        judge_file(rt, alloc, file.as_str(), report);
     }
     report.closes()
 }
@@ -104,20 +109,12 @@ fn args_of(rt: &HostRuntime) -> io::Result<Vec<String>> {
     Ok(args)
 }
 
-/// Writes the report.
-fn write_report(rt: &HostRuntime, report: &Report) -> io::Result<()> {
-    rt.stdout().write_all(report.text())
-}
-
 fn main(rt: HostRuntime) -> ExitCode {
-    let mut report = Report::new(rt.alloc());
     let Ok(args) = args_of(&rt) else {
         return ExitCode::from(1);
     };
-    let judged = judge_all(&rt, rt.alloc(), &args, &mut report);
-    let written = write_report(&rt, &report);
-    match (judged, written) {
-        (Ok(true), Ok(())) => ExitCode::from(0),
-        _ => ExitCode::from(1),
-    }
+    let mut report = Report::new(rt.alloc());
+    let has_passed = judge_all(&rt, rt.alloc(), &args, &mut report);
+    let is_written = rt.stdout().write_all(report.text()).is_ok();
+    ExitCode::from(if has_passed && is_written { 0 } else { 1 })
 }

@@ -20,94 +20,73 @@ mod checked;
 mod named_texts;
 mod threaded;
 
-use crate::archive::{Archive, Part};
-use crate::programs::checked::said_of_trace;
+use crate::archive::Part;
+use crate::programs::checked::judge_trace;
 use crate::programs::named_texts::Texts;
-use crate::programs::threaded::{ThreadedRun, threaded_run};
+use crate::programs::threaded::run_threaded;
 use crate::report::Report;
-use cli::serve;
+use cli::{Asked, Run, parse, serve};
 use std::alloc::{AllocError, Global};
+use std::str::from_utf8;
 use std::sync::Wait;
 use std::thread::Threads;
-
-/// The text of a part's head.
-fn head_of(part: &Part) -> &str {
-    std::str::from_utf8(part.head.as_slice()).unwrap_or("")
-}
 
 /// Makes a file of this number.
 fn put_copy(
     alloc: Global,
-    number: &str,
+    number: usize,
     name: &str,
     body: &str,
     files: &mut Texts,
 ) -> Result<(), AllocError> {
-    let name = name.replace(alloc, "#", number)?;
-    let body = body.replace(alloc, "#", number)?;
-    files.put(name.as_str(), body.as_bytes())
-}
-
-/// Makes a file for each number below this one.
-fn put_numbered(
-    alloc: Global,
-    count: usize,
-    name: &str,
-    body: &str,
-    files: &mut Texts,
-) -> Result<(), AllocError> {
-    for number in 0..count {
-        let number = format!(in alloc; "{number}")?;
-        put_copy(alloc, number.as_str(), name, body, files)?;
-    }
+    let number = format!(in alloc; "{number}")?;
+    let name = name.replace(alloc, "#", number.as_str())?;
+    let body = body.replace(alloc, "#", number.as_str())?;
+    files.put(name.as_str(), body.as_bytes());
     Ok(())
 }
 
+/// Makes a file for each number below this one.
+fn put_numbered(alloc: Global, count: usize, name: &str, body: &str, files: &mut Texts) {
+    for number in 0..count {
+        if put_copy(alloc, number, name, body, files).is_err() {
+            files.refuse();
+        }
+    }
+}
+
 /// Whether a part has files that are made.
-fn has_files(part: &Part) -> bool {
-    let head = head_of(part);
-    head.starts_with("file ") || head.contains(" times file ")
+fn has_files(part: &Part<'_>) -> bool {
+    part.head.starts_with("file ") || part.head.contains(" times file ")
 }
 
 /// Makes the files that a part has.
-fn put_files(alloc: Global, part: &Part, files: &mut Texts) -> Result<(), AllocError> {
-    let head = head_of(part);
-    if let Some(name) = head.strip_prefix("file ") {
-        return files.put(name, part.body.as_slice());
+fn put_files(alloc: Global, part: &Part<'_>, files: &mut Texts) {
+    if let Some(name) = part.head.strip_prefix("file ") {
+        files.put(name, &part.body);
+    } else if let Some((count, name)) = part.head.split_once(" times file ") {
+        let count = count.parse::<usize>().unwrap_or(0);
+        let body = from_utf8(&part.body).unwrap_or("");
+        put_numbered(alloc, count, name, body, files);
     }
-    let Some((count, name)) = head.split_once(" times file ") else {
-        return Ok(());
-    };
-    let count = count.parse::<usize>().unwrap_or(0);
-    let body = std::str::from_utf8(part.body.as_slice()).unwrap_or("");
-    put_numbered(alloc, count, name, body, files)
 }
 
-/// What comes of a run, under the heads that say it.
-fn outcome_of(
-    alloc: Global,
-    out: &[u8],
-    err: &[u8],
-    status: &[u8],
-    files: &Texts,
-) -> Result<Texts, AllocError> {
-    let mut outcome = Texts::new(alloc);
-    outcome.put("stdout", out)?;
-    outcome.put("stderr", err)?;
-    outcome.put("status", status)?;
-    outcome.put_all("left", files)?;
-    Ok(outcome)
+/// Adds what comes of a run, under the heads that say it.
+fn put_outcome(outcome: &mut Texts, out: &[u8], err: &[u8], status: u8, files: &Texts) {
+    outcome.put("stdout", out);
+    outcome.put("stderr", err);
+    outcome.put("status", &[b'0'.saturating_add(status), b'\n']);
+    outcome.put_all("left", files);
 }
 
-/// What is to come of a run over these files, as the parts say.
-fn wanted_of(alloc: Global, parts: &[Part], files: &Texts) -> Result<Texts, AllocError> {
-    let mut wanted = outcome_of(alloc, b"", b"", b"0\n", files)?;
+/// Adds what is to come of a run over these files, as the parts say.
+fn put_wanted(wanted: &mut Texts, parts: &[Part<'_>], files: &Texts) {
+    put_outcome(wanted, b"", b"", 0, files);
     for part in parts {
         if !has_files(part) {
-            wanted.put(head_of(part), part.body.as_slice())?;
+            wanted.put(part.head, &part.body);
         }
     }
-    Ok(wanted)
 }
 
 /// The words of a command line.
@@ -119,135 +98,126 @@ fn words_of<'a>(alloc: Global, command: &'a str) -> Result<Vec<&'a str>, AllocEr
     Ok(words)
 }
 
-/// Adds what the run on a thread of its own made otherwise, under the heads that say it.
-fn compare(threaded: &ThreadedRun, files: &Texts, came: &mut Texts) -> Result<(), AllocError> {
-    let texts = &threaded.texts;
+/// Adds what a run on a thread of its own, if there was one, made otherwise, under the heads that say it.
+fn compare(threaded: &Texts, trace: Option<&str>, files: &Texts, came: &mut Texts) {
+    if threaded.is_refused() {
+        came.refuse();
+    }
+    if threaded.is_empty() {
+        return;
+    }
     for name in ["stdout", "stderr"] {
-        if texts.text(name) != came.text(name) {
-            came.put_below("threaded", name, texts.text(name))?;
+        if threaded.text(name) != came.text(name) {
+            came.put_below("threaded", name, threaded.text(name));
         }
     }
-    let Some(trace) = threaded.trace else {
-        return Ok(());
-    };
-    if texts.text("trace") != files.text(trace) {
-        came.put("threaded trace", texts.text("trace"))?;
+    if let Some(trace) = trace {
+        if threaded.text("trace") != files.text(trace) {
+            came.put("threaded trace", threaded.text("trace"));
+        }
     }
-    Ok(())
 }
 
-/// Runs a command line over the files: its exit status, and what came of it.
-fn served<R: Threads + Wait + Sync>(
-    rt: &R,
-    alloc: Global,
-    words: &[&str],
-    files: &mut Texts,
-) -> Result<(u8, Texts), AllocError> {
-    let mut out = Vec::new(alloc);
-    let mut err = Vec::new(alloc);
-    let status = serve(rt, alloc, words, files, &mut out, &mut err);
-    let line = format!(in alloc; "{status}\n")?;
-    let came = outcome_of(
-        alloc,
-        out.as_slice(),
-        err.as_slice(),
-        line.as_bytes(),
-        files,
-    )?;
-    Ok((status, came))
-}
-
-/// Adds what is said of the trace that a run wrote, where it isn't judged legal.
-fn judge_trace<R: Threads + Wait + Sync>(
+/// Serves a command line over the files, adds what came of it, and answers its exit status.
+fn serve_words<R: Threads + Wait + Sync>(
     rt: &R,
     alloc: Global,
     words: &[&str],
     files: &mut Texts,
     came: &mut Texts,
-) -> Result<(), AllocError> {
-    let said = said_of_trace(rt, alloc, words, files)?;
-    if said.as_slice() == b"legal\n".as_slice() {
-        return Ok(());
-    }
-    came.put("verdict", said.as_slice())
+) -> u8 {
+    let mut out = Vec::new(alloc);
+    let mut err = Vec::new(alloc);
+    let status = serve(rt, alloc, words, files, &mut out, &mut err);
+    put_outcome(came, &out, &err, status, files);
+    status
 }
 
-/// Runs a command line over the files, and answers what came of it.
+/// The same for a command line that asks for this run, beside runs on a thread of its own.
+fn serve_run<R: Threads + Wait + Sync>(
+    rt: &R,
+    alloc: Global,
+    words: &[&str],
+    run: &Run<'_>,
+    files: &mut Texts,
+    came: &mut Texts,
+) {
+    let mut patient = Texts::new(alloc);
+    let mut hasty = Texts::new(alloc);
+    run_threaded(rt, alloc, run, files, &mut patient, &mut hasty);
+    let status = serve_words(rt, alloc, words, files, came);
+    if status <= 1 {
+        judge_trace(rt, alloc, run, files, came);
+        compare(&patient, run.trace, files, came);
+        compare(&hasty, run.trace, files, came);
+    }
+}
+
+/// Runs a command line over the files, and adds what came of it.
 fn run<R: Threads + Wait + Sync>(
     rt: &R,
     alloc: Global,
-    command: &str,
+    words: &[&str],
     files: &mut Texts,
-) -> Result<Texts, AllocError> {
-    let words = words_of(alloc, command)?;
-    let words = words.as_slice();
-    let patient = threaded_run(rt, alloc, words, files, 0)?;
-    let hasty = threaded_run(rt, alloc, words, files, 1)?;
-    let (status, mut came) = served(rt, alloc, words, files)?;
-    if status > 1 {
-        return Ok(came);
+    came: &mut Texts,
+) {
+    if let Ok(Asked::Run(run)) = &parse(alloc, words) {
+        serve_run(rt, alloc, words, run, files, came);
+    } else {
+        serve_words(rt, alloc, words, files, came);
     }
-    judge_trace(rt, alloc, words, files, &mut came)?;
-    if let Some(threaded) = patient {
-        compare(&threaded, files, &mut came)?;
-    }
-    if let Some(threaded) = hasty {
-        compare(&threaded, files, &mut came)?;
-    }
-    Ok(came)
 }
 
 /// Judges what came of a run.
-fn judge_run(
-    alloc: Global,
-    line: usize,
-    wanted: &Texts,
-    came: &Texts,
-    report: &mut Report,
-) -> Result<(), AllocError> {
-    let mut missing = Vec::new(alloc);
-    wanted.write_others(came, &mut missing)?;
-    let mut other = Vec::new(alloc);
-    came.write_others(wanted, &mut other)?;
-    report.judges(line, missing.as_slice(), other.as_slice())
+fn judge_run(line: usize, wanted: &Texts, came: &Texts, report: &mut Report<'_>) {
+    if wanted.is_refused() || came.is_refused() {
+        report.refuse();
+    }
+    wanted.write_others(came, &mut report.wanted);
+    came.write_others(wanted, &mut report.came);
+    report.judges(line);
 }
 
 /// Judges a case: its command and the parts after it.
 fn judge_case<R: Threads + Wait + Sync>(
     rt: &R,
     alloc: Global,
-    command: &Part,
-    parts: &[Part],
+    command: &Part<'_>,
+    parts: &[Part<'_>],
     files: &mut Texts,
-    report: &mut Report,
-) -> Result<(), AllocError> {
-    if command.head.as_slice() != b"command".as_slice() {
-        return report.fails(command.line, b"command", command.head.as_slice());
+    report: &mut Report<'_>,
+) {
+    if command.head != "command" {
+        report.fails(command.line, b"command", command.head.as_bytes());
+        return;
     }
     for part in parts {
-        put_files(alloc, part, files)?;
+        put_files(alloc, part, files);
     }
-    let words = std::str::from_utf8(command.body.as_slice()).unwrap_or("");
-    let wanted = wanted_of(alloc, parts, files)?;
-    let came = run(rt, alloc, words, files)?;
-    judge_run(alloc, command.line, &wanted, &came, report)
+    let mut wanted = Texts::new(alloc);
+    let mut came = Texts::new(alloc);
+    put_wanted(&mut wanted, parts, files);
+    match words_of(alloc, from_utf8(&command.body).unwrap_or("")) {
+        Ok(words) => run(rt, alloc, &words, files, &mut came),
+        Err(_) => came.refuse(),
+    }
+    if files.is_refused() {
+        came.refuse();
+    }
+    judge_run(command.line, &wanted, &came, report);
 }
 
 /// Judges the cases of a file.
 pub(crate) fn judge<R: Threads + Wait + Sync>(
     rt: &R,
     alloc: Global,
-    archive: &Archive,
-    report: &mut Report,
-) -> Result<(), AllocError> {
+    parts: &[Part<'_>],
+    report: &mut Report<'_>,
+) {
     let mut files = Texts::new(alloc);
-    for case in archive
-        .parts
-        .chunk_by(|_, part| part.head.as_slice() != b"command".as_slice())
-    {
-        if let Some((command, parts)) = case.split_first() {
-            judge_case(rt, alloc, command, parts, &mut files, report)?;
+    for case in parts.chunk_by(|_, part| part.head != "command") {
+        if let [command, parts @ ..] = case {
+            judge_case(rt, alloc, command, parts, &mut files, report);
         }
     }
-    Ok(())
 }

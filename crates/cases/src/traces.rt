@@ -1,6 +1,6 @@
 //! Cases of traces: which texts are read as the events of a program, and which first fault the others have.
 //!
-//! A part `-- classes --` begins a program, as in files of [`classes`](crate::classes). Texts for it stand up to the
+//! A part `-- classes --` begins a program, as in files of [`linked`](crate::linked). Texts for it stand up to the
 //! next such part, under these heads:
 //!
 //! - `-- L3 in line 2 --`: the body is a text of which this is the first fault, its kind and its line. Where the
@@ -11,15 +11,16 @@
 //! A program has two threads. From a part `-- 16 threads --` on it has so many. `-- around --` has a text with three
 //! dots: from here on each case is put in their place, without its last line feed.
 
-use crate::archive::{Archive, Part};
-use crate::classes::{begins_program, fails_files, judge_front, read_files, shown, told};
-use crate::framing::{Frame, answer_wanted, frame_of, framed};
+use crate::archive::Part;
+use crate::framing::{Frame, frame_of, push_framed, push_wanted};
+use crate::linked::push_linked;
 use crate::report::Report;
-use hierarchy::{LinkFault, Program, link};
+use crate::text::Text;
+use hierarchy::{LinkFault, Program};
 use init_core::Event;
-use std::alloc::{AllocError, Global};
+use std::alloc::Global;
 use trace::write_trace;
-use trace_reader::{TraceFault, read_trace};
+use trace_reader::read_trace;
 
 /// How many threads there are, and what stands around the texts, if anything does.
 #[derive(Clone, Copy, Drop)]
@@ -36,38 +37,27 @@ struct Case<'a> {
     line: usize,
 }
 
-fn fault_text(alloc: Global, fault: TraceFault) -> Result<Vec<u8>, AllocError> {
-    let TraceFault { kind, line } = fault;
-    let text = format!(in alloc; "{kind} in line {line}")?;
-    Vec::from_slice(alloc, text.as_bytes())
-}
-
-/// That a text is read as these events, or what else is written of them.
-fn read_text(
-    alloc: Global,
-    program: &Program,
-    events: &[Event],
-    text: &[u8],
-) -> Result<Vec<u8>, AllocError> {
-    let written = write_trace(alloc, program, events)?;
-    if written.as_slice() == text {
-        return Vec::from_slice(alloc, b"read");
+/// Adds that a text is read as these events, or what else is written of them.
+fn push_read(alloc: Global, came: &mut Text, program: &Program, events: &[Event], text: &[u8]) {
+    match write_trace(alloc, program, events) {
+        Ok(written) if written.as_slice() == text => came.push(b"read"),
+        Ok(written) => {
+            came.push(b"read, and written as\n");
+            came.push(&written);
+        }
+        Err(_) => came.refuse(),
     }
-    let mut came = Vec::from_slice(alloc, b"read, and written as\n")?;
-    came.extend_from_slice(written.as_slice())?;
-    Ok(came)
 }
 
-/// The first fault of a text, or that it is read.
-fn answer(
-    alloc: Global,
-    program: &Program,
-    threads: usize,
-    text: &[u8],
-) -> Result<Vec<u8>, AllocError> {
+/// Adds the first fault of a text, or that it is read.
+fn push_answer(alloc: Global, came: &mut Text, program: &Program, threads: usize, text: &[u8]) {
     match read_trace(alloc, program, threads, text) {
-        Ok(events) => read_text(alloc, program, &events, text),
-        Err(fault) => fault_text(alloc, fault),
+        Ok(events) => push_read(alloc, came, program, &events, text),
+        Err(fault) => {
+            came.show(&fault.kind);
+            came.push(b" in line ");
+            came.show(&fault.line);
+        }
     }
 }
 
@@ -77,12 +67,13 @@ fn judge_case(
     program: &Program,
     case: &Case<'_>,
     setting: &Setting<'_>,
-    report: &mut Report,
-) -> Result<(), AllocError> {
-    let text = framed(alloc, setting.frame, case.body)?;
-    let wanted = answer_wanted(alloc, case.head, setting.frame)?;
-    let came = answer(alloc, program, setting.threads, text.as_slice())?;
-    report.judges(case.line, wanted.as_bytes(), came.as_slice())
+    report: &mut Report<'_>,
+) {
+    push_framed(&mut report.given, setting.frame, case.body);
+    push_wanted(&mut report.wanted, case.head, setting.frame);
+    let text = report.given.bytes();
+    push_answer(alloc, &mut report.came, program, setting.threads, text);
+    report.judges(case.line);
 }
 
 /// Judges each line of a body as a case.
@@ -91,50 +82,43 @@ fn judge_lines(
     program: &Program,
     lines: &Case<'_>,
     setting: &Setting<'_>,
-    report: &mut Report,
-) -> Result<(), AllocError> {
+    report: &mut Report<'_>,
+) {
     let mut case = *lines;
     for body in lines.body.split_inclusive(|byte| *byte == b'\n') {
         case.line = case.line.saturating_add(1);
         case.body = body;
-        judge_case(alloc, program, &case, setting, report)?;
+        judge_case(alloc, program, &case, setting, report);
     }
-    Ok(())
 }
 
-/// Judges the case or the cases of a part of this head.
+/// Judges the case or the cases of a part.
 fn judge_body(
     alloc: Global,
     program: &Program,
-    part: &Part,
-    head: &str,
+    part: &Part<'_>,
     setting: &Setting<'_>,
-    report: &mut Report,
-) -> Result<(), AllocError> {
-    let each = head.strip_prefix("each: ");
+    report: &mut Report<'_>,
+) {
+    let each = part.head.strip_prefix("each: ");
     let case = Case {
-        head: each.unwrap_or(head),
-        body: part.body.as_slice(),
+        head: each.unwrap_or(part.head),
+        body: &part.body,
         line: part.line,
     };
     if each.is_some() {
-        judge_lines(alloc, program, &case, setting, report)
+        judge_lines(alloc, program, &case, setting, report);
     } else {
-        judge_case(alloc, program, &case, setting, report)
+        judge_case(alloc, program, &case, setting, report);
     }
 }
 
 /// Takes what stands around the texts from now on, or reports that the body has no dots.
-fn surrounds<'a>(
-    part: &'a Part,
-    setting: &mut Setting<'a>,
-    report: &mut Report,
-) -> Result<(), AllocError> {
-    setting.frame = frame_of(part.body.as_slice());
-    if setting.frame.is_some() {
-        return Ok(());
+fn surrounds<'a>(part: &'a Part<'_>, setting: &mut Setting<'a>, report: &mut Report<'_>) {
+    setting.frame = frame_of(&part.body);
+    if setting.frame.is_none() {
+        report.fails(part.line, b"...", &part.body);
     }
-    report.fails(part.line, b"...", part.body.as_slice())
 }
 
 /// The number of threads that a head names.
@@ -146,85 +130,45 @@ fn threads_of(head: &str) -> Option<usize> {
 fn judge_part<'a>(
     alloc: Global,
     program: &Program,
-    part: &'a Part,
+    part: &'a Part<'_>,
     setting: &mut Setting<'a>,
-    report: &mut Report,
-) -> Result<(), AllocError> {
-    let head = shown(part.head.as_slice());
-    if part.is_group {
-        return Ok(());
-    }
-    if head == "around" {
-        return surrounds(part, setting, report);
-    }
-    if let Some(threads) = threads_of(head) {
+    report: &mut Report<'_>,
+) {
+    if part.head == "around" {
+        surrounds(part, setting, report);
+    } else if let Some(threads) = threads_of(part.head) {
         setting.threads = threads;
-        return Ok(());
+    } else {
+        judge_body(alloc, program, part, setting, report);
     }
-    judge_body(alloc, program, part, head, setting, report)
 }
 
 /// Judges the parts of a program.
-fn judge_parts(
-    alloc: Global,
-    program: &Program,
-    parts: &[Part],
-    report: &mut Report,
-) -> Result<(), AllocError> {
+fn judge_parts(alloc: Global, program: &Program, parts: &[Part<'_>], report: &mut Report<'_>) {
     let mut setting = Setting {
         threads: 2,
         frame: None,
     };
     for part in parts {
-        judge_part(alloc, program, part, &mut setting, report)?;
+        if !part.is_group {
+            judge_part(alloc, program, part, &mut setting, report);
+        }
     }
-    Ok(())
 }
 
-/// Judges the parts of a program, or fails its files where they aren't linked.
-fn judge_linked(
+/// Judges the parts of a program, or fails its files, at this line, where they aren't linked.
+pub(crate) fn judge(
     alloc: Global,
     linked: &Result<Program, LinkFault>,
     line: usize,
-    parts: &[Part],
-    report: &mut Report,
-) -> Result<(), AllocError> {
+    parts: &[Part<'_>],
+    report: &mut Report<'_>,
+) {
     if let Ok(program) = linked {
-        return judge_parts(alloc, program, parts, report);
+        judge_parts(alloc, program, parts, report);
+    } else {
+        report.wanted.push(b"files that are linked");
+        push_linked(&mut report.came, linked);
+        report.judges(line);
     }
-    let came = told(alloc, linked)?;
-    report.fails(line, b"files that are linked", came.as_bytes())
-}
-
-/// Judges the texts for a program, whose files stand in the first part.
-fn judge_program(
-    alloc: Global,
-    files: &Part,
-    parts: &[Part],
-    report: &mut Report,
-) -> Result<(), AllocError> {
-    let mut classes = Vec::new(alloc);
-    match read_files(alloc, shown(files.body.as_slice()), &mut classes) {
-        Ok(None) => judge_linked(alloc, &link(alloc, classes), files.line, parts, report),
-        Ok(Some(fault)) => fails_files(alloc, files.line, fault, report),
-        Err(error) => Err(error),
-    }
-}
-
-/// Judges the cases of a file.
-pub(crate) fn judge(
-    alloc: Global,
-    archive: &Archive,
-    report: &mut Report,
-) -> Result<(), AllocError> {
-    let parts = archive.parts.as_slice();
-    judge_front(parts, report)?;
-    for program in parts.chunk_by(|_, part| !begins_program(part)) {
-        if let [files, traces @ ..] = program {
-            if begins_program(files) {
-                judge_program(alloc, files, traces, report)?;
-            }
-        }
-    }
-    Ok(())
 }

@@ -1,46 +1,61 @@
 //! The verdict on the trace that a run wrote.
 
 use crate::programs::named_texts::Texts;
-use crate::report::push_all;
-use cli::{Asked, Run, parse, serve};
+use cli::{Run, serve};
 use std::alloc::{AllocError, Global};
 use std::sync::Wait;
 use std::thread::Threads;
 
-/// The command line that has the trace of a run judged; nothing where the run names no trace, or writes it over a class.
-fn words_to_check<'a>(alloc: Global, run: &Run<'a>) -> Result<Option<Vec<&'a str>>, AllocError> {
-    let (Some(mains), Some(trace)) = (run.mains, run.trace) else {
-        return Ok(None);
-    };
+/// The command line that has the trace of these main classes judged.
+fn words_to_check<'a>(
+    alloc: Global,
+    run: &Run<'a>,
+    mains: &'a str,
+    trace: &'a str,
+) -> Result<Vec<&'a str>, AllocError> {
     let mut words = Vec::from_slice(
         alloc,
         &["jinit", "check", "--mains", mains, "--trace", trace],
     )?;
-    for file in run.files.as_slice() {
-        if *file == trace {
-            return Ok(None);
-        }
-        words.push(*file)?;
-    }
-    Ok(Some(words))
+    words.extend_from_slice(&run.files)?;
+    Ok(words)
 }
 
-/// What is said of the trace that a command line's run wrote; that it is legal where it wrote none.
-pub(crate) fn said_of_trace<R: Threads + Wait + Sync>(
+/// Has the trace judged by this command line, and adds what is said of it where that isn't that it is legal.
+fn check<R: Threads + Wait + Sync>(
     rt: &R,
     alloc: Global,
     words: &[&str],
     files: &mut Texts,
-) -> Result<Vec<u8>, AllocError> {
-    let Ok(Asked::Run(run)) = parse(alloc, words) else {
-        return Vec::from_slice(alloc, b"legal\n");
-    };
-    let Some(again) = words_to_check(alloc, &run)? else {
-        return Vec::from_slice(alloc, b"legal\n");
-    };
+    came: &mut Texts,
+) {
     let mut said = Vec::new(alloc);
     let mut err = Vec::new(alloc);
-    let _ = serve(rt, alloc, again.as_slice(), files, &mut said, &mut err);
-    push_all(&mut said, &[err.as_slice()])?;
-    Ok(said)
+    let _ = serve(rt, alloc, words, files, &mut said, &mut err);
+    if said.append(&mut err).is_err() {
+        came.refuse();
+    } else if said.as_slice() != b"legal\n".as_slice() {
+        came.put("verdict", &said);
+    }
+}
+
+/// Adds what is said of the trace that a run wrote, where it isn't judged legal: nothing where the run names no trace, or writes
+/// it over a class.
+pub(crate) fn judge_trace<R: Threads + Wait + Sync>(
+    rt: &R,
+    alloc: Global,
+    run: &Run<'_>,
+    files: &mut Texts,
+    came: &mut Texts,
+) {
+    let (Some(mains), Some(trace)) = (run.mains, run.trace) else {
+        return;
+    };
+    if run.files.contains(&trace) {
+        return;
+    }
+    match words_to_check(alloc, run, mains, trace) {
+        Ok(words) => check(rt, alloc, &words, files, came),
+        Err(_) => came.refuse(),
+    }
 }

@@ -2,7 +2,7 @@
 
 ghost use Rattle.std.specs.Prelude.{◌≤◌, vec_len, IfOk};
 
-use crate::report::push_all;
+use crate::text::Text;
 use cli::{Named, NamedFault};
 use std::alloc::{AllocError, Global};
 use std::collections::BTreeMap;
@@ -14,6 +14,7 @@ use std::collections::BTreeMap;
 pub(crate) struct Texts {
     alloc: Global,
     by_name: BTreeMap<String, Vec<u8>>,
+    is_refused: bool,
 }
 
 impl Texts {
@@ -22,34 +23,61 @@ impl Texts {
         Texts {
             alloc,
             by_name: BTreeMap::new(alloc),
+            is_refused: false,
         }
     }
 
     /// Adds a text, or replaces the one of the same name.
-    pub(crate) fn put(&mut self, name: &str, text: &[u8]) -> Result<(), AllocError> {
+    fn insert(&mut self, name: &str, text: &[u8]) -> Result<(), AllocError> {
         let name = String::from_str(self.alloc, name)?;
         let text = Vec::from_slice(self.alloc, text)?;
         self.by_name.insert(name, text)?;
         Ok(())
     }
 
+    /// The same, where a refusal of memory is noted.
+    pub(crate) fn put(&mut self, name: &str, text: &[u8]) {
+        if self.insert(name, text).is_err() {
+            self.is_refused = true;
+        }
+    }
+
+    /// Adds a text that was made, or notes that it was refused.
+    pub(crate) fn put_made(&mut self, name: &str, made: Result<Vec<u8>, AllocError>) {
+        match made {
+            Ok(text) => self.put(name, &text),
+            Err(_) => self.is_refused = true,
+        }
+    }
+
     /// Adds a text, with this word before its name.
-    pub(crate) fn put_below(
-        &mut self,
-        word: &str,
-        name: &str,
-        text: &[u8],
-    ) -> Result<(), AllocError> {
-        let name = format!(in self.alloc; "{word} {name}")?;
-        self.put(name.as_str(), text)
+    pub(crate) fn put_below(&mut self, word: &str, name: &str, text: &[u8]) {
+        match format!(in self.alloc; "{word} {name}") {
+            Ok(name) => self.put(name.as_str(), text),
+            Err(_) => self.is_refused = true,
+        }
     }
 
     /// Adds all texts of others, with this word before their names.
-    pub(crate) fn put_all(&mut self, word: &str, others: &Texts) -> Result<(), AllocError> {
+    pub(crate) fn put_all(&mut self, word: &str, others: &Texts) {
         for (name, text) in others.by_name.iter() {
-            self.put_below(word, name.as_str(), text.as_slice())?;
+            self.put_below(word, name.as_str(), text.as_slice());
         }
-        Ok(())
+    }
+
+    /// Notes that memory was refused.
+    pub(crate) fn refuse(&mut self) {
+        self.is_refused = true;
+    }
+
+    /// Whether memory was refused.
+    pub(crate) fn is_refused(&self) -> bool {
+        self.is_refused
+    }
+
+    /// Whether there are none.
+    pub(crate) fn is_empty(&self) -> bool {
+        self.by_name.is_empty()
     }
 
     /// The text of that name, or an empty one.
@@ -68,14 +96,15 @@ impl Texts {
     }
 
     /// Writes each text that isn't among the others, with its name.
-    pub(crate) fn write_others(&self, others: &Texts, out: &mut Vec<u8>) -> Result<(), AllocError> {
+    pub(crate) fn write_others(&self, others: &Texts, out: &mut Text) {
         for (name, text) in self.by_name.iter() {
             if !others.holds(name.as_str(), text.as_slice()) {
-                let pieces = [b"-- ", name.as_bytes(), b" --\n", text.as_slice()];
-                push_all(out, &pieces)?;
+                out.push(b"-- ");
+                out.push(name.as_bytes());
+                out.push(b" --\n");
+                out.push(text.as_slice());
             }
         }
-        Ok(())
     }
 
     /// Whether a file of this name can be made.
@@ -110,7 +139,7 @@ impl Named for Texts {
         if !self.has_folder_of(name) {
             return Err(NamedFault::Io);
         }
-        match self.put(name, bytes) {
+        match self.insert(name, bytes) {
             Ok(()) => Ok(()),
             Err(_) => Err(NamedFault::Memory),
         }
