@@ -8,12 +8,15 @@ use jasmin_words::integer::push_decimal;
 use std::alloc::{AllocError, Global};
 use std::rt::Clock;
 
-/// Files, one after the other.
+/// Files, one after the other. What went wrong first is told where the files are taken.
 #[derive(Drop)]
 pub(crate) struct Files {
+    alloc: Global,
     text: Vec<u8>,
-    ends: Vec<usize>,
-    is_refused: bool,
+    /// Where the last file begins.
+    start: usize,
+    classes: Vec<ClassText>,
+    failure: Option<Failure>,
 }
 
 fn push_byte(text: &mut Vec<u8>, byte: u8, first: usize, second: usize) -> Result<(), AllocError> {
@@ -25,12 +28,20 @@ fn push_byte(text: &mut Vec<u8>, byte: u8, first: usize, second: usize) -> Resul
 }
 
 impl Files {
-    /// No files. That memory was refused is told where their text is taken.
+    /// No files.
     pub(crate) fn new(alloc: Global) -> Files {
         Files {
+            alloc,
             text: Vec::new(alloc),
-            ends: Vec::new(alloc),
-            is_refused: false,
+            start: 0,
+            classes: Vec::new(alloc),
+            failure: None,
+        }
+    }
+
+    fn note(&mut self, failure: Failure) {
+        if self.failure.is_none() {
+            self.failure = Some(failure);
         }
     }
 
@@ -38,16 +49,23 @@ impl Files {
     pub(crate) fn add(&mut self, template: &[u8], first: usize, second: usize) {
         for byte in template {
             if push_byte(&mut self.text, *byte, first, second).is_err() {
-                self.is_refused = true;
+                self.note(Failure::Memory);
             }
         }
     }
 
     /// Ends the last file.
     pub(crate) fn end(&mut self) {
-        if self.ends.push(self.text.len()).is_err() {
-            self.is_refused = true;
+        let file = self.text.get(self.start..).unwrap_or_default();
+        match read_class(self.alloc, file) {
+            Ok(class) => {
+                if self.classes.push(class).is_err() {
+                    self.note(Failure::Memory);
+                }
+            }
+            Err(_) => self.note(Failure::Program),
         }
+        self.start = self.text.len();
     }
 
     /// Adds a whole file.
@@ -56,67 +74,51 @@ impl Files {
         self.end();
     }
 
-    /// The text of all files, unless memory was refused.
-    pub(crate) fn text(&self) -> Result<&[u8], Failure> {
-        if self.is_refused {
-            return Err(Failure::Memory);
-        }
-        Ok(&self.text)
+    /// How many bytes they have.
+    pub(crate) fn len(&self) -> usize {
+        self.text.len()
     }
 
-    fn texts(&self, alloc: Global) -> Result<Vec<ClassText>, Failure> {
-        let text = self.text()?;
-        let mut texts = Vec::new(alloc);
-        let mut start = 0;
-        for end in &self.ends {
-            add_text(alloc, text.get(start..*end).unwrap_or_default(), &mut texts)?;
-            start = *end;
+    /// The text of all files.
+    pub(crate) fn text(&self) -> Result<&[u8], Failure> {
+        match self.failure {
+            Some(failure) => Err(failure),
+            None => Ok(&self.text),
         }
-        Ok(texts)
     }
 
     /// The program of these files.
-    pub(crate) fn program(&self, alloc: Global) -> Result<Program, Failure> {
-        linked(alloc, self.texts(alloc)?)
+    pub(crate) fn program(self) -> Result<Program, Failure> {
+        match self.failure {
+            Some(failure) => Err(failure),
+            None => linked(self.alloc, self.classes),
+        }
     }
 
     /// How long it takes to link the files, once they are read, for each of so many parts.
-    pub(crate) fn link_time(
-        &self,
-        rt: &impl Clock,
-        alloc: Global,
-        parts: usize,
-    ) -> Result<u128, Failure> {
-        let texts = self.texts(alloc)?;
-        texts_time(rt, alloc, texts, parts)
+    pub(crate) fn link_time(self, rt: &impl Clock, parts: usize) -> Result<u128, Failure> {
+        match self.failure {
+            Some(failure) => Err(failure),
+            None => classes_time(rt, self.alloc, self.classes, parts),
+        }
     }
 }
 
-fn add_text(alloc: Global, file: &[u8], texts: &mut Vec<ClassText>) -> Result<(), Failure> {
-    match read_class(alloc, file) {
-        Ok(text) => match texts.push(text) {
-            Ok(()) => Ok(()),
-            Err(_) => Err(Failure::Memory),
-        },
-        Err(_) => Err(Failure::Program),
-    }
-}
-
-fn linked(alloc: Global, texts: Vec<ClassText>) -> Result<Program, Failure> {
-    match link(alloc, texts) {
+fn linked(alloc: Global, classes: Vec<ClassText>) -> Result<Program, Failure> {
+    match link(alloc, classes) {
         Ok(program) => Ok(program),
         Err(_) => Err(Failure::Program),
     }
 }
 
-fn texts_time(
+fn classes_time(
     rt: &impl Clock,
     alloc: Global,
-    texts: Vec<ClassText>,
+    classes: Vec<ClassText>,
     parts: usize,
 ) -> Result<u128, Failure> {
     let watch = Watch::start(rt);
-    match linked(alloc, texts) {
+    match linked(alloc, classes) {
         Ok(_program) => watch.share(rt, parts),
         Err(failure) => Err(failure),
     }

@@ -26,9 +26,6 @@ const SWEEPS: usize = 5;
 // How many rounds come before those that count, in each sweep.
 const WARM_UPS: usize = 1;
 
-// Of how many times a mean is taken, where one is.
-const MEAN_OF: usize = 20;
-
 // How many `fetch_add`s are timed in a round.
 const ADDS: usize = 10_000;
 
@@ -82,19 +79,6 @@ impl Watch {
         let nanos = start.elapsed(rt)?.as_nanos();
         Ok(nanos.saturating_mul(1000) / (parts as u128).max(1))
     }
-}
-
-/// The mean of some times, taken one after another behind one that doesn't count. For what several threads contend for, of which
-/// each time is another: the least of single times is that of a lucky one.
-pub(crate) fn mean_time<F: Fn() -> Result<u128, Failure>>(take: F) -> Result<u128, Failure>
-    requires { F.IsAlwaysCallable take }
-{
-    take()?;
-    let mut sum: u128 = 0;
-    for _ in 0..MEAN_OF {
-        sum = sum.saturating_add(take()?);
-    }
-    Ok(sum / MEAN_OF as u128)
 }
 
 /// A sample of some sizes beside another.
@@ -192,128 +176,102 @@ fn middle_ratio(alloc: Global, rounds: &[Times]) -> Result<Figure, AllocError> {
     Ok(Figure { hundredths })
 }
 
-/// A sample of some size, and what stands beside it.
-#[derive(Clone, Copy)]
-struct Pair {
-    sample: Sample,
+/// A line to print: the sample of a row at one of its sizes, the unit at its own, and the times of its rounds so far.
+#[derive(Drop)]
+struct Line<'a> {
+    row: &'a Row,
     size: usize,
-    unit: Sample,
     unit_size: usize,
+    rounds: Vec<Times>,
 }
 
-impl Pair {
-    // The times of one round, with the program of each.
+impl Line<'_> {
+    // The times of one round, with the program of the sample and that of the unit.
     fn round<R: Clock + Threads + Wait + Sync>(
-        self,
+        &self,
         rt: &R,
         alloc: Global,
         program: &Program,
         unit_program: &Program,
     ) -> Result<Times, Failure> {
         Ok(Times {
-            sample: self.sample.time(rt, alloc, program, self.size)?,
-            unit: self.unit.time(rt, alloc, unit_program, self.unit_size)?,
+            sample: self.row.sample.time(rt, alloc, program, self.size)?,
+            unit: self.row.unit.time(rt, alloc, unit_program, self.unit_size)?,
             add: add_time(rt, ADDS)?,
         })
     }
 
-    // The times of so many rounds, after those that warm up.
-    fn rounds<R: Clock + Threads + Wait + Sync>(
-        self,
+    // Takes the rounds of one sweep, after those that warm up.
+    fn take_rounds<R: Clock + Threads + Wait + Sync>(
+        &mut self,
         rt: &R,
         alloc: Global,
         program: &Program,
         unit_program: &Program,
-        count: usize,
-    ) -> Result<Vec<Times>, Failure> {
-        let mut rounds = Vec::new(alloc);
-        for number in 0..count.saturating_add(WARM_UPS) {
+    ) -> Result<(), Failure> {
+        for number in 0..self.row.repeats.saturating_add(WARM_UPS) {
             let round = self.round(rt, alloc, program, unit_program)?;
-            if number >= WARM_UPS && rounds.push(round).is_err() {
+            if number >= WARM_UPS && self.rounds.push(round).is_err() {
                 return Err(Failure::Memory);
             }
         }
-        Ok(rounds)
+        Ok(())
     }
 
     // The same, once the program of the sample is linked.
-    fn times_with<R: Clock + Threads + Wait + Sync>(
-        self,
+    fn sweep_with<R: Clock + Threads + Wait + Sync>(
+        &mut self,
         rt: &R,
         alloc: Global,
         program: &Program,
-        count: usize,
-    ) -> Result<Vec<Times>, Failure> {
-        match self.unit.program(alloc, self.unit_size) {
-            Ok(unit_program) => self.rounds(rt, alloc, program, &unit_program, count),
+    ) -> Result<(), Failure> {
+        match self.row.unit.program(alloc, self.unit_size) {
+            Ok(unit_program) => self.take_rounds(rt, alloc, program, &unit_program),
             Err(failure) => Err(failure),
         }
     }
 
-    // The times of so many rounds.
-    fn times<R: Clock + Threads + Wait + Sync>(
-        self,
-        rt: &R,
-        alloc: Global,
-        count: usize,
-    ) -> Result<Vec<Times>, Failure> {
-        match self.sample.program(alloc, self.size) {
-            Ok(program) => self.times_with(rt, alloc, &program, count),
-            Err(failure) => Err(failure),
-        }
-    }
-}
-
-/// A line to print: a row at one of its sizes, and the times of its rounds so far.
-#[derive(Drop)]
-struct Line<'a> {
-    row: &'a Row,
-    pair: Pair,
-    rounds: Vec<Times>,
-}
-
-impl Line<'_> {
     // Takes the rounds of one sweep.
     fn sweep<R: Clock + Threads + Wait + Sync>(
         &mut self,
         rt: &R,
         alloc: Global,
     ) -> Result<(), Failure> {
-        let mut rounds = self.pair.times(rt, alloc, self.row.repeats)?;
-        self.rounds.append(&mut rounds)?;
-        Ok(())
+        match self.row.sample.program(alloc, self.size) {
+            Ok(program) => self.sweep_with(rt, alloc, &program),
+            Err(failure) => Err(failure),
+        }
     }
 
     // How often the time of the unit is in that of the sample.
-    fn beside(&self, alloc: Global, least: Times) -> Result<Figure, Failure> {
-        if self.pair.sample.is_contended() {
-            Ok(middle_ratio(alloc, &self.rounds)?)
+    fn beside(&self, alloc: Global, least: Times) -> Result<Figure, AllocError> {
+        if self.row.sample.is_contended() {
+            middle_ratio(alloc, &self.rounds)
         } else {
             Ok(ratio(least.sample, least.unit))
         }
     }
 
-    // Prints how many millions of bytes are done in a second, where the parts are bytes.
-    fn print_rate(&self, rt: &impl Print, least: Times) -> Result<(), Failure> {
-        if self.pair.sample.is_of_bytes() {
-            let rate = ratio(MILLION_A_SECOND, least.sample);
-            print!(rt; ", {rate} MB/s")?;
-        }
-        Ok(())
-    }
-
     // Prints how often the time of the unit is in that of the sample, the time of the sample, and how often that of a
-    // `fetch_add` is in it; of bytes also how many a second.
-    fn print(&self, rt: &impl Print, alloc: Global) -> Result<(), Failure> {
-        let size = self.pair.size;
+    // `fetch_add` is in it; of bytes also how many millions are done in a second.
+    fn print(&self, rt: &impl Print, least: Times, beside: Figure) -> io::Result<()> {
+        let size = self.size;
         let what = self.row.what;
-        let least = least_times(&self.rounds);
-        let beside = self.beside(alloc, least)?;
         let nanos = ratio(least.sample, 1000);
         let adds = ratio(least.sample, least.add);
-        print!(rt; "{size} {what}: {beside} ({nanos} ns, {adds} fetch_adds")?;
-        self.print_rate(rt, least)?;
-        Ok(println!(rt; ")")?)
+        if self.row.sample.is_of_bytes() {
+            let rate = ratio(MILLION_A_SECOND, least.sample);
+            println!(rt; "{size} {what}: {beside} ({nanos} ns, {adds} fetch_adds, {rate} MB/s)")
+        } else {
+            println!(rt; "{size} {what}: {beside} ({nanos} ns, {adds} fetch_adds)")
+        }
+    }
+
+    // Prints the line.
+    fn end(&self, rt: &impl Print, alloc: Global) -> Result<(), Failure> {
+        let least = least_times(&self.rounds);
+        let beside = self.beside(alloc, least)?;
+        Ok(self.print(rt, least, beside)?)
     }
 }
 
@@ -326,14 +284,13 @@ fn add_lines<'a>(
 ) -> Result<(), Failure> {
     let times = number.min(row.most);
     for size in row.sizes {
-        let pair = Pair {
-            sample: row.sample,
+        let line = Line {
+            row,
             size: size.saturating_mul(times),
-            unit: row.unit,
             unit_size: row.unit_size.unwrap_or(*size).saturating_mul(times),
+            rounds: Vec::new(alloc),
         };
-        let rounds = Vec::new(alloc);
-        if lines.push(Line { row, pair, rounds }).is_err() {
+        if lines.push(line).is_err() {
             return Err(Failure::Memory);
         }
     }
@@ -367,7 +324,7 @@ pub(crate) fn measure<R: Clock + Print + Threads + Wait + Sync>(
         sweep(rt, alloc, &mut lines)?;
     }
     for line in &lines {
-        line.print(rt, alloc)?;
+        line.end(rt, alloc)?;
     }
     Ok(())
 }

@@ -10,11 +10,12 @@ ghost use Rattle.init_core.specs.Numbers.{IsInRange};
 use crate::files::Files;
 use crate::harness::{Failure, Row, Watch};
 use crate::sample::{Sample, Scene};
+use crate::traces;
 use hierarchy::{ClassId, Program, Value};
 use init_core::{CLASS_NUMBERS, Event, Kind, THREADS};
 use judge::{Verdict, check};
 use sequence::Text;
-use std::alloc::Global;
+use std::alloc::{AllocError, Global};
 use std::rt::Clock;
 
 /// What both threads do, over and over.
@@ -28,32 +29,45 @@ pub(crate) enum Story {
     Prints,
 }
 
+/// What is done with all events.
+#[derive(Clone, Copy)]
+pub(crate) enum Work {
+    /// They are judged: an event.
+    Judge,
+    /// One pass over them: an event.
+    Pass,
+    /// Their trace is written: a byte.
+    Write,
+    /// One pass over the bytes of their trace: a byte.
+    PassTrace,
+}
+
 /// A million events of each.
 pub(crate) const ROWS: &[Row] = &[
     Row {
         what: "looks, one judged, beside a pass",
-        sample: Sample::With(Scene::Judge(Story::Looks)),
+        sample: Sample::With(Scene::Events(Work::Judge, Story::Looks)),
         sizes: &[1_000_000],
         most: 1,
-        unit: Sample::With(Scene::Pass(Story::Looks)),
+        unit: Sample::With(Scene::Events(Work::Pass, Story::Looks)),
         unit_size: None,
         repeats: 3,
     },
     Row {
         what: "looks with reads and writes, one judged, beside a pass",
-        sample: Sample::With(Scene::Judge(Story::Fields)),
+        sample: Sample::With(Scene::Events(Work::Judge, Story::Fields)),
         sizes: &[1_000_000],
         most: 1,
-        unit: Sample::With(Scene::Pass(Story::Fields)),
+        unit: Sample::With(Scene::Events(Work::Pass, Story::Fields)),
         unit_size: None,
         repeats: 3,
     },
     Row {
         what: "prints, one judged, beside a pass",
-        sample: Sample::With(Scene::Judge(Story::Prints)),
+        sample: Sample::With(Scene::Events(Work::Judge, Story::Prints)),
         sizes: &[1_000_000],
         most: 1,
-        unit: Sample::With(Scene::Pass(Story::Prints)),
+        unit: Sample::With(Scene::Events(Work::Pass, Story::Prints)),
         unit_size: None,
         repeats: 3,
     },
@@ -74,44 +88,18 @@ pub(crate) fn add_files(files: &mut Files) {
     files.add_file(MAIN_FILE);
 }
 
-fn add(events: &mut Vec<Event>, event: Event) -> Result<(), Failure> {
-    match events.push(event) {
-        Ok(()) => Ok(()),
-        Err(_) => Err(Failure::Memory),
-    }
-}
-
-fn add_at(events: &mut Vec<Event>, thread: usize, class: ClassId, kind: Kind) -> Result<(), Failure>
-    requires thread { thread < THREADS }
-    requires class { class.number < CLASS_NUMBERS }
-    requires kind { IsInRange kind }
-{
-    add(events, Event::new(thread, class, kind))
-}
-
-fn add_print(
+/// Events, one after the other.
+#[derive(Drop)]
+struct Events {
     alloc: Global,
-    events: &mut Vec<Event>,
-    thread: usize,
-    text: &[u8],
-) -> Result<(), Failure>
+    list: Vec<Event>,
+    is_refused: bool,
+}
+
+fn print_of(alloc: Global, thread: usize, text: &[u8]) -> Result<Event, AllocError>
     requires { thread < THREADS }
 {
-    let text = Text::copied(alloc, text)?;
-    add(events, Event::print(alloc, thread, text)?)
-}
-
-// Thread 0 initializes both classes, thread 1 finds them initialized and writes the field.
-fn add_front(events: &mut Vec<Event>) -> Result<(), Failure> {
-    add_at(events, 0, MAIN, Kind::Begins)?;
-    add_at(events, 0, UPPER, Kind::Begins)?;
-    add_at(events, 0, UPPER, Kind::Runs)?;
-    add_at(events, 0, UPPER, Kind::Completes)?;
-    add_at(events, 0, MAIN, Kind::Runs)?;
-    add_at(events, 0, MAIN, Kind::Completes)?;
-    add_at(events, 1, MAIN, Kind::FindsInitialized)?;
-    add_at(events, 1, UPPER, Kind::FindsInitialized)?;
-    add_at(events, 1, UPPER, written())
+    Event::print(alloc, thread, Text::copied(alloc, text)?)
 }
 
 fn read() -> Kind
@@ -132,31 +120,6 @@ fn written() -> Kind
     }
 }
 
-// What both threads do, once.
-fn add_turn(alloc: Global, events: &mut Vec<Event>, story: Story) -> Result<(), Failure> {
-    match story {
-        Story::Looks => {
-            add_at(events, 0, UPPER, Kind::FindsInitialized)?;
-            add_at(events, 1, UPPER, Kind::FindsInitialized)
-        }
-        Story::Fields => {
-            add_at(events, 0, UPPER, Kind::FindsInitialized)?;
-            add_at(events, 0, UPPER, read())?;
-            add_at(events, 1, UPPER, Kind::FindsInitialized)?;
-            add_at(events, 1, UPPER, written())
-        }
-        Story::Prints => {
-            add_print(
-                alloc,
-                events,
-                0,
-                b"a line of forty bytes, and then it ends\n",
-            )?;
-            add_print(alloc, events, 1, b"short\n")
-        }
-    }
-}
-
 fn events_a_turn(story: Story) -> usize
     ensures { 0 < result }
 {
@@ -166,18 +129,77 @@ fn events_a_turn(story: Story) -> usize
     }
 }
 
-/// Adds so many events, after those of the front.
-pub(crate) fn add_events(
-    alloc: Global,
-    events: &mut Vec<Event>,
-    story: Story,
-    count: usize,
-) -> Result<(), Failure> {
-    add_front(events)?;
-    for _ in 0..count / events_a_turn(story) {
-        add_turn(alloc, events, story)?;
+impl Events {
+    // Adds an event, or notes that memory was refused.
+    fn add(&mut self, event: Event) {
+        if self.list.push(event).is_err() {
+            self.is_refused = true;
+        }
     }
-    Ok(())
+
+    fn add_at(&mut self, thread: usize, class: ClassId, kind: Kind)
+        requires thread { thread < THREADS }
+        requires class { class.number < CLASS_NUMBERS }
+        requires kind { IsInRange kind }
+    {
+        self.add(Event::new(thread, class, kind));
+    }
+
+    fn add_print(&mut self, thread: usize, text: &[u8])
+        requires { thread < THREADS }
+    {
+        match print_of(self.alloc, thread, text) {
+            Ok(event) => self.add(event),
+            Err(_) => self.is_refused = true,
+        }
+    }
+
+    // Thread 0 initializes both classes, thread 1 finds them initialized and writes the field.
+    fn add_front(&mut self) {
+        self.add_at(0, MAIN, Kind::Begins);
+        self.add_at(0, UPPER, Kind::Begins);
+        self.add_at(0, UPPER, Kind::Runs);
+        self.add_at(0, UPPER, Kind::Completes);
+        self.add_at(0, MAIN, Kind::Runs);
+        self.add_at(0, MAIN, Kind::Completes);
+        self.add_at(1, MAIN, Kind::FindsInitialized);
+        self.add_at(1, UPPER, Kind::FindsInitialized);
+        self.add_at(1, UPPER, written());
+    }
+
+    // What both threads do, once.
+    fn add_turn(&mut self, story: Story) {
+        match story {
+            Story::Looks => {
+                self.add_at(0, UPPER, Kind::FindsInitialized);
+                self.add_at(1, UPPER, Kind::FindsInitialized);
+            }
+            Story::Fields => {
+                self.add_at(0, UPPER, Kind::FindsInitialized);
+                self.add_at(0, UPPER, read());
+                self.add_at(1, UPPER, Kind::FindsInitialized);
+                self.add_at(1, UPPER, written());
+            }
+            Story::Prints => {
+                self.add_print(0, b"a line of forty bytes, and then it ends\n");
+                self.add_print(1, b"short\n");
+            }
+        }
+    }
+
+    // So many events, after those of the front. That memory was refused is told where they are taken.
+    fn of(alloc: Global, story: Story, count: usize) -> Events {
+        let mut events = Events {
+            alloc,
+            list: Vec::new(alloc),
+            is_refused: false,
+        };
+        events.add_front();
+        for _ in 0..count / events_a_turn(story) {
+            events.add_turn(story);
+        }
+        events
+    }
 }
 
 fn judge_time(
@@ -201,7 +223,7 @@ fn thread_sum(events: &[Event]) -> usize {
     sum
 }
 
-fn one_pass_time(rt: &impl Clock, events: &[Event]) -> Result<u128, Failure> {
+fn pass_time(rt: &impl Clock, events: &[Event]) -> Result<u128, Failure> {
     let watch = Watch::start(rt);
     let sum = thread_sum(events);
     let share = watch.share(rt, events.len())?;
@@ -211,27 +233,27 @@ fn one_pass_time(rt: &impl Clock, events: &[Event]) -> Result<u128, Failure> {
     Ok(share)
 }
 
-/// The time of judging one of so many events.
+/// The time of this work on so many events, for each of its parts.
 pub(crate) fn time(
     rt: &impl Clock,
     alloc: Global,
     program: &Program,
+    work: Work,
     story: Story,
     count: usize,
 ) -> Result<u128, Failure> {
-    let mut events = Vec::new(alloc);
-    add_events(alloc, &mut events, story, count)?;
-    judge_time(rt, alloc, program, &events)
-}
-
-/// The time of going over one of so many events.
-pub(crate) fn pass_time(
-    rt: &impl Clock,
-    alloc: Global,
-    story: Story,
-    count: usize,
-) -> Result<u128, Failure> {
-    let mut events = Vec::new(alloc);
-    add_events(alloc, &mut events, story, count)?;
-    one_pass_time(rt, &events)
+    let Events {
+        list,
+        is_refused,
+        ..
+    } = &Events::of(alloc, story, count);
+    if *is_refused {
+        return Err(Failure::Memory);
+    }
+    match work {
+        Work::Judge => judge_time(rt, alloc, program, list),
+        Work::Pass => pass_time(rt, list),
+        Work::Write => traces::write_time(rt, alloc, program, list),
+        Work::PassTrace => traces::pass_time(rt, alloc, program, list),
+    }
 }

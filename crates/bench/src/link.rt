@@ -195,5 +195,5 @@ pub(crate) fn time(
 ) -> Result<u128, Failure> {
     let mut files = Files::new(alloc);
     let parts = add_files(&mut files, shape, size);
-    files.link_time(rt, alloc, parts)
+    files.link_time(rt, parts)
 }

@@ -10,7 +10,7 @@ ghost use Rattle.std.specs.List.{AllByRecursion};
 ghost use Rattle.bench.specs.Ready.{IsReady};
 
 use crate::bare;
-use crate::harness::{Failure, Row, Watch, mean_time};
+use crate::harness::{Failure, Row, Watch};
 use crate::history::{History, histories};
 use crate::rounds::in_threads;
 use crate::sample::Sample;
@@ -159,8 +159,8 @@ fn bare_time<R: Clock + Threads + Sync>(
     watch.share(rt, rounds)
 }
 
-// The time of a round in a contest with so many rounds in each thread.
-fn round_time<R: Clock + Threads + Wait + Sync>(
+/// The time of a round in a contest with so many rounds in each thread.
+pub(crate) fn time<R: Clock + Threads + Wait + Sync>(
     rt: &R,
     alloc: Global,
     contest: Contest,
@@ -178,14 +178,4 @@ fn round_time<R: Clock + Threads + Wait + Sync>(
     drop(table);
     end?;
     watch.share(rt, rounds)
-}
-
-/// The mean time of a round, over contests with so many rounds in each thread.
-pub(crate) fn time<R: Clock + Threads + Wait + Sync>(
-    rt: &R,
-    alloc: Global,
-    contest: Contest,
-    rounds: usize,
-) -> Result<u128, Failure> {
-    mean_time(|| round_time(rt, alloc, contest, rounds))
 }

@@ -43,105 +43,91 @@ const PARTS: usize = 20_000;
 // How many rounds a thread of `lock` makes where no number is given.
 const ROUNDS: usize = 10_000;
 
-const ALL: &[&[Row]] = &[
-    reader::ROWS,
-    link::ROWS,
-    needs::ROWS,
-    looks::ROWS,
-    turns::ROWS,
-    judging::ROWS,
-    traces::ROWS,
-    lock::ROWS,
-    threads::ROWS,
+/// A benchmark by its name.
+struct Benchmark {
+    name: &'static str,
+    rows: &'static [Row],
+    /// The number that it is measured with where none is given.
+    number: usize,
+    /// Whether one may be given.
+    takes_number: bool,
+}
+
+const ALL: &[Benchmark] = &[
+    Benchmark {
+        name: "reader",
+        rows: reader::ROWS,
+        number: PARTS,
+        takes_number: true,
+    },
+    Benchmark {
+        name: "link",
+        rows: link::ROWS,
+        number: 1,
+        takes_number: false,
+    },
+    Benchmark {
+        name: "needs",
+        rows: needs::ROWS,
+        number: 1,
+        takes_number: false,
+    },
+    Benchmark {
+        name: "looks",
+        rows: looks::ROWS,
+        number: 1,
+        takes_number: false,
+    },
+    Benchmark {
+        name: "turns",
+        rows: turns::ROWS,
+        number: 1,
+        takes_number: false,
+    },
+    Benchmark {
+        name: "judge",
+        rows: judging::ROWS,
+        number: 1,
+        takes_number: false,
+    },
+    Benchmark {
+        name: "trace",
+        rows: traces::ROWS,
+        number: 1,
+        takes_number: false,
+    },
+    Benchmark {
+        name: "lock",
+        rows: lock::ROWS,
+        number: ROUNDS,
+        takes_number: true,
+    },
+    Benchmark {
+        name: "threads",
+        rows: threads::ROWS,
+        number: 1,
+        takes_number: false,
+    },
 ];
 
-/// What the first word says.
-#[derive(Clone, Copy)]
-enum Benchmark {
-    /// Nothing.
-    None,
-    Reader,
-    Link,
-    Needs,
-    Looks,
-    Turns,
-    Judge,
-    Trace,
-    Lock,
-    Threads,
-    /// No name of a benchmark.
-    Unknown,
-}
-
-/// What the second word says.
-#[derive(Clone, Copy)]
-enum Detail {
-    /// Nothing, or `all`.
-    All,
-    /// `held`.
-    Held,
-    /// A number.
-    Number(usize),
-    /// Something else.
-    Unknown,
-}
-
-fn benchmark_of(word: &str) -> Benchmark {
-    match word {
-        "reader" => Benchmark::Reader,
-        "link" => Benchmark::Link,
-        "needs" => Benchmark::Needs,
-        "looks" => Benchmark::Looks,
-        "turns" => Benchmark::Turns,
-        "judge" => Benchmark::Judge,
-        "trace" => Benchmark::Trace,
-        "lock" => Benchmark::Lock,
-        "threads" => Benchmark::Threads,
-        _ => Benchmark::Unknown,
-    }
-}
-
-fn detail_of(word: &str) -> Detail {
-    match word {
-        "all" => Detail::All,
-        "held" => Detail::Held,
-        _ => match word.parse::<usize>() {
-            Ok(number) => Detail::Number(number),
-            Err(_) => Detail::Unknown,
-        },
-    }
-}
-
-fn first_word(rt: &HostRuntime) -> Result<Benchmark, Failure> {
-    match env::args(rt)?.nth(1) {
-        Some(word) => Ok(benchmark_of(&word)),
-        None => Ok(Benchmark::None),
-    }
-}
-
-fn second_word(rt: &HostRuntime) -> Result<Detail, Failure> {
-    match env::args(rt)?.nth(2) {
-        Some(word) => Ok(detail_of(&word)),
-        None => Ok(Detail::All),
-    }
-}
-
-// The rows that the words ask for, and the number.
-fn rows_of(benchmark: Benchmark, detail: Detail) -> Option<(&'static [Row], usize)> {
-    match (benchmark, detail) {
-        (Benchmark::Reader, Detail::All) => Some((reader::ROWS, PARTS)),
-        (Benchmark::Reader, Detail::Number(parts)) => Some((reader::ROWS, parts)),
-        (Benchmark::Link, Detail::All) => Some((link::ROWS, 1)),
-        (Benchmark::Needs, Detail::All) => Some((needs::ROWS, 1)),
-        (Benchmark::Looks, Detail::All) => Some((looks::ROWS, 1)),
-        (Benchmark::Turns, Detail::All) => Some((turns::ROWS, 1)),
-        (Benchmark::Judge, Detail::All) => Some((judging::ROWS, 1)),
-        (Benchmark::Trace, Detail::All) => Some((traces::ROWS, 1)),
-        (Benchmark::Lock, Detail::All) => Some((lock::ROWS, ROUNDS)),
-        (Benchmark::Lock, Detail::Number(rounds)) => Some((lock::ROWS, rounds)),
-        (Benchmark::Threads, Detail::All) => Some((threads::ROWS, 1)),
+// The number that a benchmark is measured with where the second word says this, if it may say so.
+fn number_of(benchmark: &Benchmark, detail: &str) -> Option<usize> {
+    match detail.parse::<usize>() {
+        Ok(number) if benchmark.takes_number => Some(number),
+        Err(_) if detail == "all" => Some(benchmark.number),
         _ => None,
     }
+}
+
+// The benchmark of a name.
+fn named(name: &str) -> Option<&'static Benchmark> {
+    let mut found = None;
+    for benchmark in ALL {
+        if benchmark.name == name {
+            found = Some(benchmark);
+        }
+    }
+    found
 }
 
 // A little of each benchmark.
@@ -149,8 +135,8 @@ fn try_all<R: Clock + Print + Threads + Wait + Sync>(
     rt: &R,
     alloc: Global,
 ) -> Result<ExitCode, Failure> {
-    for rows in ALL {
-        try_out(rt, alloc, rows)?;
+    for benchmark in ALL {
+        try_out(rt, alloc, benchmark.rows)?;
     }
     println!(rt; "{USAGE}")?;
     Ok(ExitCode::SUCCESS)
@@ -170,23 +156,33 @@ fn hold<R: Clock + Print + Threads + Wait + Sync>(
 fn print_all<R: Clock + Print + Eprint + Threads + Wait + Sync>(
     rt: &R,
     alloc: Global,
-    benchmark: Benchmark,
-    detail: Detail,
+    name: &str,
+    detail: &str,
 ) -> Result<ExitCode, Failure> {
-    let Some((rows, number)) = rows_of(benchmark, detail) else {
-        eprintln!(rt; "{USAGE}")?;
-        return Ok(ExitCode::from(2));
-    };
-    measure(rt, alloc, rows, number)?;
-    Ok(ExitCode::SUCCESS)
+    if let Some(benchmark) = named(name) {
+        if let Some(number) = number_of(benchmark, detail) {
+            measure(rt, alloc, benchmark.rows, number)?;
+            return Ok(ExitCode::SUCCESS);
+        }
+    }
+    eprintln!(rt; "{USAGE}")?;
+    Ok(ExitCode::from(2))
+}
+
+// The words of the command line.
+fn words_of(rt: &HostRuntime) -> Result<Vec<String>, Failure> {
+    Ok(env::args(rt)?.collect(rt.alloc())?)
 }
 
 fn main(rt: HostRuntime) -> Result<ExitCode, Failure> {
-    let benchmark = first_word(&rt)?;
-    let detail = second_word(&rt)?;
-    match (benchmark, detail) {
-        (Benchmark::None, _) => try_all(&rt, rt.alloc()),
-        (Benchmark::Threads, Detail::Held) => hold(&rt, rt.alloc()),
-        _ => print_all(&rt, rt.alloc(), benchmark, detail),
+    let words = words_of(&rt)?;
+    match words.as_slice() {
+        [] | [_] => try_all(&rt, rt.alloc()),
+        [_, name, detail, ..] if name.as_str() == "threads" && detail.as_str() == "held" => hold(
+            &rt,
+            rt.alloc(),
+        ),
+        [_, name] => print_all(&rt, rt.alloc(), name.as_str(), "all"),
+        [_, name, detail, ..] => print_all(&rt, rt.alloc(), name.as_str(), detail.as_str()),
     }
 }

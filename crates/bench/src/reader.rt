@@ -170,8 +170,9 @@ fn file_of_bytes(alloc: Global, part: Part, bytes: usize) -> Files {
     file_of(alloc, part, parts.saturating_add(1))
 }
 
-// How long it takes to read a text, for each of so many parts.
-fn read_time(rt: &impl Clock, alloc: Global, text: &[u8], parts: usize) -> Result<u128, Failure> {
+// How long it takes to read a file, for each of so many parts.
+fn read_time(rt: &impl Clock, alloc: Global, file: &Files, parts: usize) -> Result<u128, Failure> {
+    let text = file.text()?;
     let watch = Watch::start(rt);
     match read_class(alloc, text) {
         Ok(_text) => watch.share(rt, parts),
@@ -186,8 +187,7 @@ pub(crate) fn time(
     part: Part,
     size: usize,
 ) -> Result<u128, Failure> {
-    let file = file_of(alloc, part, size);
-    read_time(rt, alloc, file.text()?, size)
+    read_time(rt, alloc, &file_of(alloc, part, size), size)
 }
 
 /// How long a byte of a file of about so many is read.
@@ -198,8 +198,7 @@ pub(crate) fn byte_time(
     bytes: usize,
 ) -> Result<u128, Failure> {
     let file = file_of_bytes(alloc, part, bytes);
-    let text = file.text()?;
-    read_time(rt, alloc, text, text.len())
+    read_time(rt, alloc, &file, file.len())
 }
 
 /// How long one pass takes a byte of that file.

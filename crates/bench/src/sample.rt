@@ -2,19 +2,22 @@
 
 use crate::files::Files;
 use crate::harness::Failure;
-use crate::judging::{self, Story};
+use crate::judging::{self, Story, Work};
 use crate::link::{self, Shape};
 use crate::lock::{self, Contest};
 use crate::looks::{self, Use};
+use crate::needs;
 use crate::reader::{self, Part};
 use crate::threads::{self, Chains};
 use crate::turns::{self, Task};
-use crate::{needs, traces};
 use hierarchy::Program;
 use std::alloc::Global;
 use std::rt::Clock;
 use std::sync::Wait;
 use std::thread::Threads;
+
+// Of how many times a mean is taken, where one is.
+const MEAN_OF: usize = 20;
 
 /// What is timed. Each has a size.
 #[derive(Clone, Copy)]
@@ -44,14 +47,8 @@ pub(crate) enum Scene {
     Needs,
     /// So many uses of a class's record: one of them.
     Use(Use),
-    /// Judging so many events: an event.
-    Judge(Story),
-    /// One pass over them: an event.
-    Pass(Story),
-    /// Writing the trace of so many events: a byte.
-    Write(Story),
-    /// One pass over the bytes of the trace: a byte.
-    PassTrace(Story),
+    /// Work on so many events.
+    Events(Work, Story),
     /// Turns of a world: a turn.
     Turns(Task),
     /// A run of so many threads: an event.
@@ -69,9 +66,7 @@ impl Scene {
             }
             Scene::Needs => needs::add_files(files, size),
             Scene::Use(_) => files.add_file(looks::FILE),
-            Scene::Judge(_) | Scene::Pass(_) | Scene::Write(_) | Scene::PassTrace(_) => {
-                judging::add_files(files)
-            }
+            Scene::Events(..) => judging::add_files(files),
             Scene::Turns(task) => turns::add_files(files, task, size),
             Scene::Run(chains) => threads::add_files(files, chains, size),
             Scene::Held => files.add_file(threads::HELD_FILE),
@@ -79,7 +74,7 @@ impl Scene {
     }
 
     fn is_of_bytes(self) -> bool {
-        matches!(self, Scene::Write(_) | Scene::PassTrace(_))
+        matches!(self, Scene::Events(Work::Write | Work::PassTrace, _))
     }
 
     // How long a part of it takes with its program.
@@ -94,10 +89,7 @@ impl Scene {
             Scene::Resolve(_) => link::resolve_time(rt, program),
             Scene::Needs => needs::time(rt, alloc, program, size),
             Scene::Use(usage) => looks::time(rt, alloc, program, usage, size),
-            Scene::Judge(story) => judging::time(rt, alloc, program, story, size),
-            Scene::Pass(story) => judging::pass_time(rt, alloc, story, size),
-            Scene::Write(story) => traces::time(rt, alloc, program, story, size),
-            Scene::PassTrace(story) => traces::pass_time(rt, alloc, program, story, size),
+            Scene::Events(work, story) => judging::time(rt, alloc, program, work, story, size),
             Scene::Turns(task) => turns::time(rt, alloc, program, task, size),
             Scene::Run(chains) => threads::time(rt, alloc, program, chains, size),
             Scene::Held => threads::held_time(rt, alloc, program),
@@ -126,11 +118,11 @@ impl Sample {
         if let Sample::With(scene) = self {
             scene.add_files(&mut files, size);
         }
-        files.program(alloc)
+        files.program()
     }
 
-    /// How long a part of it takes with its program, once, in thousandths of a nanosecond.
-    pub(crate) fn time<R: Clock + Threads + Wait + Sync>(
+    // How long a part of it takes with its program, once, in thousandths of a nanosecond.
+    fn time_once<R: Clock + Threads + Wait + Sync>(
         self,
         rt: &R,
         alloc: Global,
@@ -146,6 +138,32 @@ impl Sample {
             Sample::Link(shape) => link::time(rt, alloc, shape, size),
             Sample::With(scene) => scene.time(rt, alloc, program, size),
         }
+    }
+
+    // Whether several threads contend for it.
+    fn is_of_threads(self) -> bool {
+        matches!(self, Sample::Lock(_) | Sample::With(Scene::Run(_)))
+    }
+
+    /// How long a part of it takes with its program, in thousandths of a nanosecond. For what several threads contend for, of which
+    /// each time is another, it is the mean of some times, taken one after another behind one that doesn't count: the least of
+    /// single times is that of a lucky one.
+    pub(crate) fn time<R: Clock + Threads + Wait + Sync>(
+        self,
+        rt: &R,
+        alloc: Global,
+        program: &Program,
+        size: usize,
+    ) -> Result<u128, Failure> {
+        let first = self.time_once(rt, alloc, program, size)?;
+        if !self.is_of_threads() {
+            return Ok(first);
+        }
+        let mut sum: u128 = 0;
+        for _ in 0..MEAN_OF {
+            sum = sum.saturating_add(self.time_once(rt, alloc, program, size)?);
+        }
+        Ok(sum / MEAN_OF as u128)
     }
 
     /// The same, where nothing stands beside it.

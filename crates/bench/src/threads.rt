@@ -9,7 +9,7 @@ ghost use Rattle.std.specs.Prelude.{◌≡◌, ◌<◌, true};
 ghost use Rattle.bodies.specs.Runs.{AreMains};
 
 use crate::files::Files;
-use crate::harness::{Failure, Row, Watch, mean_time};
+use crate::harness::{Failure, Row, Watch};
 use crate::sample::{Sample, Scene};
 use bodies::NoCode;
 use guest_threads::{Gate, NoGate, run_threads};
@@ -191,7 +191,7 @@ fn run_time<R: Clock + Threads + Wait + Sync, G: Gate + Sync>(
     }
 }
 
-/// The mean time of runs of so many threads, an event.
+/// The time of a run of so many threads, an event.
 pub(crate) fn time<R: Clock + Threads + Wait + Sync>(
     rt: &R,
     alloc: Global,
@@ -201,7 +201,7 @@ pub(crate) fn time<R: Clock + Threads + Wait + Sync>(
 ) -> Result<u128, Failure> {
     let mains = mains_of(chains);
     let mains = mains.get(..threads).unwrap_or_default();
-    mean_time(|| run_time(rt, alloc, program, mains, &NoGate))
+    run_time(rt, alloc, program, mains, &NoGate)
 }
 
 /// The time of a run of sixteen threads whose one main class is held, an event. How much processor time that takes is the

@@ -4,7 +4,7 @@
 
 use crate::files::pass_time as text_pass_time;
 use crate::harness::{Failure, Row, Watch};
-use crate::judging::{Story, add_events};
+use crate::judging::{Story, Work};
 use crate::sample::{Sample, Scene};
 use hierarchy::Program;
 use init_core::Event;
@@ -16,55 +16,45 @@ use trace::write_trace;
 pub(crate) const ROWS: &[Row] = &[
     Row {
         what: "looks, a byte written, beside a pass",
-        sample: Sample::With(Scene::Write(Story::Looks)),
+        sample: Sample::With(Scene::Events(Work::Write, Story::Looks)),
         sizes: &[100_000, 1_000_000],
         most: 1,
-        unit: Sample::With(Scene::PassTrace(Story::Looks)),
+        unit: Sample::With(Scene::Events(Work::PassTrace, Story::Looks)),
         unit_size: None,
         repeats: 3,
     },
     Row {
         what: "looks with reads and writes, a byte written, beside a pass",
-        sample: Sample::With(Scene::Write(Story::Fields)),
+        sample: Sample::With(Scene::Events(Work::Write, Story::Fields)),
         sizes: &[100_000, 1_000_000],
         most: 1,
-        unit: Sample::With(Scene::PassTrace(Story::Fields)),
+        unit: Sample::With(Scene::Events(Work::PassTrace, Story::Fields)),
         unit_size: None,
         repeats: 3,
     },
     Row {
         what: "prints, a byte written, beside a pass",
-        sample: Sample::With(Scene::Write(Story::Prints)),
+        sample: Sample::With(Scene::Events(Work::Write, Story::Prints)),
         sizes: &[100_000, 1_000_000],
         most: 1,
-        unit: Sample::With(Scene::PassTrace(Story::Prints)),
+        unit: Sample::With(Scene::Events(Work::PassTrace, Story::Prints)),
         unit_size: None,
         repeats: 3,
     },
 ];
 
-fn write_time(
+/// The time of writing a byte of the trace of these events.
+pub(crate) fn write_time(
     rt: &impl Clock,
     alloc: Global,
     program: &Program,
     events: &[Event],
 ) -> Result<u128, Failure> {
     let watch = Watch::start(rt);
-    let text = write_trace(alloc, program, events)?;
-    watch.share(rt, text.len())
-}
-
-/// The time of writing a byte of the trace of so many events.
-pub(crate) fn time(
-    rt: &impl Clock,
-    alloc: Global,
-    program: &Program,
-    story: Story,
-    count: usize,
-) -> Result<u128, Failure> {
-    let mut events = Vec::new(alloc);
-    add_events(alloc, &mut events, story, count)?;
-    write_time(rt, alloc, program, &events)
+    match write_trace(alloc, program, events) {
+        Ok(text) => watch.share(rt, text.len()),
+        Err(_) => Err(Failure::Memory),
+    }
 }
 
 /// The time of going over a byte of that trace.
@@ -72,11 +62,10 @@ pub(crate) fn pass_time(
     rt: &impl Clock,
     alloc: Global,
     program: &Program,
-    story: Story,
-    count: usize,
+    events: &[Event],
 ) -> Result<u128, Failure> {
-    let mut events = Vec::new(alloc);
-    add_events(alloc, &mut events, story, count)?;
-    let text = write_trace(alloc, program, &events)?;
-    text_pass_time(rt, &text)
+    match write_trace(alloc, program, events) {
+        Ok(text) => text_pass_time(rt, &text),
+        Err(_) => Err(Failure::Memory),
+    }
 }
