@@ -11,7 +11,7 @@ use descriptors::{
     write_field, write_method,
 };
 use sequence::Refusal;
-use std::alloc::{AllocError, Global};
+use std::alloc::Global;
 
 /// Adds what an element is.
 fn push_element(text: &mut Text, element: &ElementType) {
@@ -48,20 +48,28 @@ pub(crate) fn push_field_answer(alloc: Global, came: &mut Text, descriptor: &[u8
     }
 }
 
-/// Whether a method's copy equals it, and is written as this descriptor.
-fn is_copied(alloc: Global, method: &MethodType, descriptor: &[u8]) -> Result<bool, AllocError> {
-    let copy = method.clone()?;
-    Ok(copy == *method && write_method(alloc, &copy)?.as_slice() == descriptor)
+/// Adds a method's type, where its copy equals it and is written as this descriptor.
+fn push_copied(
+    alloc: Global,
+    came: &mut Text,
+    method: &MethodType,
+    copy: &MethodType,
+    descriptor: &[u8],
+) {
+    match write_method(alloc, copy) {
+        Ok(written) if *copy == *method && written.as_slice() == descriptor => {
+            came.show(&method.parameters().len());
+            came.push(b" parameters");
+        }
+        Ok(_) => came.push(b"written otherwise"),
+        Err(_) => came.refuse(),
+    }
 }
 
 /// Adds a method's type, where its copy is written as this descriptor.
 fn push_method(alloc: Global, came: &mut Text, method: &MethodType, descriptor: &[u8]) {
-    match is_copied(alloc, method, descriptor) {
-        Ok(true) => {
-            came.show(&method.parameters().len());
-            came.push(b" parameters");
-        }
-        Ok(false) => came.push(b"written otherwise"),
+    match method.clone() {
+        Ok(copy) => push_copied(alloc, came, method, &copy, descriptor),
         Err(_) => came.refuse(),
     }
 }
@@ -76,20 +84,23 @@ pub(crate) fn push_method_answer(alloc: Global, came: &mut Text, descriptor: &[u
     }
 }
 
-/// Whether a word is the name of a class, with these bytes, whose copy equals it.
-fn is_kept(alloc: Global, word: &[u8]) -> Result<bool, AllocError> {
-    match ClassName::parse(alloc, word)? {
-        Some(name) => Ok(name.as_slice() == word && name.clone()? == name),
-        None => Ok(false),
+/// Adds whether a word is the name of a class, which this is the name of.
+fn push_name(came: &mut Text, name: &ClassName, word: &[u8]) {
+    match name.clone() {
+        Ok(copy) if copy == *name && name.as_slice() == word && is_class_name(word) => {
+            came.push(b"a class name")
+        }
+        Ok(_) => came.push(b"a class name of other bytes"),
+        Err(_) => came.refuse(),
     }
 }
 
 /// Adds whether a word is the name of a class.
 pub(crate) fn push_class_name_answer(alloc: Global, came: &mut Text, word: &[u8]) {
-    match is_kept(alloc, word) {
-        Ok(is_name) if is_name != is_class_name(word) => came.push(b"a class name of other bytes"),
-        Ok(true) => came.push(b"a class name"),
-        Ok(false) => came.push(b"no class name"),
+    match ClassName::parse(alloc, word) {
+        Ok(Some(name)) => push_name(came, &name, word),
+        Ok(None) if is_class_name(word) => came.push(b"a class name of other bytes"),
+        Ok(None) => came.push(b"no class name"),
         Err(_) => came.refuse(),
     }
 }

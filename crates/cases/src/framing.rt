@@ -1,7 +1,39 @@
-//! What stands around a case, and the answer that its head demands of it there.
+//! The cases of a part, what stands around them, and the answer that a head demands of a case there.
 
+use crate::archive::Part;
 use crate::text::Text;
+use std::alloc::{AllocError, Global};
 use std::str::from_utf8;
+
+/// A case: its head, its body, and the line where it begins.
+#[derive(Clone, Copy, Drop)]
+pub(crate) struct Case<'a> {
+    pub(crate) head: &'a str,
+    pub(crate) body: &'a [u8],
+    pub(crate) line: usize,
+}
+
+/// The cases of a part: itself, or under a head `each: HEAD` the lines of its body, each with that head.
+pub(crate) fn cases_of<'a>(alloc: Global, part: &'a Part<'_>) -> Result<Vec<Case<'a>>, AllocError> {
+    let mut cases = Vec::new(alloc);
+    let mut case = Case {
+        head: part.head,
+        body: &part.body,
+        line: part.line,
+    };
+    match part.head.strip_prefix("each: ") {
+        Some(head) => {
+            case.head = head;
+            for body in part.body.split_inclusive(|byte| *byte == b'\n') {
+                case.line = case.line.saturating_add(1);
+                case.body = body;
+                cases.push(case)?;
+            }
+        }
+        None => cases.push(case)?,
+    }
+    Ok(cases)
+}
 
 /// What stands before and after a case.
 #[derive(Clone, Copy, Drop)]

@@ -13,7 +13,9 @@
 //! same for canonical texts.
 
 use crate::archive::Part;
-use crate::framing::{Frame, frame_of, push_framed, push_wanted, without_line_feed};
+use crate::framing::{
+    Case, Frame, cases_of, frame_of, push_framed, push_wanted, without_line_feed,
+};
 use crate::linked::push_fault;
 use crate::report::Report;
 use crate::text::Text;
@@ -22,19 +24,12 @@ use jasmin_reader::read_class;
 use jasmin_text::write_class;
 use std::alloc::Global;
 
-/// What stands around the files, if anything does, and around the canonical texts.
+/// What stands around the files, if anything does, and around the canonical texts; and the canonical text of a case, where that is
+/// given.
 #[derive(Drop)]
 struct Around<'a> {
     frames: Vec<Frame<'a>>,
-    canonical: Option<Frame<'a>>,
-}
-
-/// A case: its head, its body, the line where it begins, and the canonical text, where that is given.
-#[derive(Clone, Copy, Drop)]
-struct Case<'a> {
-    head: &'a str,
-    body: &'a [u8],
-    line: usize,
+    canonical_frame: Option<Frame<'a>>,
     canonical: Option<&'a [u8]>,
 }
 
@@ -69,13 +64,13 @@ fn judge_framed(
     alloc: Global,
     case: &Case<'_>,
     frame: Option<Frame<'_>>,
-    canonical: Option<Frame<'_>>,
+    around: &Around<'_>,
     report: &mut Report<'_>,
 ) {
     push_framed(&mut report.given, frame, case.body);
-    match case.canonical {
+    match around.canonical {
         Some(text) => {
-            push_framed(&mut report.wanted, canonical, text);
+            push_framed(&mut report.wanted, around.canonical_frame, text);
             judge_canonical(alloc, case.line, report);
         }
         None => {
@@ -89,16 +84,16 @@ fn judge_framed(
 /// Judges a case in each frame.
 fn judge_frames(alloc: Global, case: &Case<'_>, around: &Around<'_>, report: &mut Report<'_>) {
     if around.frames.is_empty() {
-        judge_framed(alloc, case, None, around.canonical, report);
+        judge_framed(alloc, case, None, around, report);
     }
     for frame in around.frames.as_slice() {
-        judge_framed(alloc, case, Some(*frame), around.canonical, report);
+        judge_framed(alloc, case, Some(*frame), around, report);
     }
 }
 
 /// Judges the words of a line.
-fn judge_words(alloc: Global, case: &Case<'_>, report: &mut Report<'_>) {
-    report.wanted.push(case.canonical.unwrap_or(b""));
+fn judge_words(alloc: Global, case: &Case<'_>, around: &Around<'_>, report: &mut Report<'_>) {
+    report.wanted.push(around.canonical.unwrap_or(b""));
     push_words(alloc, &mut report.came, without_line_feed(case.body));
     report.judges(case.line);
 }
@@ -121,20 +116,10 @@ fn judge_text(alloc: Global, case: &Case<'_>, frame: Option<Frame<'_>>, report: 
 /// Judges a case.
 fn judge_case(alloc: Global, case: &Case<'_>, around: &Around<'_>, report: &mut Report<'_>) {
     match case.head {
-        "words" => judge_words(alloc, case, report),
-        "canonical" => judge_text(alloc, case, around.canonical, report),
+        "words" => judge_words(alloc, case, around, report),
+        "canonical" => judge_text(alloc, case, around.canonical_frame, report),
         head if is_of_word(head) => judge_word(alloc, case, report),
         _ => judge_frames(alloc, case, around, report),
-    }
-}
-
-/// Judges each line of a body as a case.
-fn judge_lines(alloc: Global, lines: &Case<'_>, around: &Around<'_>, report: &mut Report<'_>) {
-    let mut case = *lines;
-    for body in lines.body.split_inclusive(|byte| *byte == b'\n') {
-        case.line = case.line.saturating_add(1);
-        case.body = body;
-        judge_case(alloc, &case, around, report);
     }
 }
 
@@ -150,51 +135,40 @@ fn add_frame<'a>(part: &'a Part<'_>, frames: &mut Vec<Frame<'a>>, report: &mut R
     }
 }
 
-/// Judges the case or the cases of a part, with the part after it.
-fn judge_body(
-    alloc: Global,
-    part: &Part<'_>,
-    next: Option<&Part<'_>>,
-    around: &Around<'_>,
-    report: &mut Report<'_>,
-) {
-    let each = part.head.strip_prefix("each: ");
-    let case = Case {
-        head: each.unwrap_or(part.head),
-        body: &part.body,
-        line: part.line,
-        canonical: canonical_of(next),
-    };
-    if each.is_some() {
-        judge_lines(alloc, &case, around, report);
-    } else {
-        judge_case(alloc, &case, around, report);
+/// Judges the cases of a part.
+fn judge_body(alloc: Global, part: &Part<'_>, around: &Around<'_>, report: &mut Report<'_>) {
+    match cases_of(alloc, part) {
+        Ok(cases) => {
+            for case in &cases {
+                judge_case(alloc, case, around, report);
+            }
+        }
+        Err(_) => report.refuse(),
     }
 }
 
-/// Judges the case or the cases of a part, with the part after it, or takes from it what stands around cases.
+/// Judges the cases of a part, or takes from it what stands around those after it.
 fn judge_part<'a>(
     alloc: Global,
     part: &'a Part<'_>,
-    next: Option<&Part<'_>>,
     around: &mut Around<'a>,
     report: &mut Report<'_>,
 ) {
     match part.head {
         "as" => {}
-        "around as" => around.canonical = frame_of(&part.body),
+        "around as" => around.canonical_frame = frame_of(&part.body),
         "around" => {
             around.frames.clear();
             add_frame(part, &mut around.frames, report);
         }
         "and around" => add_frame(part, &mut around.frames, report),
-        _ => judge_body(alloc, part, next, around, report),
+        _ => judge_body(alloc, part, around, report),
     }
 }
 
-/// The body of a part `-- as --`.
-fn canonical_of<'a>(part: Option<&'a Part<'_>>) -> Option<&'a [u8]> {
-    match part {
+/// The body of the part at this index, where its head is `-- as --`.
+fn canonical_at<'a>(parts: &'a [Part<'_>], index: usize) -> Option<&'a [u8]> {
+    match parts.get(index) {
         Some(part) if part.head == "as" => Some(&part.body),
         _ => None,
     }
@@ -204,12 +178,13 @@ fn canonical_of<'a>(part: Option<&'a Part<'_>>) -> Option<&'a [u8]> {
 pub(crate) fn judge(alloc: Global, parts: &[Part<'_>], report: &mut Report<'_>) {
     let mut around = Around {
         frames: Vec::new(alloc),
+        canonical_frame: None,
         canonical: None,
     };
     for (index, part) in parts.iter().enumerate() {
-        let next = parts.get(index.saturating_add(1));
+        around.canonical = canonical_at(parts, index.saturating_add(1));
         if !part.is_group {
-            judge_part(alloc, part, next, &mut around, report);
+            judge_part(alloc, part, &mut around, report);
         }
     }
 }

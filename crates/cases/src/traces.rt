@@ -12,7 +12,7 @@
 //! dots: from here on each case is put in their place, without its last line feed.
 
 use crate::archive::Part;
-use crate::framing::{Frame, frame_of, push_framed, push_wanted};
+use crate::framing::{Case, Frame, cases_of, frame_of, push_framed, push_wanted};
 use crate::linked::push_linked;
 use crate::report::Report;
 use crate::text::Text;
@@ -27,14 +27,6 @@ use trace_reader::read_trace;
 struct Setting<'a> {
     threads: usize,
     frame: Option<Frame<'a>>,
-}
-
-/// A case: its head, its body, and the line where it begins.
-#[derive(Clone, Copy, Drop)]
-struct Case<'a> {
-    head: &'a str,
-    body: &'a [u8],
-    line: usize,
 }
 
 /// Adds that a text is read as these events, or what else is written of them.
@@ -76,23 +68,7 @@ fn judge_case(
     report.judges(case.line);
 }
 
-/// Judges each line of a body as a case.
-fn judge_lines(
-    alloc: Global,
-    program: &Program,
-    lines: &Case<'_>,
-    setting: &Setting<'_>,
-    report: &mut Report<'_>,
-) {
-    let mut case = *lines;
-    for body in lines.body.split_inclusive(|byte| *byte == b'\n') {
-        case.line = case.line.saturating_add(1);
-        case.body = body;
-        judge_case(alloc, program, &case, setting, report);
-    }
-}
-
-/// Judges the case or the cases of a part.
+/// Judges the cases of a part.
 fn judge_body(
     alloc: Global,
     program: &Program,
@@ -100,16 +76,13 @@ fn judge_body(
     setting: &Setting<'_>,
     report: &mut Report<'_>,
 ) {
-    let each = part.head.strip_prefix("each: ");
-    let case = Case {
-        head: each.unwrap_or(part.head),
-        body: &part.body,
-        line: part.line,
-    };
-    if each.is_some() {
-        judge_lines(alloc, program, &case, setting, report);
-    } else {
-        judge_case(alloc, program, &case, setting, report);
+    match cases_of(alloc, part) {
+        Ok(cases) => {
+            for case in &cases {
+                judge_case(alloc, program, case, setting, report);
+            }
+        }
+        Err(_) => report.refuse(),
     }
 }
 

@@ -3,7 +3,7 @@
 use crate::programs::named_texts::Texts;
 use cli::{Named, Run, write_outcomes};
 use guest_threads::{NoGate, run_threads};
-use hierarchy::{ClassId, Program, link};
+use hierarchy::{ClassId, LinkFault, Program, link};
 use interpreter::{SharedInterpreter, SharedObjects};
 use jasmin_reader::read_class;
 use jasmin_text::ClassText;
@@ -96,16 +96,19 @@ fn run_main<R: Threads + Wait + Sync>(
     }
 }
 
-/// Runs the class of that name, if the program has it, once with any patience and once with the least.
-fn run_named<R: Threads + Wait + Sync>(
+/// Runs the main class that a command line asks for, if these classes are linked and one has that name.
+fn run_linked<R: Threads + Wait + Sync>(
     rt: &R,
     alloc: Global,
-    program: &Program,
-    name: &str,
-    steps: u32,
+    linked: &Result<Program, LinkFault>,
+    run: &Run<'_>,
     patient: &mut Texts,
     hasty: &mut Texts,
 ) {
+    let (Ok(program), Some(name)) = (linked, run.mains) else {
+        return;
+    };
+    let steps = steps_of(run.steps);
     if let Some(main) = program.class_named(name.as_bytes()) {
         run_main(
             rt,
@@ -136,22 +139,8 @@ pub(crate) fn run_threaded<R: Threads + Wait + Sync>(
     patient: &mut Texts,
     hasty: &mut Texts,
 ) {
-    let Some(main) = run.mains else {
-        return;
-    };
     let mut classes = Vec::new(alloc);
-    if !add_classes(alloc, &run.files, files, &mut classes, patient) {
-        return;
-    }
-    if let Ok(program) = link(alloc, classes) {
-        run_named(
-            rt,
-            alloc,
-            &program,
-            main,
-            steps_of(run.steps),
-            patient,
-            hasty,
-        );
+    if run.mains.is_some() && add_classes(alloc, &run.files, files, &mut classes, patient) {
+        run_linked(rt, alloc, &link(alloc, classes), run, patient, hasty);
     }
 }
