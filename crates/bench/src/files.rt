@@ -5,25 +5,26 @@ use hierarchy::{Program, link};
 use jasmin_reader::read_class;
 use jasmin_text::ClassText;
 use jasmin_words::integer::push_decimal;
-use std::alloc::{AllocError, Global};
+use sequence::Writer;
+use std::alloc::Global;
+use std::mem::replace;
 use std::rt::Clock;
 
 /// Files, one after the other. What went wrong first is told where the files are taken.
 #[derive(Drop)]
 pub(crate) struct Files {
     alloc: Global,
-    text: Vec<u8>,
-    /// Where the last file begins.
-    start: usize,
+    /// The last file.
+    last: Writer,
     classes: Vec<ClassText>,
     failure: Option<Failure>,
 }
 
-fn push_byte(text: &mut Vec<u8>, byte: u8, first: usize, second: usize) -> Result<(), AllocError> {
+fn push_byte(text: &mut Writer, byte: u8, first: usize, second: usize) {
     match byte {
         b'#' => push_decimal(text, first),
         b'@' => push_decimal(text, second),
-        other => text.extend_from_slice(&[other]),
+        other => text.push(&[other]),
     }
 }
 
@@ -32,8 +33,7 @@ impl Files {
     pub(crate) fn new(alloc: Global) -> Files {
         Files {
             alloc,
-            text: Vec::new(alloc),
-            start: 0,
+            last: Writer::new(alloc),
             classes: Vec::new(alloc),
             failure: None,
         }
@@ -48,15 +48,11 @@ impl Files {
     /// Adds a template to the last file: `#` stands for the first number and `@` for the second.
     pub(crate) fn add(&mut self, template: &[u8], first: usize, second: usize) {
         for byte in template {
-            if push_byte(&mut self.text, *byte, first, second).is_err() {
-                self.note(Failure::Memory);
-            }
+            push_byte(&mut self.last, *byte, first, second);
         }
     }
 
-    /// Ends the last file.
-    pub(crate) fn end(&mut self) {
-        let file = self.text.get(self.start..).unwrap_or_default();
+    fn keep(&mut self, file: &[u8]) {
         match read_class(self.alloc, file) {
             Ok(class) => {
                 if self.classes.push(class).is_err() {
@@ -65,7 +61,14 @@ impl Files {
             }
             Err(_) => self.note(Failure::Program),
         }
-        self.start = self.text.len();
+    }
+
+    /// Ends the last file.
+    pub(crate) fn end(&mut self) {
+        match replace(&mut self.last, Writer::new(self.alloc)).into_text() {
+            Ok(file) => self.keep(&file),
+            Err(_) => self.note(Failure::Memory),
+        }
     }
 
     /// Adds a whole file.
@@ -74,16 +77,12 @@ impl Files {
         self.end();
     }
 
-    /// How many bytes they have.
-    pub(crate) fn len(&self) -> usize {
-        self.text.len()
-    }
-
-    /// The text of all files.
-    pub(crate) fn text(&self) -> Result<&[u8], Failure> {
-        match self.failure {
-            Some(failure) => Err(failure),
-            None => Ok(&self.text),
+    /// The text of the last file, which has not ended.
+    pub(crate) fn text(self) -> Result<Vec<u8>, Failure> {
+        let Files { last, .. } = self;
+        match last.into_text() {
+            Ok(text) => Ok(text),
+            Err(_) => Err(Failure::Memory),
         }
     }
 

@@ -154,25 +154,24 @@ pub(crate) const ROWS: &[Row] = &[
 ];
 
 // A file of so many parts.
-fn file_of(alloc: Global, part: Part, parts: usize) -> Files {
+fn file_of(alloc: Global, part: Part, parts: usize) -> Result<Vec<u8>, Failure> {
     let mut files = Files::new(alloc);
     files.add(part.front, 0, 0);
     for number in 0..parts {
         files.add(part.text, number, parts.saturating_sub(number));
     }
     files.add(part.back, 0, 0);
-    files
+    files.text()
 }
 
 // A file of about so many bytes.
-fn file_of_bytes(alloc: Global, part: Part, bytes: usize) -> Files {
+fn file_of_bytes(alloc: Global, part: Part, bytes: usize) -> Result<Vec<u8>, Failure> {
     let parts = bytes / part.text.len().max(1);
     file_of(alloc, part, parts.saturating_add(1))
 }
 
 // How long it takes to read a file, for each of so many parts.
-fn read_time(rt: &impl Clock, alloc: Global, file: &Files, parts: usize) -> Result<u128, Failure> {
-    let text = file.text()?;
+fn read_time(rt: &impl Clock, alloc: Global, text: &[u8], parts: usize) -> Result<u128, Failure> {
     let watch = Watch::start(rt);
     match read_class(alloc, text) {
         Ok(_text) => watch.share(rt, parts),
@@ -187,7 +186,7 @@ pub(crate) fn time(
     part: Part,
     size: usize,
 ) -> Result<u128, Failure> {
-    read_time(rt, alloc, &file_of(alloc, part, size), size)
+    read_time(rt, alloc, &file_of(alloc, part, size)?, size)
 }
 
 /// How long a byte of a file of about so many is read.
@@ -197,7 +196,7 @@ pub(crate) fn byte_time(
     part: Part,
     bytes: usize,
 ) -> Result<u128, Failure> {
-    let file = file_of_bytes(alloc, part, bytes);
+    let file = file_of_bytes(alloc, part, bytes)?;
     read_time(rt, alloc, &file, file.len())
 }
 
@@ -208,6 +207,5 @@ pub(crate) fn pass_time(
     part: Part,
     bytes: usize,
 ) -> Result<u128, Failure> {
-    let file = file_of_bytes(alloc, part, bytes);
-    text_pass_time(rt, file.text()?)
+    text_pass_time(rt, &file_of_bytes(alloc, part, bytes)?)
 }

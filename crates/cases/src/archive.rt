@@ -15,6 +15,7 @@
 //!   line feed.
 
 use jasmin_words::integer::push_decimal;
+use sequence::Writer;
 use std::alloc::Global;
 
 /// A head with its body.
@@ -77,10 +78,11 @@ impl<'a> Archive<'a> {
 
     /// Adds a number to the last part's body.
     fn push_number(&mut self, number: usize) {
-        if let Some(part) = self.parts.last_mut() {
-            if push_decimal(&mut part.body, number).is_err() {
-                self.is_refused = true;
-            }
+        let mut digits = Writer::new(self.alloc);
+        push_decimal(&mut digits, number);
+        match digits.into_text() {
+            Ok(digits) => self.push(&digits),
+            Err(_) => self.is_refused = true,
         }
     }
 
