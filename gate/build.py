@@ -53,7 +53,7 @@ def along_the_graph():
     held = rtlib.lock(crates)
     done = []
     if not any(it.has_kept() for it in crates):
-        # (with several jobs a proof from nothing takes a quarter less time where nothing is kept of its parts)
+        # (with several jobs a proof from nothing takes up to a quarter less time where nothing is kept of its parts)
         rtlib.KEPT = []
 
     def build(crate, jobs):

@@ -1,15 +1,15 @@
 """Tasks side by side, in the place of the kit's `in_lanes`.
 
-One task leads: that with the longest path of others after it, with nearly as many jobs as there are processors. The other proofs
-that proofs wait for, and what has much work, run beside it at a lower priority, with several jobs where lanes are idle; and at
-a still lower one short proofs and tests, and edits. So each takes what those before it leave: no task has work for all processors
-all the time."""
+What has nearly the longest path of others after it leads. The other proofs and the tests run beside it at a lower priority, and edits
+at a still lower one. So each takes what those before it leave: no task has work for all processors all the time. A task has several
+jobs where it has much work, or where nothing else would use the processors: each job more takes some ten seconds of a processor's
+time for itself."""
 import os
 from concurrent.futures import FIRST_COMPLETED, ThreadPoolExecutor, wait
 
 # What a call answers that is to be called once more, and one that leaves nothing to do for the other shares of its work.
 AGAIN, NO_MORE = object(), object()
-# The priorities: of the task that leads, of what others wait for and what is long, and of the others.
+# The priorities: of what leads, of the other proofs and the tests, and of edits.
 LEAD, FRONT, BACK = 0, 5, 10
 
 
@@ -43,34 +43,36 @@ def run(tasks, given, processors, memory, memory_for):
     for, its work, and a call that gets what was given and how many jobs it may use; so many jobs take the memory that `memory_for`
     says."""
     behind = paths(tasks)
-    waited_for = {it for key in tasks if key[1] == "proof" for it in tasks[key][0]}
+    most_work = max((work for _, work, _ in tasks.values()), default=0)
     lead, front, back = [Lanes(processors, it) for it in (LEAD, FRONT, BACK)]
     left, running = [*tasks], {}
 
     def is_ready(key):
         return all(it in given for it in tasks[key][0])
 
-    def is_long(key):
-        """Whether it has at least half of the longest path that is left."""
-        return key[1] != "edits" and 2 * behind[key] >= max(behind[it] for it in tasks if it not in given)
+    def lanes_of(key):
+        if key[1] == "edits":
+            return back
+        return lead if 5 * behind[key] >= 4 * max(behind[it] for it in tasks if it not in given) else front
 
-    def lanes_of(key, leader):
-        return lead if key == leader else front if key in waited_for or is_long(key) else back
+    def jobs_for(key, lanes, ready):
+        """How many jobs the task may use, where these want one on the same lanes."""
+        if lanes is back:
+            return 1
+        has_much = 3 * tasks[key][1] >= most_work
+        if lanes is front:
+            return min(2 if has_much else 1, -(-lanes.idle // len(ready)))
+        others = len(running) + len([it for it in left if is_ready(it)]) - 1
+        return max(processors - others, processors - 1 if has_much else 1, 1)
 
     def start():
-        """Starts what there is room for: first what gathers the results of a crate's edits, so that the crate is kept, then tests,
-        then edits, and of each what has the longest path behind it."""
-        left.sort(key=lambda it: (len(it) > 2 and it[1] == "edits", it[1] != "edits", -behind[it]))
-        long = [it for it in left if is_ready(it) and is_long(it)] if lead.idle == lead.number else []
-        leader = max(long, key=lambda it: behind[it], default=None)
+        """Starts what there is room for: first what gathers the results of a crate's edits, so that the crate is kept, then proofs
+        and tests, then edits, and of each what has the longest path behind it."""
+        left.sort(key=lambda it: (len(it) > 2, it[1] != "edits", -behind[it]))
         for lanes in lead, front, back:
-            ready = [it for it in left if is_ready(it) and lanes_of(it, leader) is lanes]
+            ready = [it for it in left if is_ready(it) and lanes_of(it) is lanes]
             for at, key in enumerate(ready):
-                # (one job; several on a long path where lanes are idle. What leads leaves others a processor, as all jobs together
-                # take a third more of the processors' time than one)
-                others = len(running) + len([it for it in left if is_ready(it)]) > 1
-                most = lanes.number - others if key == leader else -(-lanes.number // 2) if is_long(key) else 1
-                jobs = min(max(most, 1), -(-lanes.idle // (len(ready) - at)))
+                jobs = min(jobs_for(key, lanes, ready[at:]), lanes.idle)
                 taken = sum(memory_for(it) for _, it, _ in running.values())
                 while jobs and running and taken + memory_for(jobs) > memory:
                     jobs -= 1

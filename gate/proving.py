@@ -139,7 +139,7 @@ class Gate:
         found = self.original["crates_of"](*given)
         for it in found:
             self.crates[it.name] = it
-            self.keys[it.name] = self.store.key(it, [*self.rt.edits_of(it)[0], self.harmless])
+            self.keys[it.name] = self.store.key(it, [*self.rt.edits_of(it)[0], *([self.harmless] if it.name == self.beside else [])])
             self.known[it.name] = self.store.is_kept(it, self.keys[it.name])
             self.passes[it.name] = True
         known = [it.name for it in found if self.known[it.name]]
