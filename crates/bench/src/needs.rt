@@ -7,7 +7,7 @@ use crate::files::Files;
 use crate::harness::{Failure, Row, Watch};
 use crate::sample::{Sample, Scene};
 use hierarchy::{ClassId, Program};
-use init_order::needs;
+use init_core::needs;
 use std::alloc::Global;
 use std::rt::Clock;
 

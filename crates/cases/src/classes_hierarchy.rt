@@ -3,7 +3,7 @@
 use crate::classes_members::push_class;
 use crate::text::Text;
 use hierarchy::{BUILT_IN_COUNT, BuiltIn, ClassId, Program};
-use init_order::needs;
+use init_core::needs;
 use std::alloc::Global;
 
 /// Adds the names of these classes.

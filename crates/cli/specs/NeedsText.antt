@@ -2,7 +2,7 @@
 use Rattle.std.specs.Prelude.{ℕ, zero, suc, ◌+◌, List, [], ◌∷◌, ◌++◌, length, codes}
 use Rattle.hierarchy.specs.declared.class.ClassId.{ClassId}
 use Rattle.hierarchy.specs.LinkedProgram.{LinkedProgram, id}
-use Rattle.init_order.specs.Needs.{needs}
+use Rattle.init_core.specs.Needs.{needs}
 use Rattle.trace.specs.TraceText.{class_text}
 
 -- a space and a name for each

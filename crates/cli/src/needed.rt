@@ -5,7 +5,7 @@ ghost use Rattle.sequence.specs.Written.{Adds};
 ghost use Rattle.cli.specs.NeedsText.{names_text, needs_line, needs_text};
 
 use hierarchy::{ClassId, Program};
-use init_order::needs;
+use init_core::needs;
 use sequence::Writer;
 use std::alloc::{AllocError, Global};
 use trace::write_class_name;

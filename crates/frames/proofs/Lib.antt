@@ -1,3 +1,5 @@
+pub mod HandlerRows
+pub mod Step11
 pub mod Stacks
 pub mod Popped
 pub mod Sequences

@@ -4,4 +4,6 @@ pub mod Rows
 pub mod Kinds
 pub mod Activations
 pub mod Running
+pub mod Handlers
+pub mod Replacing
 pub mod Unwinding

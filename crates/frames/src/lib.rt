@@ -7,14 +7,18 @@
 //! its frame is made of [`Frames::operand`], [`Frames::drop_operands`], [`Frames::push`] and [`Frames::step_over`]. Some
 //! sequences of three or four instructions on ints are done at once (`fused`), with no difference but in time.
 //!
+//! [`handler_at`] finds the row of a handler table that catches an object, and [`replacement`] says what an initializer leaves that
+//! throws one (JLS SE 8 12.4.2 step 11).
+//!
 //! Contracts see the frames as a list of activations. `specs/Rows` says what each instruction does, a line an instruction,
-//! `Running` what many do, `Activations` what calls do, and `Unwinding` where an object is caught.
+//! `Running` what many do, `Activations` what calls do, and `Handlers` and `Unwinding` where an object is caught.
 #![tactic(auto)]
 
 pub mod cell;
 mod decide;
 pub mod frames;
 mod fused;
+mod handlers;
 mod ints;
 mod jumps;
 mod moves;
@@ -29,6 +33,7 @@ mod words;
 
 pub use cell::Cell;
 pub use frames::Frames;
+pub use handlers::{handler_at, replacement};
 pub use place::FramePlace;
 pub use run::Stop;
 pub use thrown::Thrown;

@@ -1,15 +1,15 @@
 //! Where a thrown object is caught (JVMS SE 8 2.10).
 
 ghost use Rattle.std.specs.Prelude.{◌≡◌, slice_get};
-ghost use Rattle.exceptions.specs.Handlers.{FirstFits};
+ghost use Rattle.frames.specs.Handlers.{FirstFits};
 ghost use Rattle.hierarchy.specs.LinkedProgram.{id};
 ghost use Rattle.hierarchy.specs.OwnNames.{methods_of};
 ghost use Rattle.frames.specs.Unwinding.{Unwinds, handlers_in};
 
 use crate::frames::Frames;
+use crate::handlers::handler_at;
 use crate::place::FramePlace;
 use crate::thrown::Thrown;
-use exceptions::handler_at;
 use hierarchy::{ClassId, Program};
 use jasmin_text::Handler;
 

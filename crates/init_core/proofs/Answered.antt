@@ -3,7 +3,7 @@ use Rattle.std.proofs.Common.{◌≡◌, ℕ, List, [], ◌∷◌, Option, Bool,
 use Rattle.hierarchy.specs.declared.class.ClassId.{ClassId}
 use Rattle.hierarchy.specs.declared.built_in.BuiltIn.TheVariants.{NoClassDefFoundError}
 use Rattle.hierarchy.specs.LinkedProgram.{LinkedProgram, built_in}
-use Rattle.init_order.specs.Needs.{needs}
+use Rattle.init_core.specs.Needs.{needs}
 use Rattle.init_core.specs.declared.event.Decision.{Decision}
 use Rattle.init_core.specs.declared.event.Decision.TheVariants as decision
 use Rattle.init_core.specs.declared.event.Event.{Event}

@@ -5,7 +5,7 @@ use Rattle.std.specs.List.{AllByRecursion}
 use Rattle.std.proofs.lemmas.Bool.{ne_eqb, eqb-true}
 use Rattle.hierarchy.specs.declared.class.ClassId.{ClassId}
 use Rattle.hierarchy.specs.LinkedProgram.{LinkedProgram}
-use Rattle.init_order.specs.Needs.{needs}
+use Rattle.init_core.specs.Needs.{needs}
 use Rattle.init_core.specs.declared.event.Event.{Event}
 use Rattle.init_core.specs.declared.event.Kind.{Kind}
 use Rattle.init_core.specs.declared.event.Kind.TheVariants as kind
@@ -29,7 +29,7 @@ use Rattle.init_core.specs.Leads.{frame, standing, kind_of_ending, outcome_of, B
 use Rattle.init_core.specs.ProcedureWord.{Maker, Word, completed, ended_by, given_up, GoesOn, IsOfFiles}
 use Rattle.init_core.specs.Standing.{Standing}
 use Rattle.init_core.specs.Stands.{begun_in, begun_classes, AreDifferent, NamesFiles, ending_error, ending_error_in, StandsOf, SeesMore, AreOfOthers}
-use Rattle.init_order.proofs.NeedsAbove.{needs_in_files}
+use Rattle.init_core.proofs.NeedsAbove.{needs_in_files}
 use Rattle.init_core.proofs.Labels.{label_after}
 use Rattle.init_core.specs.ClassState.{next_label}
 use Rattle.init_core.proofs.States.{waits_more}

@@ -4,7 +4,7 @@ use Rattle.hierarchy.specs.declared.class.ClassId.{ClassId}
 use Rattle.hierarchy.specs.declared.built_in.BuiltIn.TheVariants.{OutOfMemoryError, InternalError, VirtualMachineError, Error}
 use Rattle.hierarchy.specs.LinkedProgram.{LinkedProgram, built_in}
 use Rattle.hierarchy.specs.Subclasses.{IsError, itself, below, is_built_in}
-use Rattle.init_order.specs.Needs.{needs}
+use Rattle.init_core.specs.Needs.{needs}
 use Rattle.init_core.specs.declared.event.Event.{Event}
 use Rattle.init_core.specs.declared.event.Kind.{Kind}
 use Rattle.init_core.specs.declared.event.Kind.TheVariants as kind

@@ -11,8 +11,7 @@ ghost use Rattle.judge.specs.NextEvent.{MayLook, look_to, MayGoOn, item_to};
 use crate::open_class::{Pending, Procedures, Stage};
 use hierarchy::laws::throwables_are_subclasses;
 use hierarchy::{BuiltIn, ClassId, Program};
-use init_core::{Completed, Kind, Outcome};
-use init_order::needs;
+use init_core::{Completed, Kind, Outcome, needs};
 use std::alloc::{AllocError, Global};
 
 pub(crate) fn is_error(program: &Program, class: ClassId) -> bool

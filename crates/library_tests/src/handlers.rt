@@ -1,7 +1,7 @@
 //! Which row of a handler table catches an object, and step 11.
 
 use crate::programs::{Question, Row};
-use exceptions::{handler_at, replacement};
+use frames::{handler_at, replacement};
 use hierarchy::{ClassId, Program};
 
 /// A method with handlers: places 0 to 4, by the labels A, B (at 2), X and Y.

@@ -16,7 +16,7 @@ use crate::programs::{Question, Row};
 use crate::runs::are_of_files;
 use bodies::{Bodies, Does, Lends};
 use descriptors::BaseType;
-use exceptions::replacement;
+use frames::replacement;
 use guest_threads::{NoGate, run_threads};
 use hierarchy::{BuiltIn, ClassId, Program, Value};
 use init_core::{Completed, Outcome};

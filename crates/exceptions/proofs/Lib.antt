@@ -1,2 +1,0 @@
-pub mod Step11
-pub mod Rows

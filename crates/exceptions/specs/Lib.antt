@@ -1,2 +1,0 @@
-pub mod Handlers
-pub mod Replacing

@@ -1,0 +1,42 @@
+-- What each kind of class needs.
+use Rattle.std.proofs.Common.{◌≡◌, Bool, Some, None, List, [], ◌∷◌, refl, sym, ap, ◌∙◌, inl, inr}
+use Rattle.std.proofs.lemmas.Bool.{cases_Bool}
+use Rattle.std.specs.Prelude.{filter}
+use Rattle.std.specs.List.{flat_map}
+use Rattle.jasmin_text.specs.declared.class_text.ClassKind.TheVariants as kind
+use Rattle.hierarchy.specs.declared.class.Class.{Class}
+use Rattle.hierarchy.specs.declared.class.ClassId.{ClassId}
+use Rattle.hierarchy.specs.LinkedProgram.{LinkedProgram, class_at}
+use Rattle.hierarchy.specs.ClassLists.{add_all, distinct}
+use Rattle.hierarchy.specs.Hierarchy.{interfaces_of}
+use Rattle.hierarchy.specs.Superinterfaces.{enumeration, superinterfaces}
+use Rattle.hierarchy.proofs.ClassMembership.{filter-add_all, add_all-append}
+use Rattle.init_core.specs.Needs.{is_in_file, declares_default, needs_of_class, needs_by, needs_in, needs}
+
+pub needs-none : (p : LinkedProgram) (c : ClassId) → None ≡ class_at p c → needs p c ≡ []
+unfolding needs
+needs-none p c e = rw (← e) refl
+
+pub needs-interface : (p : LinkedProgram) (c : ClassId) (class : Class) → Some class ≡ class_at p c → class.kind ≡ kind.Interface → needs p c ≡ []
+unfolding needs
+needs-interface p c class e k = rw (← e, k) refl
+
+pub needs-class : (p : LinkedProgram) (c : ClassId) (class : Class) → Some class ≡ class_at p c → class.kind ≡ kind.Class → needs p c ≡ needs_of_class p class.superclass (interfaces_of p.classes c)
+unfolding needs
+needs-class p c class e k = ap (needs_in p) (sym e) ∙ ap (needs_by p class) k ∙ rw (← e) refl
+
+pub ruleset needs_rules = (needs-none, needs-interface, needs-class)
+
+-- a list of at most one class has no repeats
+distinct-one : (q : ClassId → Bool) (c : ClassId) → distinct (filter q (c ∷ [])) ≡ filter q (c ∷ [])
+distinct-one q c = elim (cases_Bool (q c)) [ inl e ↦ rw e refl | inr e ↦ rw e refl ]
+
+-- the repeats may be dropped before the filter
+pub needed : (p : LinkedProgram) (superclass c : ClassId) (found next : List ClassId) → found ≡ filter (is_in_file p) (superclass ∷ []) → next ≡ add_all found (filter (declares_default p) (superinterfaces p.classes c)) →
+    next ≡ needs_of_class p superclass (interfaces_of p.classes c)
+needed p superclass c found next e n =
+    let q = declares_default p in
+    let s = filter (is_in_file p) (superclass ∷ []) in
+    let xs = flat_map (enumeration p.classes) (interfaces_of p.classes c) in
+    n ∙ ap (λ z. add_all z (filter q (superinterfaces p.classes c))) e ∙ filter-add_all q s [] xs ∙
+    ap (λ z. add_all z (filter q xs)) (sym (distinct-one (is_in_file p) superclass)) ∙ sym (add_all-append [] s (filter q xs))

@@ -1,2 +1,0 @@
-pub mod NeedsByKind
-pub mod NeedsAbove
