@@ -32,6 +32,8 @@ mod lists;
 #[cfg(test)]
 mod lock;
 #[cfg(test)]
+mod long_chain;
+#[cfg(test)]
 mod procedures;
 #[cfg(test)]
 mod programs;
@@ -49,6 +51,8 @@ mod schedules;
 mod scripted;
 #[cfg(test)]
 mod sheet;
+#[cfg(test)]
+mod steps;
 #[cfg(test)]
 mod twin;
 #[cfg(test)]

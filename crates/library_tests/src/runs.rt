@@ -3,13 +3,14 @@
 ghost use Rattle.std.specs.Prelude.{◌≡◌, ◌<◌, ◌≤◌, length, true};
 ghost use Rattle.bodies.specs.Runs.{AreMains};
 
-use crate::programs::{Question, Row, add, is_answered};
+use crate::long_chain::{CLASSES, INTERFACES};
+use crate::programs::{Question, Row};
+use crate::steps::{Step, Steps, step_of, steps_of};
 use bodies::NoCode;
 use guest_threads::{Gate, NoGate, run_threads};
 use hierarchy::{ClassId, Program};
 use init_core::{Event, Kind, Label};
-use jasmin_text::ClassText;
-use std::alloc::{AllocError, Global};
+use std::alloc::Global;
 use std::rt::Clock;
 use std::sync::Wait;
 use std::sync::atomic::{AtomicU64, Ordering};
@@ -31,62 +32,6 @@ pub(crate) enum Crowd {
     Apart,
     /// One at the last class of a long chain.
     OverAll,
-}
-
-/// What an event does, of what is told apart here.
-#[derive(Clone, Copy)]
-enum Step {
-    Waits,
-    FindsInitialized,
-    Begins,
-    Runs,
-    Completes,
-    Another,
-}
-
-fn step_of(event: &Event) -> Step {
-    match event.kind() {
-        Ok(Kind::Waits) => Step::Waits,
-        Ok(Kind::FindsInitialized) => Step::FindsInitialized,
-        Ok(Kind::Begins) => Step::Begins,
-        Ok(Kind::Runs) => Step::Runs,
-        Ok(Kind::Completes) => Step::Completes,
-        _ => Step::Another,
-    }
-}
-
-/// How many events there are of each step.
-#[derive(Clone, Copy)]
-struct Steps {
-    waits: usize,
-    finds_initialized: usize,
-    begins: usize,
-    runs: usize,
-    completes: usize,
-    others: usize,
-}
-
-fn steps_of(events: &[Event]) -> Steps {
-    let mut steps = Steps {
-        waits: 0,
-        finds_initialized: 0,
-        begins: 0,
-        runs: 0,
-        completes: 0,
-        others: 0,
-    };
-    for event in events {
-        let counter = match step_of(event) {
-            Step::Waits => &mut steps.waits,
-            Step::FindsInitialized => &mut steps.finds_initialized,
-            Step::Begins => &mut steps.begins,
-            Step::Runs => &mut steps.runs,
-            Step::Completes => &mut steps.completes,
-            Step::Another => &mut steps.others,
-        };
-        *counter = counter.saturating_add(1);
-    }
-    steps
 }
 
 /// Whether each main class is one of the files.
@@ -364,46 +309,6 @@ fn one_after_the_other_is_missed(rt: HostRuntime) {
     assert!(rt; is_missed(&rt, 1, 0));
 }
 
-// A chain of so many classes, each over the same interfaces with code. With these numbers the room that is made at a time
-// runs out before looks and before steps 9.
-const CLASSES: usize = 22;
-
-const INTERFACES: usize = 18;
-
-/// A class of the chain over all interfaces.
-fn chained(alloc: Global, class: usize) -> Result<String, AllocError> {
-    let mut file = format!(in alloc; ".class C{class}")?;
-    if class > 0 {
-        write!(file, "\n.super C{}", class - 1)?;
-    }
-    for interface in 0..INTERFACES {
-        write!(file, "\n.implements I{interface}")?;
-    }
-    Ok(file)
-}
-
-/// Adds an interface of the chain.
-fn add_interface(
-    alloc: Global,
-    interface: usize,
-    classes: &mut Vec<ClassText>,
-) -> Result<(), AllocError> {
-    let file = format!(in alloc; ".interface I{interface}\n.method m()V\nreturn\n.end method")?;
-    add(alloc, file.as_bytes(), classes)
-}
-
-/// The classes of a long chain, from the top, and then their interfaces.
-fn long_chain(alloc: Global) -> Result<Vec<ClassText>, AllocError> {
-    let mut classes = Vec::new(alloc);
-    for class in 0..CLASSES {
-        add(alloc, chained(alloc, class)?.as_bytes(), &mut classes)?;
-    }
-    for interface in 0..INTERFACES {
-        add_interface(alloc, interface, &mut classes)?;
-    }
-    Ok(classes)
-}
-
 fn is_over_all<R: Threads + Wait + Sync>(rt: &R, alloc: Global, program: &Program) -> bool {
     let mains = [ClassId {
         number: CLASSES - 1,
@@ -460,18 +365,3 @@ pub(crate) const CROWDS: &[Row] = &[
         question: Question::Ran(Crowd::Apart),
     },
 ];
-
-fn is_chain_run<R: Threads + Wait + Sync + Clock>(rt: &R, alloc: Global) -> bool {
-    match long_chain(alloc) {
-        Ok(classes) => {
-            let question = Question::Ran(Crowd::OverAll);
-            is_answered(rt, alloc, classes, CLASSES + INTERFACES, &question)
-        }
-        Err(_) => false,
-    }
-}
-
-#[test]
-fn a_long_chain_takes_room_again_and_again(rt: HostRuntime) {
-    assert!(rt; is_chain_run(&rt, rt.alloc()));
-}
