@@ -25,8 +25,9 @@ use crate::programs::checked::judge_trace;
 use crate::programs::named_texts::Texts;
 use crate::programs::threaded::run_threaded;
 use crate::report::Report;
-use cli::{Asked, Run, parse, serve};
+use cli::{Asked, Named, Run, parse, serve};
 use std::alloc::{AllocError, Global};
+use std::io;
 use std::str::from_utf8;
 use std::sync::Wait;
 use std::thread::Threads;
@@ -118,6 +119,18 @@ fn compare(threaded: &Texts, trace: Option<&str>, files: &Texts, came: &mut Text
     }
 }
 
+/// [`serve`] with nothing promised, over any files and streams: of those at hand its contract is slow to state.
+pub(crate) fn serve_with<R: Threads + Wait + Sync, N: Named, O: io::Write, E: io::Write>(
+    rt: &R,
+    alloc: Global,
+    words: &[&str],
+    files: &mut N,
+    out: &mut O,
+    err: &mut E,
+) -> u8 {
+    serve(rt, alloc, words, files, out, err)
+}
+
 /// Serves a command line over the files, adds what came of it, and answers its exit status.
 fn serve_words<R: Threads + Wait + Sync>(
     rt: &R,
@@ -128,7 +141,7 @@ fn serve_words<R: Threads + Wait + Sync>(
 ) -> u8 {
     let mut out = Vec::new(alloc);
     let mut err = Vec::new(alloc);
-    let status = serve(rt, alloc, words, files, &mut out, &mut err);
+    let status = serve_with(rt, alloc, words, files, &mut out, &mut err);
     put_outcome(came, &out, &err, status, files);
     status
 }

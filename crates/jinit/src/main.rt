@@ -106,6 +106,18 @@ fn args_of(rt: &HostRuntime) -> io::Result<Vec<String>> {
     Ok(args)
 }
 
+/// [`serve`] with nothing promised, over any files: of the machine's its contract is slow to state.
+fn serve_with<R: Threads + Wait + Sync, N: Named, O: Write, E: Write>(
+    rt: &R,
+    alloc: Global,
+    words: &[&str],
+    files: &mut N,
+    out: &mut O,
+    err: &mut E,
+) -> u8 {
+    serve(rt, alloc, words, files, out, err)
+}
+
 /// Does what the words of the command line ask for, and answers the exit status. An `Err` is want of memory.
 fn answer<R: Files + Threads + Wait + Sync, O: Write, E: Write>(
     rt: &R,
@@ -116,7 +128,7 @@ fn answer<R: Files + Threads + Wait + Sync, O: Write, E: Write>(
 ) -> io::Result<u8> {
     let words = texts_of(alloc, args)?;
     let mut files = MachineFiles { rt };
-    Ok(serve(rt, alloc, &words, &mut files, out, err))
+    Ok(serve_with(rt, alloc, &words, &mut files, out, err))
 }
 
 fn main(rt: HostRuntime) -> ExitCode {

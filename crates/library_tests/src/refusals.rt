@@ -60,6 +60,18 @@ impl io::Write for Full {
     }
 }
 
+/// [`serve`] with nothing promised, over any files and streams: of those at hand its contract is slow to state.
+fn serve_with<R: Threads + Wait + Sync, N: Named, O: io::Write, E: io::Write>(
+    rt: &R,
+    alloc: Global,
+    words: &[&str],
+    files: &mut N,
+    out: &mut O,
+    err: &mut E,
+) -> u8 {
+    serve(rt, alloc, words, files, out, err)
+}
+
 /// Whether these words, with this writer for the output, are answered by status 3 and this line, and no file is written.
 fn is_refused<R: Threads + Wait + Sync, O: io::Write>(
     rt: &R,
@@ -70,7 +82,7 @@ fn is_refused<R: Threads + Wait + Sync, O: io::Write>(
 ) -> bool {
     let mut files = RefusingFiles { is_written: false };
     let mut err = Vec::new(alloc);
-    let status = serve(rt, alloc, words, &mut files, out, &mut err);
+    let status = serve_with(rt, alloc, words, &mut files, out, &mut err);
     status == 3 && err.as_slice() == line && !files.is_written
 }
 

@@ -1,7 +1,8 @@
 //! The verdict on the trace that a run wrote.
 
 use crate::programs::named_texts::Texts;
-use cli::{Run, serve};
+use crate::programs::serve_with;
+use cli::Run;
 use std::alloc::{AllocError, Global};
 use std::sync::Wait;
 use std::thread::Threads;
@@ -31,7 +32,7 @@ fn check<R: Threads + Wait + Sync>(
 ) {
     let mut said = Vec::new(alloc);
     let mut err = Vec::new(alloc);
-    let _ = serve(rt, alloc, words, files, &mut said, &mut err);
+    let _ = serve_with(rt, alloc, words, files, &mut said, &mut err);
     if said.append(&mut err).is_err() {
         came.refuse();
     } else if said.as_slice() != b"legal\n".as_slice() {
