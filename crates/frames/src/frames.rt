@@ -1,7 +1,7 @@
 //! One thread's frames.
 
 ghost use Rattle.std.specs.Prelude.{◌≡◌, ◌≢◌, ◌∷◌, ◌<◌, ◌≤◌, ◌+◌, [], List, true, false, IsTrue, IfNone, IfOk, IfSome, OnErr, OnOk, length, reverse, slice_get, vec_capacity, vec_len};
-ghost use Rattle.frames.specs.Activations.{Activation, activation, at_handler, at_place, called, can_replace, dropped, has_room, in_innermost, left, next_place, operands_of, place_of, pushed, replaced};
+ghost use Rattle.frames.specs.Activations.{Activation, activation, at_handler, at_place, called, can_replace, dropped, frames_in, has_room, IsEmptyWithout, in_innermost, left, next_place, operands_of, place_of, pushed, replaced};
 ghost use Rattle.frames.specs.Running.{GoesOn, IsAtNext};
 ghost use Rattle.frames.specs.declared.cell.Cell.TheVariants as cell;
 ghost use Rattle.frames.specs.declared.run.Stop.TheVariants as stop;
@@ -45,6 +45,69 @@ fn push_below(below: &mut Vec<Slot>, slot: Slot)
     ensures { reverse below.new.items ≡ slot ∷ reverse below.old.items }
 {
     below.push_reserved(slot);
+}
+
+/// A frame becomes the innermost one, and the one that was waits for it.
+fn put_innermost(innermost: &mut Option<Slot>, below: &mut Vec<Slot>, next: Slot)
+    requires room { vec_len below.old < vec_capacity below.old }
+    requires empty { IsEmptyWithout innermost.old below.old.items }
+    ensures frames { frames_in innermost.new below.new.items ≡ next ∷ frames_in innermost.old below.old.items }
+    ensures empty { IsEmptyWithout innermost.new below.new.items }
+{
+    if let Some(waiting) = std::mem::replace(innermost, Some(next)) {
+        push_below(below, waiting);
+    }
+}
+
+/// Begins a body, whose first frame this one becomes. An `Err` is want of memory and changes nothing.
+fn begin_in(
+    innermost: &mut Option<Slot>,
+    below: &mut Vec<Slot>,
+    mut first: Slot,
+    class: usize,
+    method: usize,
+    code: &MethodCode,
+    given: &[Cell],
+) -> Result<(), AllocError>
+    requires given { length given.now ≤ code.now.locals }
+    requires empty { IsEmptyWithout innermost.old below.old.items }
+    ensures ok { OnOk result (frames_in innermost.new below.new.items ≡ activation class method true code.now given.now ∷ frames_in innermost.old below.old.items) }
+    ensures err { OnErr result (frames_in innermost.new below.new.items ≡ frames_in innermost.old below.old.items) }
+    ensures empty { IsEmptyWithout innermost.new below.new.items }
+{
+    first.enter(class, method, true, code, given)?;
+    below.reserve(1)?;
+    put_innermost(innermost, below, first);
+    Ok(())
+}
+
+/// Calls a method, whose frame this one becomes. An `Err` is want of memory and changes nothing.
+fn call_in(
+    innermost: &mut Option<Slot>,
+    below: &mut Vec<Slot>,
+    mut callee: Slot,
+    class: usize,
+    method: usize,
+    code: &MethodCode,
+    count: usize,
+) -> Result<(), AllocError>
+    requires few { count ≤ length (operands_of (frames_in innermost.old below.old.items)) }
+    requires fits { count ≤ code.now.locals }
+    requires frame { frames_in innermost.old below.old.items ≢ [] }
+    requires empty { IsEmptyWithout innermost.old below.old.items }
+    ensures ok { OnOk result (frames_in innermost.new below.new.items ≡ called class method code.now count (frames_in innermost.old below.old.items)) }
+    ensures more { OnOk result (length (frames_in innermost.new below.new.items) ≡ length (frames_in innermost.old below.old.items) + 1) }
+    ensures err { OnErr result (frames_in innermost.new below.new.items ≡ frames_in innermost.old below.old.items) }
+    ensures empty { IsEmptyWithout innermost.new below.new.items }
+{
+    let Some(caller) = innermost else {
+        return Ok(());
+    };
+    caller.call(&mut callee, class, method, code, count)?;
+    below.reserve(1)?;
+    caller.drop_operands(count);
+    put_innermost(innermost, below, callee);
+    Ok(())
 }
 
 /// Takes the frame that waits for the innermost.
@@ -156,13 +219,16 @@ impl Frames {
         ensures err { OnErr result (self.new ≡ self.old) }
     {
         let frames = self.len_with_next();
-        let mut first = take_spare(&mut self.spare, self.alloc, frames)?;
-        first.enter(class, method, true, code, given)?;
-        self.below.reserve(1)?;
-        if let Some(waiting) = std::mem::replace(&mut self.innermost, Some(first)) {
-            push_below(&mut self.below, waiting);
-        }
-        Ok(())
+        let first = take_spare(&mut self.spare, self.alloc, frames)?;
+        begin_in(
+            &mut self.innermost,
+            &mut self.below,
+            first,
+            class,
+            method,
+            code,
+            given,
+        )
     }
 
     /// Calls a method with so many operands of the innermost frame, which leave it: the method's frame is then the innermost
@@ -181,17 +247,16 @@ impl Frames {
         ensures err { OnErr result (self.new ≡ self.old) }
     {
         let frames = self.len_with_next();
-        let mut callee = take_spare(&mut self.spare, self.alloc, frames)?;
-        let Some(caller) = &mut self.innermost else {
-            return Ok(());
-        };
-        caller.call(&mut callee, class, method, code, count)?;
-        self.below.reserve(1)?;
-        caller.drop_operands(count);
-        if let Some(waiting) = std::mem::replace(&mut self.innermost, Some(callee)) {
-            push_below(&mut self.below, waiting);
-        }
-        Ok(())
+        let callee = take_spare(&mut self.spare, self.alloc, frames)?;
+        call_in(
+            &mut self.innermost,
+            &mut self.below,
+            callee,
+            class,
+            method,
+            code,
+            count,
+        )
     }
 
     /// Leaves the innermost frame (JVMS SE 8 2.6.4, 2.6.5). Takes no memory.
