@@ -1,7 +1,7 @@
 -- Classes are found by their names.
-use Rattle.std.proofs.Common.{◌≡◌, ℕ, zero, suc, ◌+◌, ◌-◌, ◌≤◌, ◌<◌, true, false, not, inl, inr, Option, Some, None, List, [], ◌∷◌, length, take, slice_get, get_or, refl, sym, ap, ◌∙◌, arith}
+use Rattle.std.proofs.Common.{◌≡◌, ℕ, zero, suc, ◌+◌, ◌-◌, ◌≤◌, ◌<◌, true, false, not, inl, inr, Option, Some, None, List, [], ◌∷◌, length, take, slice_get, get_or, refl, sym, ap, subst, ◌∙◌, arith}
 use Rattle.std.proofs.lemmas.Bool.{cases_Bool, or_from, and_parts, not-true, true≢false}
-use Rattle.std.proofs.lemmas.Option.{slice_get-map, slice_get_within, get_or_from_slice_get}
+use Rattle.std.proofs.lemmas.Option.{slice_get-map, slice_get_past, slice_get_within, get_or_from_slice_get}
 use Rattle.std.proofs.lemmas.List.{length-map}
 use Rattle.std.proofs.lemmas.Slice.Eq.{bytes_eq-Decides}
 use Rattle.std.specs.List.{list_any, position_from}
@@ -150,3 +150,13 @@ built_ins_found p h b =
     named_found p h (built_in p b) (name_of b)
     (ap (λ o. class_name o (slice_get built_in_names ((length p.classes + number_of b) - length p.classes))) (get-past p.classes (length p.classes + number_of b) (omega arith)) ∙
     ap (slice_get built_in_names) same ∙ built_in_name b)
+
+-- a class of the files has the name that its text has, any other that of the built-in one
+pub names_class : (p : LinkedProgram) (c : ClassId) (classes : List Class) (class : Class) (name : List ℕ) → classes ≡ p.classes → slice_get classes c.number ≡ Some class → name ≡ class.name → Some name ≡ name_at p c
+names_class p c classes class name same at named =
+    ap Some named ∙ sym (ap (λ (o : Option Class). class_name o (slice_get built_in_names (c.number - length p.classes))) (ap (λ (xs : List Class). slice_get xs c.number) (sym same) ∙ at))
+
+pub names_built_in : (p : LinkedProgram) (c : ClassId) (classes : List Class) (n : ℕ) (name : Option (List ℕ)) → classes ≡ p.classes → n ≡ length classes → length classes ≤ c.number → name ≡ slice_get built_in_names (c.number - n) → name ≡ name_at p c
+names_built_in p c classes n name same count past named =
+    named ∙ ap (λ k. slice_get built_in_names (c.number - k)) (count ∙ ap length same) ∙
+    sym (ap (λ (o : Option Class). class_name o (slice_get built_in_names (c.number - length p.classes))) (slice_get_past p.classes c.number (subst (λ (xs : List Class). length xs ≤ c.number) same past)))

@@ -1,12 +1,14 @@
 -- Sets of classes: each once, with a mark at its number.
 use Rattle.std.proofs.Common.{◌≡◌, ℕ, zero, suc, ◌<◌, ◌≤◌, Bool, true, false, inl, inr, Option, Some, None, List, [], ◌∷◌, ◌++◌, length, slice_get, slice_index_or, slice_set, refl, sym, ap, subst, ◌∙◌, arith, append-nil, append_assoc}
-use Rattle.std.specs.Prelude.{◌||◌, IfSome}
+use Rattle.std.specs.Prelude.{◌||◌, if◌then◌else◌, IfSome}
 use Rattle.std.proofs.lemmas.Bool.{cases_Bool, eqb-true, eq-eqb, true≢false}
+use Rattle.std.proofs.lemmas.List.{map-append}
 use Rattle.std.proofs.lemmas.List.Folds.{list_any-append}
 use Rattle.std.specs.List.{AllByRecursion, IsDistinct, list_any}
 use Rattle.std.specs.Cmp.{nat_eq_equiv}
 use Rattle.hierarchy.specs.declared.class.ClassId.{ClassId}
 use Rattle.hierarchy.specs.ClassLists.{Among, first, later, is_among, add_new, add_all, distinct, same_class}
+use Rattle.hierarchy.specs.ClassNumbers.{ids}
 use Rattle.hierarchy.specs.LinkedProgram.{id}
 use Rattle.hierarchy.proofs.ClassMembership.{same_class-true, true_from_among}
 use Rattle.hierarchy.proofs.Positions.{Some_same}
@@ -53,6 +55,10 @@ or_true false = refl
 or_none : (b : Bool) → b || (false || false) ≡ b
 or_none true = refl
 or_none false = refl
+
+pub added : (numbers next : List ℕ) (n : ℕ) (now : List ClassId) (c : ClassId) → next ≡ numbers ++ n ∷ [] → n ≡ c.number → ids numbers ≡ now → is_among c now ≡ false → ids next ≡ add_new now c
+added numbers next n now c pushed same view absent =
+    ap ids pushed ∙ map-append id numbers (n ∷ []) ∙ ap (λ m. ids numbers ++ id m ∷ []) same ∙ ap (λ xs. xs ++ c ∷ []) view ∙ sym (ap (λ t. if t then now else now ++ c ∷ []) absent)
 
 -- one class more, with its mark
 pub marked_more : (marks : List Bool) (xs : List ClassId) (x : ClassId) → ((n : ℕ) → is_marked marks n ≡ is_among (id n) xs) → x.number < length marks → (n : ℕ) → is_marked (slice_set marks x.number true) n ≡ is_among (id n) (xs ++ x ∷ [])

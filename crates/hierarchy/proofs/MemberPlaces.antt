@@ -20,6 +20,9 @@ use Rattle.hierarchy.proofs.MemberOrder.{key_total, place_total, one_key}
 use Rattle.hierarchy.proofs.DistinctMembers.{not_repeated}
 use Rattle.hierarchy.proofs.Positions.{Some_same}
 
+pub next_places : (n : ℕ) → places_below (n + 1) ≡ places_below n ++ n ∷ []
+next_places n = let more : n + 1 ≡ suc n = omega arith in ap places_below more
+
 or_none : (a b : Bool) → a ≡ false → b ≡ false → a || b ≡ false
 or_none a b e f = rw (e, f) refl
 

@@ -1,10 +1,10 @@
 -- Names noted in file order, and the first that is repeated.
 use Rattle.std.proofs.Common.{◌≡◌, ℕ, zero, suc, ◌<◌, ◌+◌, inl, inr, false, cond, List, [], ◌∷◌, ◌++◌, length, take, get_or, sym, ap, subst, ◌∙◌, arith}
 use Rattle.std.proofs.lemmas.Bool.{cases_lt}
-use Rattle.std.proofs.lemmas.List.{take_more, length-map}
+use Rattle.std.proofs.lemmas.List.{map-append, take_more, length-map}
 use Rattle.jasmin_text.specs.declared.class_text.ClassParts.{ClassParts}
 use Rattle.texts.specs.Texts.{has_text, note_text}
-use Rattle.hierarchy.specs.Linking.{names_of, IsRepeated}
+use Rattle.hierarchy.specs.Linking.{kinds_of, names_of, IsRepeated}
 
 -- the name at a place
 pub name_at : (texts : List ClassParts) (i : ℕ) (t : ClassParts) → i < length texts → t ≡ get_or texts i t → get_or (names_of texts) i [] ≡ t.name
@@ -26,3 +26,6 @@ pub names_more : (texts : List ClassParts) (names next : List (List ℕ)) (i : �
 names_more texts names next i t h e n r m =
     let l : i < length (names_of texts) = simp length-map h in
     m ∙ ap (λ b. cond b names (names ++ t.name ∷ [])) r ∙ ap (λ r. r ++ t.name ∷ []) n ∙ sym (take_more (names_of texts) i [] l ∙ ap (λ z. take i (names_of texts) ++ z ∷ []) (name_at texts i t h e))
+
+pub next_kinds : (texts : List ClassParts) (i : ℕ) (t : ClassParts) → i < length texts → t ≡ get_or texts i t → kinds_of (take (i + 1) texts) ≡ kinds_of (take i texts) ++ t.kind ∷ []
+next_kinds texts i t h e = ap kinds_of (take_more texts i t h) ∙ map-append (λ (x : ClassParts). x.kind) (take i texts) (get_or texts i t ∷ []) ∙ ap (λ (x : ClassParts). kinds_of (take i texts) ++ x.kind ∷ []) (sym e)

@@ -4,7 +4,7 @@ use Rattle.std.specs.List.{IsDistinct}
 use Rattle.hierarchy.specs.ClassLists.{is_among, same_class}
 use Rattle.hierarchy.specs.ClassNumbers.{ids}
 use Rattle.hierarchy.specs.LinkedProgram.{id}
-use Rattle.hierarchy.proofs.ClassSets.{distinct_pushed, marked_more}
+use Rattle.hierarchy.proofs.ClassSets.{added, distinct_pushed, marked_more}
 use Rattle.hierarchy.proofs.class_set.ClassSet.add.Goals as goal
 
 pub invariant_of-self-2 : goal.invariant_of-self-2
@@ -19,3 +19,6 @@ invariant_of-self-2 c =
       once = subst (IsDistinct same_class) (sym pushed) (distinct_pushed all c.args.id c.self.invariant.once absent);
       marked = λ n. marked_more c.make_room.new.marks.items all c.args.id (λ m. c.in_ok-make_room.ensures.same m ∙ c.self.invariant.marked m) c.in_ok-make_room.ensures.room n ∙ ap (is_among (id n)) (sym pushed);
     }
+
+pub returns-clause-added : goal.returns-clause-added
+returns-clause-added c = added c.self.inside.numbers.items c.push.new.self.items c.in-Ok.number c.args.self.now c.args.id c.in_ok-push.ensures.items (omega (arith, c.in-Ok.ensures)) c.self.view_is (sym c.contains.ensures ∙ c.if-contains.false)
