@@ -1,9 +1,10 @@
 //! What is looked at where a method ends.
 
-ghost use Rattle.std.specs.Prelude.{◌≡◌};
+ghost use Rattle.std.specs.Prelude.{◌≡◌, Result, List, ℕ};
+ghost use Rattle.jasmin_words.specs.declared.fault.FaultKind.{FaultKind};
 ghost use Rattle.sequence.specs.Gives.{Gives};
 ghost use Rattle.jasmin_text.specs.declared.instruction.Instruction.TheVariants as instructions;
-ghost use Rattle.jasmin_reader.specs.Bodies.{placed_label, placed_labels, placed_cases, placed, all_placed, handler_of, placed_catch, placed_catches, body_of, method_with, closed};
+ghost use Rattle.jasmin_reader.specs.Bodies.{placed_label, placed_labels, placed_cases, placed, each, handler_of, placed_catch, body_of, method_with, closed};
 
 use crate::body::{Body, Catch};
 use crate::labels::Labels;
@@ -93,50 +94,48 @@ fn lookup_with_places(
     Ok(Instruction::LookupSwitch(targets, place(labels, &label)?))
 }
 
-/// An instruction with places for its labels.
-#[tactic(auto, unfolding(crate::specs::Bodies::placed))]
-fn with_places(
-    alloc: Global,
-    labels: &Labels,
-    instruction: Instruction<Text>,
-) -> Result<Instruction<u16>, LineError>
-    ensures { Gives (λ x. x) result (placed labels.now instruction) }
-{
-    match instruction {
-        Instruction::Plain(plain) => Ok(Instruction::Plain(plain)),
-        Instruction::Constant(constant) => Ok(Instruction::Constant(constant)),
-        Instruction::Local(local, number) => Ok(Instruction::Local(local, number)),
-        Instruction::Increment(number, by) => Ok(Instruction::Increment(number, by)),
-        Instruction::Jump(jump, label) => jump_with_place(labels, jump, label),
-        Instruction::TableSwitch(low, names, label) => {
-            table_with_places(alloc, labels, low, names, label)
-        }
-        Instruction::LookupSwitch(names, label) => {
-            lookup_with_places(alloc, labels, names, label)
-        }
-        Instruction::Field(access, field) => Ok(Instruction::Field(access, field)),
-        Instruction::Call(call, method) => Ok(Instruction::Call(call, method)),
-        Instruction::CallInterface(method) => Ok(Instruction::CallInterface(method)),
-        Instruction::New(name) => Ok(Instruction::New(name)),
-        Instruction::NewArray(base) => Ok(Instruction::NewArray(base)),
-        Instruction::TypeUse(use_of, class) => Ok(Instruction::TypeUse(use_of, class)),
-    }
+/// What has labels and gets places for them where its method ends.
+trait HasLabels: Drop {
+    /// The same with places.
+    type Placed: Drop;
+
+    /// It with the places of its labels, or the fault of a label that is nowhere.
+    ghost placed: { List (List ℕ × ℕ) → Self → Result Self.Placed FaultKind };
+
+    /// The same with places for its labels.
+    fn with_places(self, alloc: Global, labels: &Labels) -> Result<Self::Placed, LineError>
+        ensures { Gives (λ x. x) result (placed labels.now self) };
 }
 
-/// All instructions with places for their labels.
-#[tactic(auto, unfolding(crate::specs::Bodies::each), using(crate::proofs::Gathered::gathering))]
-fn all_with_places(
-    alloc: Global,
-    labels: &Labels,
-    instructions: Vec<Instruction<Text>>,
-) -> Result<Sequence<Instruction<u16>>, LineError>
-    ensures { Gives (λ x. x) result (all_placed labels.now instructions.items) }
-{
-    let mut all = Sequence::from_vec(Vec::with_capacity(alloc, instructions.len())?);
-    for instruction in instructions {
-        all.push(with_places(alloc, labels, instruction)?)?;
+impl HasLabels for Instruction<Text> {
+    ghost use Rattle.jasmin_reader.specs.Bodies.{placed};
+
+    type Placed = Instruction<u16>;
+
+    ghost placed = { placed };
+
+    #[tactic(auto, unfolding(crate::specs::Bodies::placed))]
+    fn with_places(self, alloc: Global, labels: &Labels) -> Result<Instruction<u16>, LineError> {
+        match self {
+            Instruction::Plain(plain) => Ok(Instruction::Plain(plain)),
+            Instruction::Constant(constant) => Ok(Instruction::Constant(constant)),
+            Instruction::Local(local, number) => Ok(Instruction::Local(local, number)),
+            Instruction::Increment(number, by) => Ok(Instruction::Increment(number, by)),
+            Instruction::Jump(jump, label) => jump_with_place(labels, jump, label),
+            Instruction::TableSwitch(low, names, label) => {
+                table_with_places(alloc, labels, low, names, label)
+            }
+            Instruction::LookupSwitch(names, label) => {
+                lookup_with_places(alloc, labels, names, label)
+            }
+            Instruction::Field(access, field) => Ok(Instruction::Field(access, field)),
+            Instruction::Call(call, method) => Ok(Instruction::Call(call, method)),
+            Instruction::CallInterface(method) => Ok(Instruction::CallInterface(method)),
+            Instruction::New(name) => Ok(Instruction::New(name)),
+            Instruction::NewArray(base) => Ok(Instruction::NewArray(base)),
+            Instruction::TypeUse(use_of, class) => Ok(Instruction::TypeUse(use_of, class)),
+        }
     }
-    Ok(all)
 }
 
 /// The places of the beginning, the end and the handler of a row of the handler table.
@@ -150,31 +149,36 @@ fn row_places(labels: &Labels, row: &Catch) -> Result<(u16, u16, u16), LineError
     Ok((from, to, handler))
 }
 
-/// A row of the handler table with places for its labels.
-fn handler(labels: &Labels, row: Catch) -> Result<Handler, LineError>
-    ensures { Gives (λ x. x) result (placed_catch labels.now row) }
-{
-    let (from, to, handler) = row_places(labels, &row)?;
-    Ok(Handler {
-        from,
-        to,
-        handler,
-        class: row.class,
-    })
+impl HasLabels for Catch {
+    ghost use Rattle.jasmin_reader.specs.Bodies.{placed_catch};
+
+    type Placed = Handler;
+
+    ghost placed = { placed_catch };
+
+    fn with_places(self, _alloc: Global, labels: &Labels) -> Result<Handler, LineError> {
+        let (from, to, handler) = row_places(labels, &self)?;
+        Ok(Handler {
+            from,
+            to,
+            handler,
+            class: self.class,
+        })
+    }
 }
 
-/// The handler table with places for its labels.
+/// Each with places for its labels.
 #[tactic(auto, unfolding(crate::specs::Bodies::each), using(crate::proofs::Gathered::gathering))]
-fn handlers(
+fn all_with_places<T: HasLabels>(
     alloc: Global,
     labels: &Labels,
-    rows: Vec<Catch>,
-) -> Result<Sequence<Handler>, LineError>
-    ensures { Gives (λ x. x) result (placed_catches labels.now rows.items) }
+    items: Vec<T>,
+) -> Result<Sequence<T::Placed>, LineError>
+    ensures { Gives (λ x. x) result (each (T.placed labels.now) items.items) }
 {
-    let mut all = Sequence::from_vec(Vec::with_capacity(alloc, rows.len())?);
-    for row in rows {
-        all.push(handler(labels, row)?)?;
+    let mut all = Sequence::from_vec(Vec::with_capacity(alloc, items.len())?);
+    for item in items {
+        all.push(item.with_places(alloc, labels)?)?;
     }
     Ok(all)
 }
@@ -193,7 +197,7 @@ impl Body {
         let instructions = self.listing.take_instructions(alloc);
         let instructions = all_with_places(alloc, &self.labels, instructions)?;
         let catches = replace(&mut self.catches, Sequence::new(alloc));
-        let handlers = handlers(alloc, &self.labels, catches.into_vec())?;
+        let handlers = all_with_places(alloc, &self.labels, catches.into_vec())?;
         if !self.access.is_abstract && has_instructions {
             Ok(Some(Code {
                 stack: self.stack,

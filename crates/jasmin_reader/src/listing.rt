@@ -135,7 +135,7 @@ fn table_end(alloc: Global, table: &Table, rest: &[Token<'_>]) -> Result<Listed,
     ensures { Gives listed_row result (table_end_of table.now (views rest.now)) }
 {
     full(table)?;
-    Ok(Listed::Default(last_operand::<Text>(alloc, rest)?))
+    last_operand::<Text>(alloc, rest).map(Listed::Default)
 }
 
 /// The last line of a `lookupswitch`, behind `default`.
@@ -144,7 +144,7 @@ fn lookup_end(alloc: Global, rest: &[Token<'_>]) -> Result<Listed, LineError>
     ensures { Gives listed_row result (lookup_end_of (views rest.now)) }
 {
     let after = colon(rest)?;
-    Ok(Listed::Default(last_operand::<Text>(alloc, after)?))
+    last_operand::<Text>(alloc, after).map(Listed::Default)
 }
 
 impl Listing {

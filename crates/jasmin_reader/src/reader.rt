@@ -169,8 +169,8 @@ impl Reader {
         match said {
             Said::Class(named) => self.class = Some(named),
             Said::Super(name) => self.superclass = Some(name),
-            Said::Implements(name) => self.interfaces.push(name)?,
-            Said::Field(field) => self.fields.push(field)?,
+            Said::Implements(name) => return self.interfaces.push(name),
+            Said::Field(field) => return self.fields.push(field),
             Said::Method(head) => drop(self.body.replace(opened(alloc, head))),
             Said::Stack(count) => {
                 if let Some(body) = &mut self.body {
@@ -184,7 +184,7 @@ impl Reader {
             }
             Said::Catch(row) => {
                 if let Some(body) = &mut self.body {
-                    body.catches.push(row)?;
+                    return body.catches.push(row);
                 }
             }
         }
