@@ -1,0 +1,12 @@
+use Rattle.std.proofs.Common.{arith}
+use Rattle.std.proofs.lemmas.Grind.{common_steps}
+use Rattle.jasmin_reader.specs.Heads.{named_from}
+use Rattle.jasmin_reader.proofs.head.read_name.Goals as goal
+
+pub returns-then-not-name_follows : goal.returns-then-not-name_follows
+unfolding named_from
+returns-then-not-name_follows c = grind (arith, common_steps)
+
+pub loop-rest-preserved : goal.loop-rest-preserved
+unfolding named_from
+loop-rest-preserved c = grind (arith, common_steps)
