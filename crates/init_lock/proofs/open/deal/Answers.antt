@@ -1,10 +1,22 @@
-use Rattle.std.proofs.Common.{[], ◌∷◌, ◌++◌, map, refl, sym, ap, ◌∙◌, subst, arith}
+use Rattle.std.proofs.Common.{◌≡◌, ◌-◌, [], ◌∷◌, ◌++◌, map, refl, sym, ap, ◌∙◌, subst, arith}
 use Rattle.std.specs.List.{AllByRecursion}
+use Rattle.init_lock.specs.Rule.{newcomers}
 use Rattle.init_lock.specs.Known.{IsNewPass}
+use Rattle.init_lock.specs.Closing.{numbers}
 use Rattle.init_lock.proofs.Lists.{map_snoc}
 use Rattle.init_lock.proofs.Ends.{splits, deal_one, numbers_snoc, all_snoc}
 use Rattle.init_lock.proofs.Passes.{new_holds, is_new}
 use Rattle.init_lock.proofs.open.deal.Goals as goal
+
+pub loop-number-init : goal.loop-number-init
+loop-number-init g c =
+    let none = c.new-passes.ensures.items in
+    let all : c.args.threads ≡ c.args.threads - 0 = omega arith in (
+      refl,
+      c.requires.seat ∙ ap (λ n. (newcomers 0 n c.args.shared.now.key.records.value.items, [])) all,
+      ap (λ z. map (λ p. p.number) z) none,
+      subst (λ z. AllByRecursion (IsNewPass c.args.shared.now.table_id c.args.shared.now.key.records.value.items) z) (sym none) tt,
+    )
 
 pub split_seat-own-requires : goal.split_seat-own-requires
 split_seat-own-requires g c = let i = c.loop-number.invariant in (i.0 ∙ c.requires.table.0, c.requires.table.1, splits g.R.Keeps.kept g.R.Keeps.may_draw g.R.Keeps.follows g.R.Keeps.settles _ _ _)
@@ -34,3 +46,10 @@ loop-number-preserved g c =
           (all_snoc (IsNewPass c.args.shared.now.table_id rs) c.loop-number.passes.items _ i.3
           (is_new c.args.shared.now.table_id rs _ c.split_seat-own.result.me c.loop-number.number e (s.3 ∙ (i.0 ∙ c.requires.table.0)) (ap (λ j. j.events) c.new-in-loop-number.ensures ∙ c.new.ensures.events) (ap (λ j. j.room) c.new-in-loop-number.ensures ∙ c.new.ensures.room) refl refl refl)),
     )
+
+pub returns-clause-numbers : goal.returns-clause-numbers
+returns-clause-numbers g c =
+    let most = c.loop-number.auto.number-end in
+    let least = c.loop-number-test.false in
+    let all : c.loop-number.number ≡ c.args.threads = omega arith in
+    c.loop-number.invariant.2 ∙ ap (numbers 0) all

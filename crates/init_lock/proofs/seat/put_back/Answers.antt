@@ -1,10 +1,16 @@
-use Rattle.std.proofs.Common.{rules, Some, None, ◌∙◌}
+use Rattle.std.proofs.Common.{rules, ◌∷◌, Some, None, ap, sym, ◌∙◌}
+use Rattle.atomic_table.specs.Table.{rest}
 use Rattle.init_lock.specs.Steps.{slots_of, without}
 use Rattle.init_lock.proofs.Seats.{free_allowed, freed, swapped}
 use Rattle.init_lock.proofs.seat.put_back.Goals as goal
 
 pub fetch-requires-clause-out : goal.fetch-requires-clause-out
 fetch-requires-clause-out g c = c.requires.held.has
+
+pub exchange-empty-requires : goal.exchange-empty-requires
+exchange-empty-requires g c =
+    let fetched = c.fetch.ensures.fetched in
+    (c.fetch.ensures.table.0 ∙ c.requires.table, (None, ap (λ z. z.1) fetched ∙ ap (λ z. (c.args.place, None) ∷ z) (sym (ap (λ z. rest z.1) fetched))))
 
 pub store-requires : goal.store-requires
 store-requires g c =
