@@ -7,6 +7,7 @@ use Rattle.hierarchy.specs.LinkedProgram.{LinkedProgram, built_in}
 use Rattle.init_core.specs.declared.event.Decision.{Decision}
 use Rattle.init_core.specs.declared.event.Decision.TheVariants as decision
 use Rattle.init_core.specs.declared.event.Event.{Event}
+use Rattle.init_core.specs.declared.event.Kind.{Kind}
 use Rattle.init_core.specs.declared.event.Kind.TheVariants as kind
 use Rattle.init_core.specs.declared.event.Label.{Label}
 use Rattle.init_core.specs.declared.event.Label.TheVariants.{InProgress}
@@ -75,6 +76,14 @@ ending_allowed (ending.Fails x) e = e
 
 stays : (p : LinkedProgram) (t : ℕ) {s z : Standing} {made : List Event} → Advances p t s (answer.Decided (decision.Waits false)) made z → s.last ≡ None → z ≡ s
 stays p t (still_step_2 {c = c} {fs = fs} {waited = w}) e = ap (λ (o : Option Completed). standing (frame c (Looking w) ∷ fs) o) (sym e)
+
+-- what a record was given is what is drawn
+pub keeps_drawn : {p : LinkedProgram} {c : ClassId} {x y : View} {h : HeldFacts Guarded} → Took p c x y h → (found : History) → found ≡ h.kept.record → (after : List Event) (t : ℕ) (j : Kind) (e : Event) → after ≡ found.events ++ event t found.class j ∷ [] → e ≡ event t c j →
+    after ≡ seen_at h.place y.places ++ e ∷ []
+keeps_drawn {c = c} {y = y} {h = h} took found kept after t j e more is =
+    let before : found.events ≡ seen_at h.place y.places = ap (λ (r : History). r.events) kept ∙ sym (ap (λ n. seen_at n y.places) took.place ∙ took.seen) in
+    let given : event t found.class j ≡ e = ap (λ (d : ClassId). event t d j) (ap (λ (r : History). r.class) kept ∙ took.class) ∙ sym is in
+    more ∙ (ap (λ (es : List Event). es ++ event t found.class j ∷ []) before ∙ ap (λ (z : Event). seen_at h.place y.places ++ z ∷ []) given)
 
 module _ {S : Type 0} (M : Making S) (k : TaskFacts S) where
   -- the machine doesn't end a thread that looks

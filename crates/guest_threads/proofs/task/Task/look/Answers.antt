@@ -1,12 +1,12 @@
 use Rattle.std.proofs.Common.{◌-◌, length, refl, sym, subst, ap, ◌∙◌, ◌++◌, ◌∷◌, [], List, append-nil, arith}
 use Rattle.init_core.specs.declared.event.Event.{Event}
 use Rattle.init_core.specs.declared.event.Kind.{Kind}
-use Rattle.init_core.specs.Decisions.{event}
+use Rattle.init_core.specs.Decisions.{event, kind_of}
 use Rattle.init_core.specs.Standing.{Standing}
 use Rattle.guest_threads.specs.declared.guarded.Guarded.{Guarded}
 use Rattle.guest_threads.specs.Working.{Working, drawn}
 use Rattle.bodies.proofs.Asking.{looks_at, in_files}
-use Rattle.guest_threads.proofs.Telling.{look_waits, looked, looked_again, untouched, entered_once, entered_none}
+use Rattle.guest_threads.proofs.Telling.{keeps_drawn, look_waits, looked, looked_again, untouched, entered_once, entered_none}
 use Rattle.guest_threads.proofs.Viewing.{working_at}
 use Rattle.guest_threads.proofs.task.Task.look.Goals as goal
 
@@ -30,6 +30,13 @@ returns-then-waits_again-clause-working g c = working_at g.B.Bodies.making c.sel
     c.requires.next took.place took (ap (λ (x : Guarded). x.record) c.kept.ensures.record) e.decision e.standing e.events c.give_back_asleep.ensures.back
     (ap drawn c.give_back_asleep.ensures.journal ∙ (sym (append-nil (drawn c.take_record-taken.new.pass.journal)) ∙ ap (λ (es : List Event). drawn c.take_record-taken.new.pass.journal ++ es) (sym none)))
     (λ few. let n = ap length none in let r = (working_at g.B.Bodies.making (sym c.self.view_is) c.requires.working).room in let s = took.room in let t = c.give_back_asleep.ensures.room in omega arith) (working_at g.B.Bodies.making (sym c.self.view_is) c.requires.working))
+
+pub give_back_with-requires-clause-keeps : goal.give_back_with-requires-clause-keeps
+give_back_with-requires-clause-keeps g c =
+    let found = c.kept.result.now.record in
+    let once = entered_once c.self.inside.number found.class c.in-Ok-told.decision (c.if-waits_again.ensures.no refl) in
+    keeps_drawn c.in-Ok.ensures.took found (ap (λ (x : Guarded). x.record) c.kept.ensures.record) c.look_at-told.new.class_record.events c.self.inside.number (kind_of c.in-Ok-told.decision) c.new-event.result
+    (c.in-Ok-told.ensures.events ∙ ap (λ (es : List Event). found.events ++ es) once) (c.new-event.ensures ∙ ap (λ (j : Kind). event c.self.inside.number c.args.class j) c.kind.ensures)
 
 pub returns-clause-working : goal.returns-clause-working
 returns-clause-working g c = working_at g.B.Bodies.making c.self.view_is (let took = c.in-Ok.ensures.took in

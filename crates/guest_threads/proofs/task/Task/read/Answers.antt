@@ -8,7 +8,7 @@ use Rattle.bodies.specs.declared.does.Does.TheVariants as does
 use Rattle.guest_threads.specs.declared.guarded.Guarded.{Guarded}
 use Rattle.guest_threads.specs.Working.{drawn}
 use Rattle.guest_threads.proofs.Acting.{may_use_found, still_doing, has_come_on, read_was_made, range_of_last}
-use Rattle.guest_threads.proofs.Telling.{untouched}
+use Rattle.guest_threads.proofs.Telling.{keeps_drawn, untouched}
 use Rattle.guest_threads.proofs.Viewing.{come_at, doing_at, working_at}
 use Rattle.guest_threads.proofs.task.Task.read.Goals as goal
 
@@ -26,6 +26,9 @@ leave_at-requires-clause-come g c = come_at g.B.Bodies.making c.self.view_is (le
 
 pub new-event-requires-clause-kind : goal.new-event-requires-clause-kind
 new-event-requires-clause-kind g c = range_of_last _ c.kept.result.now.record.events (event c.self.inside.number _ (kind.Gets c.args.field c.in-Ok-read.value)) c.read_static-read.new.self.events c.in-Ok-read.ensures.events c.is_lawful.ensures.numbers
+
+pub give_back_with-requires-clause-keeps : goal.give_back_with-requires-clause-keeps
+give_back_with-requires-clause-keeps g c = keeps_drawn c.in-Ok.ensures.took c.kept.result.now.record (ap (λ (x : Guarded). x.record) c.kept.ensures.record) c.read_static-read.new.self.events c.self.inside.number (kind.Gets c.args.field c.in-Ok-read.value) c.new-event.result c.in-Ok-read.ensures.events c.new-event.ensures
 
 pub returns : goal.returns
 returns g c = working_at g.B.Bodies.making c.self.view_is (read_was_made (g.B.Bodies.making c.self.inside.program.now) (record { program = c.self.inside.program.now; table = c.self.inside.table.now; limits = c.self.inside.limits; number = c.self.inside.number; main = c.self.inside.main; start = c.self.inside.start.value }) c.args.work.now c.forget_last.new.self c.get.new.self c.args.class c.args.field c.in-Ok-read.value c.take_record-taken.new.pass c.give_back_with.new.pass c.in-Ok.held c.in-Ok.held.place c.kept.result.now.record c.read_static-read.new.self.events (doing_at g.B.Bodies.making (sym c.self.view_is) c.requires.doing) c.in-Ok.ensures.took
