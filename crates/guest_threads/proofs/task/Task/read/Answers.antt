@@ -4,6 +4,7 @@ use Rattle.init_core.specs.declared.event.Kind.TheVariants as kind
 use Rattle.init_core.specs.Decisions.{event}
 use Rattle.init_core.specs.Label.{label_of}
 use Rattle.init_core.specs.Lawful.{MayUse}
+use Rattle.bodies.specs.Writes.{WritesHeld}
 use Rattle.bodies.specs.declared.does.Does.TheVariants as does
 use Rattle.guest_threads.specs.declared.guarded.Guarded.{Guarded}
 use Rattle.guest_threads.specs.Working.{drawn}
@@ -29,6 +30,9 @@ new-event-requires-clause-kind g c = range_of_last _ c.kept.result.now.record.ev
 
 pub give_back_with-requires-clause-keeps : goal.give_back_with-requires-clause-keeps
 give_back_with-requires-clause-keeps g c = keeps_drawn c.in-Ok.ensures.took c.kept.result.now.record (ap (λ (x : Guarded). x.record) c.kept.ensures.record) c.read_static-read.new.self.events c.self.inside.number (kind.Gets c.args.field c.in-Ok-read.value) c.new-event.result c.in-Ok-read.ensures.events c.new-event.ensures
+
+pub give_back_with-requires-clause-writes : goal.give_back_with-requires-clause-writes
+give_back_with-requires-clause-writes g c = subst (WritesHeld c.in-Ok.held.taken.record.fields) (sym c.new-event.ensures) tt
 
 pub returns : goal.returns
 returns g c = working_at g.B.Bodies.making c.self.view_is (read_was_made (g.B.Bodies.making c.self.inside.program.now) (record { program = c.self.inside.program.now; table = c.self.inside.table.now; limits = c.self.inside.limits; number = c.self.inside.number; main = c.self.inside.main; start = c.self.inside.start.value }) c.args.work.now c.forget_last.new.self c.get.new.self c.args.class c.args.field c.in-Ok-read.value c.take_record-taken.new.pass c.give_back_with.new.pass c.in-Ok.held c.in-Ok.held.place c.kept.result.now.record c.read_static-read.new.self.events (doing_at g.B.Bodies.making (sym c.self.view_is) c.requires.doing) c.in-Ok.ensures.took
