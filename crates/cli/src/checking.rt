@@ -1,6 +1,6 @@
 //! From files by name to the verdict on a trace.
 
-ghost use Rattle.std.specs.Prelude.{◌≡◌, ◌≤◌, None, IfErr, IfOk, length};
+ghost use Rattle.std.specs.Prelude.{◌≡◌, ◌≤◌, ℕ, List, None, IfErr, IfOk, length};
 ghost use Rattle.sequence.specs.Written.{Adds};
 ghost use Rattle.clap.specs.Walk.{texts};
 ghost use Rattle.judge.specs.Verdicts.{IsVerdict};
@@ -165,6 +165,22 @@ fn write_verdict(out: &mut Writer, verdict: Verdict)
     }
 }
 
+/// Writes the words that say what is illegal ([`explain`]).
+fn write_reason(alloc: Global, out: &mut Writer, judged: &Judged)
+    ensures { (words : List ℕ) × Adds out.old words out.new }
+{
+    let Judged {
+        program,
+        mains,
+        events,
+        verdict,
+    } = judged;
+    match explain(alloc, program, mains, events, *verdict) {
+        Ok(words) => out.push(&words),
+        Err(_) => out.lose(),
+    }
+}
+
 /// The line of the verdict, `legal` or `illegal at <n>: <rule>`, and where `explains` is set further lines that say in words
 /// what is illegal ([`explain`]).
 ///
@@ -175,16 +191,7 @@ pub fn write_judged(alloc: Global, judged: &Judged, explains: bool) -> Result<Ve
     let mut text = Writer::new(alloc);
     write_verdict(&mut text, judged.verdict);
     if explains {
-        let Judged {
-            program,
-            mains,
-            events,
-            verdict,
-        } = judged;
-        match explain(alloc, program, mains, events, *verdict) {
-            Ok(words) => text.push(&words),
-            Err(_) => text.lose(),
-        }
+        write_reason(alloc, &mut text, judged);
     }
     text.into_text()
 }

@@ -8,6 +8,7 @@ ghost use Rattle.clap.specs.declared.error.kind.ErrorKind.TheVariants.{DisplayHe
 ghost use Rattle.trace.specs.TraceText.{trace_of};
 ghost use Rattle.cli.specs.Checking.{IsCheckRefusal};
 ghost use Rattle.cli.specs.CommandLine.{check_words_of, request_in, request_of, run_words_of, text_of};
+ghost use Rattle.cli.specs.FaultText.{fault_line};
 ghost use Rattle.cli.specs.Files.{FileHolds, IsLinkedFrom, KeepsAllBut};
 ghost use Rattle.cli.specs.Limits.{AreLimits};
 ghost use Rattle.cli.specs.NeedsText.{needs_text};
@@ -324,6 +325,17 @@ fn tell_words<O: io::Write, E: io::Write>(error: &clap::Error, out: &mut O, err:
     }
 }
 
+/// Tells of the fault, and answers the exit status.
+fn tell_fault<E: io::Write>(fault: &Fault<'_>, err: &mut E) -> u8
+    ensures status { (2 ≤ result) × IsStatus result }
+    ensures told { result ≡ 2 → (status_of fault.now ≡ 2) × Appends (E.contents err.old) (E.contents err.new) (fault_line fault.now) }
+{
+    if fault.tell(err).is_err() {
+        return 3;
+    }
+    fault.status()
+}
+
 /// Does what the words ask for, or tells why it isn't done, and answers the exit status.
 fn answer_or_tell<R: Threads + Wait + Sync, N: Named, O: io::Write, E: io::Write>(
     rt: &R,
@@ -343,12 +355,7 @@ fn answer_or_tell<R: Threads + Wait + Sync, N: Named, O: io::Write, E: io::Write
 {
     match answer(rt, alloc, asked, named, out, err) {
         Ok(status) => status,
-        Err(fault) => {
-            if fault.tell(err).is_err() {
-                return 3;
-            }
-            fault.status()
-        }
+        Err(fault) => tell_fault(&fault, err),
     }
 }
 
