@@ -2,8 +2,8 @@
 
 What has nearly the longest path of others after it leads. The other proofs and the tests run beside it at a lower priority, and edits
 at a still lower one. So each takes what those before it leave: no task has work for all processors all the time. A task has several
-jobs where it has much work, or where nothing else would use the processors: each job more takes some ten seconds of a processor's
-time for itself."""
+jobs where it has much work: each job more takes ten to forty seconds of a processor's time for itself, and a small crate isn't
+proved sooner by it."""
 import os
 from concurrent.futures import FIRST_COMPLETED, ThreadPoolExecutor, wait
 
@@ -44,7 +44,8 @@ def run(tasks, given, processors, memory, memory_for):
     says."""
     behind = paths(tasks)
     most_work = max((work for _, work, _ in tasks.values()), default=0)
-    lead, front, back = [Lanes(processors, it) for it in (LEAD, FRONT, BACK)]
+    # (several tasks may lead, each with several jobs)
+    lead, front, back = Lanes(2 * processors, LEAD), Lanes(processors, FRONT), Lanes(processors, BACK)
     left, running = [*tasks], {}
 
     def is_ready(key):
@@ -57,13 +58,12 @@ def run(tasks, given, processors, memory, memory_for):
 
     def jobs_for(key, lanes, ready):
         """How many jobs the task may use, where these want one on the same lanes."""
-        if lanes is back:
+        if lanes is back or 4 * tasks[key][1] < most_work:
             return 1
-        has_much = 3 * tasks[key][1] >= most_work
         if lanes is front:
-            return min(2 if has_much else 1, -(-lanes.idle // len(ready)))
+            return min(2, -(-lanes.idle // len(ready)))
         others = len(running) + len([it for it in left if is_ready(it)]) - 1
-        return max(processors - others, processors - 1 if has_much else 1, 1)
+        return max(processors - min(others, 1), 1)
 
     def start():
         """Starts what there is room for: first what gathers the results of a crate's edits, so that the crate is kept, then proofs

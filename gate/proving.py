@@ -106,22 +106,21 @@ class Gate:
                     if not tests:
                         gate.store.bring_back(self)
                     return 0
-                if self.is_program and not tests and not rt.edits_of(self)[0]:
-                    # (no edit starts from the work of its proof: the kit's script has each compiler take what one check proved)
-                    return super().ci(flags, tests)
                 os.makedirs(gate.kept(self), exist_ok=True)
+                if self.is_program and not tests:
+                    # (each compiler takes what one check proved, of which nothing is kept; a program's edits are few, and start from nothing)
+                    return super().ci(flags, tests)
                 words = [*self.words(flags, tests=tests, keeps=False), "--incremental", gate.kept(self)]
                 if not tests and self.makes_rlib():
                     shutil.rmtree(os.path.dirname(self.rlib), ignore_errors=True)
                     os.makedirs(os.path.dirname(self.rlib))
                     return self.prove(["build", *words, "-o", self.rlib])
                 words += ["--toolchain", f"{rt.KIT}/toolchain"]
-                to = f"out/{self.name}{'_tests' if tests else ''}"
+                to = f"out/{self.name}_tests"
                 status = self.prove(["build", *words, "--backend", "llvm", "-o", f"{to}.o"])
                 if status or not os.path.getsize(f"{self.folder}/{to}.o"):
                     return status
-                status = self.link(f"{to}.o", to)
-                return status if status or tests else self.compile_by("rattle", words, to)
+                return self.link(f"{to}.o", to)
 
         return Crate
 
