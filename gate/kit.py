@@ -39,8 +39,8 @@ def lines_of(rt, crate):
 
 
 def memory_for(jobs):
-    """The bytes that a check with so many jobs takes at most; measured."""
-    return 1_000_000_000 + jobs * 1_500_000_000
+    """The bytes that a check with so many jobs takes; measured: nearly all take less, and none much more."""
+    return 1_000_000_000 + jobs * 1_300_000_000
 
 
 def lanes(rt):

@@ -1,9 +1,9 @@
 """Tasks side by side, in the place of the kit's `in_lanes`.
 
 What has nearly the longest path of others after it leads. The other proofs and the tests run beside it at a lower priority, and edits
-at a still lower one. So each takes what those before it leave: no task has work for all processors all the time. A task has several
-jobs where it has much work: each job more takes ten to forty seconds of a processor's time for itself, and a small crate isn't
-proved sooner by it."""
+at a still lower one. So each takes what those before it leave: no task has work for all processors all the time. What leads has two
+jobs where it has much work, and all else one: several take the processors 15 to 50 % longer than one, and a small crate isn't proved
+sooner by them. Where processors would be idle there are more."""
 import os
 from concurrent.futures import FIRST_COMPLETED, ThreadPoolExecutor, wait
 
@@ -56,14 +56,12 @@ def run(tasks, given, processors, memory, memory_for):
             return back
         return lead if 5 * behind[key] >= 4 * max(behind[it] for it in tasks if it not in given) else front
 
-    def jobs_for(key, lanes, ready):
-        """How many jobs the task may use, where these want one on the same lanes."""
+    def jobs_for(key, lanes):
+        """How many jobs the task may use: more than it needs only where nothing else would use the processors."""
         if lanes is back or 4 * tasks[key][1] < most_work:
             return 1
-        if lanes is front:
-            return min(2, -(-lanes.idle // len(ready)))
         others = len(running) + len([it for it in left if is_ready(it)]) - 1
-        return max(processors - min(others, 1), 1)
+        return max(processors - others, 2 if lanes is lead else 1)
 
     def start():
         """Starts what there is room for: first what gathers the results of a crate's edits, so that the crate is kept, then proofs
@@ -71,8 +69,8 @@ def run(tasks, given, processors, memory, memory_for):
         left.sort(key=lambda it: (len(it) > 2, it[1] != "edits", -behind[it]))
         for lanes in lead, front, back:
             ready = [it for it in left if is_ready(it) and lanes_of(it) is lanes]
-            for at, key in enumerate(ready):
-                jobs = min(jobs_for(key, lanes, ready[at:]), lanes.idle)
+            for key in ready:
+                jobs = min(jobs_for(key, lanes), lanes.idle)
                 taken = sum(memory_for(it) for _, it, _ in running.values())
                 while jobs and running and taken + memory_for(jobs) > memory:
                     jobs -= 1

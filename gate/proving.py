@@ -1,8 +1,8 @@
 """The kit's own gate, `rt ci`, with each function proved once and the must-fail edits tried in batches.
 
 The kit's script is loaded, so that all that it refuses is refused here. It differs in three things:
-- A crate is proved over a folder that this run began empty, and its tests and its must-fail edits start from that
-  work. `rt ci` proves the crate again for each of the two.
+- A library is proved over a folder that this run began empty, and its must-fail edits start from that work. `rt ci` proves the
+  crate again for them.
 - Edits are tried in batches, and a crate's batches side by side (batches.py). One harmless edit stands beside those of
   its crate, and must come out as not refused.
 - What an earlier run in this checkout found of a crate is taken where all contents are the same (store.py)."""
@@ -90,7 +90,7 @@ class Gate:
         rt = gate.rt
 
         class Crate(rt.Crate):
-            """A crate whose proof, tests and edits share the work of this run."""
+            """A crate whose proof and edits share the work of this run."""
 
             def prove(self, *commands):
                 status = super().prove(*commands)
@@ -107,20 +107,14 @@ class Gate:
                         gate.store.bring_back(self)
                     return 0
                 os.makedirs(gate.kept(self), exist_ok=True)
-                if self.is_program and not tests:
-                    # (each compiler takes what one check proved, of which nothing is kept; a program's edits are few, and start from nothing)
+                if tests or self.is_program or not rt.edits_of(self)[0]:
+                    # (nothing is kept of these: with much work the prover goes over what it keeps in rounds, each of which loads the crates below
+                    # anew. A program's edits are few, and start from nothing)
                     return super().ci(flags, tests)
-                words = [*self.words(flags, tests=tests, keeps=False), "--incremental", gate.kept(self)]
-                if not tests and self.makes_rlib():
-                    shutil.rmtree(os.path.dirname(self.rlib), ignore_errors=True)
-                    os.makedirs(os.path.dirname(self.rlib))
-                    return self.prove(["build", *words, "-o", self.rlib])
-                words += ["--toolchain", f"{rt.KIT}/toolchain"]
-                to = f"out/{self.name}_tests"
-                status = self.prove(["build", *words, "--backend", "llvm", "-o", f"{to}.o"])
-                if status or not os.path.getsize(f"{self.folder}/{to}.o"):
-                    return status
-                return self.link(f"{to}.o", to)
+                words = [*self.words(flags, keeps=False), "--incremental", gate.kept(self)]
+                shutil.rmtree(os.path.dirname(self.rlib), ignore_errors=True)
+                os.makedirs(os.path.dirname(self.rlib))
+                return self.prove(["build", *words, "-o", self.rlib])
 
         return Crate
 
@@ -156,7 +150,7 @@ class Gate:
         return lambda given: [(kinds[bool(it)], text) for it, text in given[crate.name, "edits"][2]], dict
 
     def in_lanes(self, tasks):
-        """Has a crate's tests and edits wait for its proof, whose work they take, and tries its edits by several tasks."""
+        """Has a crate's edits wait for its proof, whose work they take, and tries them by several tasks."""
         made = {}
         for key, (waits, lines, _, call) in tasks.items():
             crate = self.crates[key[0]]
@@ -166,7 +160,7 @@ class Gate:
             if key == proof:
                 made[key] = waits, work, self.timed("proofs", key, call)
             elif key[1] == "tests":
-                made[key] = [*waits, proof], work if lines else 0, self.timed("tests", key, call)
+                made[key] = waits, work if lines else 0, self.timed("tests", key, call)
             else:
                 made.update(self.edit_tasks(crate, waits, lines))
         given = self.taken_at_once(made)

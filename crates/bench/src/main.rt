@@ -119,10 +119,10 @@ fn number_of(benchmark: &Benchmark, detail: &str) -> Option<usize> {
     }
 }
 
-// The benchmark of a name.
-fn named(name: &str) -> Option<&'static Benchmark> {
+// The benchmark of a name, of these.
+fn named<'a>(all: &'a [Benchmark], name: &str) -> Option<&'a Benchmark> {
     let mut found = None;
-    for benchmark in ALL {
+    for benchmark in all {
         if benchmark.name == name {
             found = Some(benchmark);
         }
@@ -134,8 +134,9 @@ fn named(name: &str) -> Option<&'static Benchmark> {
 fn try_all<R: Clock + Print + Threads + Wait + Sync>(
     rt: &R,
     alloc: Global,
+    all: &[Benchmark],
 ) -> Result<ExitCode, Failure> {
-    for benchmark in ALL {
+    for benchmark in all {
         try_out(rt, alloc, benchmark.rows)?;
     }
     println!(rt; "{USAGE}")?;
@@ -156,10 +157,11 @@ fn hold<R: Clock + Print + Threads + Wait + Sync>(
 fn print_all<R: Clock + Print + Eprint + Threads + Wait + Sync>(
     rt: &R,
     alloc: Global,
+    all: &[Benchmark],
     name: &str,
     detail: &str,
 ) -> Result<ExitCode, Failure> {
-    if let Some(benchmark) = named(name) {
+    if let Some(benchmark) = named(all, name) {
         if let Some(number) = number_of(benchmark, detail) {
             measure(rt, alloc, benchmark.rows, number)?;
             return Ok(ExitCode::SUCCESS);
@@ -174,15 +176,25 @@ fn words_of(rt: &HostRuntime) -> Result<Vec<String>, Failure> {
     Ok(env::args(rt)?.collect(rt.alloc())?)
 }
 
+// Does what the words ask for.
+fn answer<R: Clock + Print + Eprint + Threads + Wait + Sync>(
+    rt: &R,
+    alloc: Global,
+    all: &[Benchmark],
+    words: &[String],
+) -> Result<ExitCode, Failure> {
+    match words {
+        [] | [_] => try_all(rt, alloc, all),
+        [_, name, detail, ..] if name.as_str() == "threads" && detail.as_str() == "held" => {
+            hold(rt, alloc)
+        }
+        [_, name] => print_all(rt, alloc, all, name.as_str(), "all"),
+        [_, name, detail, ..] => print_all(rt, alloc, all, name.as_str(), detail.as_str()),
+    }
+}
+
+// (The benchmarks are named here alone: each function that names them all costs its proof.)
 fn main(rt: HostRuntime) -> Result<ExitCode, Failure> {
     let words = words_of(&rt)?;
-    match words.as_slice() {
-        [] | [_] => try_all(&rt, rt.alloc()),
-        [_, name, detail, ..] if name.as_str() == "threads" && detail.as_str() == "held" => hold(
-            &rt,
-            rt.alloc(),
-        ),
-        [_, name] => print_all(&rt, rt.alloc(), name.as_str(), "all"),
-        [_, name, detail, ..] => print_all(&rt, rt.alloc(), name.as_str(), detail.as_str()),
-    }
+    answer(&rt, rt.alloc(), ALL, &words)
 }
