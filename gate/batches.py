@@ -7,7 +7,6 @@ import re
 import shutil
 import subprocess
 import tempfile
-import time
 from collections import deque
 
 import calls
@@ -17,8 +16,8 @@ from tally import say
 # How many edits a batch has at most: with more, an edit that is refused slowly holds up many others.
 MOST = 24
 # How many functions that no edit changes a batch may have the prover look at again: each takes a second, a batch more some fifteen.
-BETWEEN = 8
-# An edit that takes more seconds than these to be refused is shown: another one of the same meaning may take less.
+BETWEEN = 12
+# An edit that takes more processor seconds than these to be refused is shown: another one of the same meaning may take less.
 SLOW = 10
 
 
@@ -80,20 +79,21 @@ class Edits:
             words = [*self.rt.rtlib.guarded(), self.rt.rtlib.RATTLE, "check", *self.crate.words(flags, keeps=False)]
             how = {"cwd": room, "stdin": subprocess.DEVNULL, "stdout": subprocess.PIPE, "stderr": subprocess.STDOUT, "errors": "replace"}
             with subprocess.Popen(words, **how) as ran:
-                judged = self.lines_up_to(functions, ran.stdout)
+                judged = self.lines_up_to(functions, ran)
                 ran.kill()
         return judged
 
-    def lines_up_to(self, functions, lines):
-        """The lines up to that on the last of these functions, and those functions that have none."""
+    def lines_up_to(self, functions, ran):
+        """The lines of a check up to that on the last of these functions, and those functions that have none."""
         left, said, before = {*functions}, [], None
-        for line in lines:
+        for line in ran.stdout:
             said.append(line)
             found = re.match(r"(fn|checked) ([^\s,]+)[:,] ", line)
             if found and found[1] == "checked":
-                before, took = time.time(), time.time() - (before or time.time())
-                if took > SLOW and found[2] in functions:
-                    say(f"the edit of {found[2]}: {took:.0f} s")
+                used = seconds_of(ran.pid)
+                if before and used - before > SLOW and found[2] in functions:
+                    say(f"the edit of {found[2]}: {used - before:.0f} processor seconds")
+                before = used
             elif found:
                 left.discard(found[2])
             if not left:
@@ -102,15 +102,21 @@ class Edits:
 
     def alone(self, edit):
         """Whether the prover refuses the crate with this edit alone, and what to say; over the kept work, and where that
-        doesn't refuse it, from nothing."""
+        doesn't refuse it, and should, from nothing."""
         with copied(self.kept) as room:
             tried = self.tried(edit, f"{room}/kept")
-        return tried if tried[0] else self.tried(edit)
+        return tried if tried[0] or edit == self.harmless else self.tried(edit)
 
     def tried(self, edit, *kept):
         kind, text = self.rt.must_fail(self.crate, edit, ["--jobs", "1"], *kept)
-        # (13b answers whether it is refused, 13f one of several kinds)
-        return kind in [getattr(self.rt, it, True) for it in ("REFUSED", "AT_LIMIT")], text
+        return kind in (self.rt.REFUSED, self.rt.AT_LIMIT), text
+
+
+def seconds_of(pid):
+    """The processor seconds that a process that was started here has used so far."""
+    with open(f"/proc/{pid}/stat", encoding="utf-8") as it:
+        fields = it.read().rpartition(")")[2].split()
+    return sum(map(int, fields[11:13])) / os.sysconf("SC_CLK_TCK")
 
 
 class copied:

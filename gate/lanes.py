@@ -1,9 +1,9 @@
 """Tasks side by side, in the place of the kit's `in_lanes`.
 
 What has nearly the longest path of others after it leads. The other proofs and the tests run beside it at a lower priority, and edits
-at a still lower one. So each takes what those before it leave: no task has work for all processors all the time. What leads has two
-jobs where it has much work, and all else one: several take the processors 15 to 50 % longer than one, and a small crate isn't proved
-sooner by them. Where processors would be idle there are more."""
+at a still lower one. So each takes what those before it leave: no task has work for all processors all the time. What leads has three
+jobs where it has much work, and others more than the fewest where their path is longer than what is left for each processor, or where
+processors would be idle: several jobs take the processors 15 to 50 % longer than one."""
 import os
 from concurrent.futures import FIRST_COMPLETED, ThreadPoolExecutor, wait
 
@@ -38,14 +38,14 @@ class Lanes:
         self.pool = ThreadPoolExecutor(number, initializer=step_back, initargs=(priority,))
 
 
-def run(tasks, given, processors, memory, memory_for):
+def run(tasks, given, processors, memory, memory_for, fewest=1):
     """Runs each task once those that it waits for have ended, and adds what each gave to what is given. A task is what it waits
-    for, its work, and a call that gets what was given and how many jobs it may use; so many jobs take the memory that `memory_for`
-    says."""
+    for, its work, and a call that gets what was given and how many jobs it may use, of which all but edits have at least the
+    fewest; so many jobs take the memory that `memory_for` says."""
     behind = paths(tasks)
     most_work = max((work for _, work, _ in tasks.values()), default=0)
     # (several tasks may lead, each with several jobs)
-    lead, front, back = Lanes(2 * processors, LEAD), Lanes(processors, FRONT), Lanes(processors, BACK)
+    lead, front, back = Lanes(2 * processors, LEAD), Lanes(max(processors, fewest), FRONT), Lanes(processors, BACK)
     left, running = [*tasks], {}
 
     def is_ready(key):
@@ -57,11 +57,15 @@ def run(tasks, given, processors, memory, memory_for):
         return lead if 5 * behind[key] >= 4 * max(behind[it] for it in tasks if it not in given) else front
 
     def jobs_for(key, lanes):
-        """How many jobs the task may use: more than it needs only where nothing else would use the processors."""
-        if lanes is back or 4 * tasks[key][1] < most_work:
+        """How many jobs the task may use: more than the fewest where it has much work that the end waits for, or where nothing else
+        would use the processors."""
+        if lanes is back:
             return 1
+        if 4 * tasks[key][1] < most_work:
+            return fewest
         others = len(running) + len([it for it in left if is_ready(it)]) - 1
-        return max(processors - others, 2 if lanes is lead else 1)
+        is_waited_for = processors * behind[key] > sum(tasks[it][1] for it in left)
+        return max(fewest, processors - others, 3 if lanes is lead else 2 if is_waited_for else 1)
 
     def start():
         """Starts what there is room for: first what gathers the results of a crate's edits, so that the crate is kept, then proofs
@@ -74,7 +78,7 @@ def run(tasks, given, processors, memory, memory_for):
                 taken = sum(memory_for(it) for _, it, _ in running.values())
                 while jobs and running and taken + memory_for(jobs) > memory:
                     jobs -= 1
-                if jobs:
+                if jobs >= (1 if lanes is back else fewest):
                     left.remove(key)
                     lanes.idle -= jobs
                     running[lanes.pool.submit(tasks[key][2], given, jobs)] = key, jobs, lanes

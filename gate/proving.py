@@ -1,8 +1,7 @@
 """The kit's own gate, `rt ci`, with each function proved once and the must-fail edits tried in batches.
 
 The kit's script is loaded, so that all that it refuses is refused here. It differs in three things:
-- A library is proved over a folder that this run began empty, and its must-fail edits start from that work. `rt ci` proves the
-  crate again for them.
+- A library's must-fail edits start from what its proof in this run made (modules.py). `rt ci` proves the crate again for them.
 - Edits are tried in batches, and a crate's batches side by side (batches.py). One harmless edit stands beside those of
   its crate, and must come out as not refused.
 - What an earlier run in this checkout found of a crate is taken where all contents are the same (store.py)."""
@@ -16,6 +15,7 @@ import time
 import batches
 import kit
 import lanes
+import modules
 from tally import say
 
 
@@ -64,22 +64,15 @@ class Gate:
 
     def judge(self):
         """Runs the kit's gate so, and answers its exit status."""
-        # (13f keeps what it proved in a store of its own, and adds tasks for edits by a call of their own; 13b does neither)
-        keeps = hasattr(self.rt, "Kept")
-        names = "crates_of", "in_lanes", "run", "put_back", *(["add_edits"] if keeps else [])
+        # (the kit's script keeps what it proved in a store of its own, and adds tasks for edits by a call of their own)
+        names = "crates_of", "in_lanes", "run", "put_back", "add_edits"
         self.original = {it: getattr(self.rt, it) for it in names}
-        for name in self.original:
+        for name in names:
             setattr(self.rt, name, getattr(self, name))
-        self.rt.Crate = self.crate_class()
-        if keeps:
-            self.rt.Kept = self.kept_class()
-        # (a verdict's line may also say that the check took up what this very run proved)
-        line = self.rt.rtlib.VERDICT
-        end = r" statements=trusted\n"
-        self.rt.rtlib.VERDICT = re.compile(line.pattern.replace(end, r" statements=trusted(?: incremental=trusted)?\n"), re.M)
+        self.rt.Crate, self.rt.Kept = self.crate_class(), self.kept_class()
         sys.stdout = Lines()
         try:
-            return self.rt.ci(**({"anew": True} if keeps else {}))
+            return self.rt.ci(anew=True)
         finally:
             said, sys.stdout = "".join(sys.stdout.all), sys.__stdout__
             if not self.crates:
@@ -108,13 +101,10 @@ class Gate:
                     return 0
                 os.makedirs(gate.kept(self), exist_ok=True)
                 if tests or self.is_program or not rt.edits_of(self)[0]:
-                    # (nothing is kept of these: with much work the prover goes over what it keeps in rounds, each of which loads the crates below
-                    # anew. A program's edits are few, and start from nothing)
+                    # (a program's edits are few, and start from nothing)
                     return super().ci(flags, tests)
-                words = [*self.words(flags, keeps=False), "--incremental", gate.kept(self)]
-                shutil.rmtree(os.path.dirname(self.rlib), ignore_errors=True)
-                os.makedirs(os.path.dirname(self.rlib))
-                return self.prove(["build", *words, "-o", self.rlib])
+                with modules.linked(self, gate.kept(self)):
+                    return super().ci(flags, tests)
 
         return Crate
 
@@ -151,31 +141,33 @@ class Gate:
 
     def in_lanes(self, tasks):
         """Has a crate's edits wait for its proof, whose work they take, and tries them by several tasks."""
-        made = {}
+        own = {}
         for key, (waits, lines, _, call) in tasks.items():
             crate = self.crates[key[0]]
             proof = crate.name, "proof"
             # (what is taken from an earlier run is no work)
             work = 0 if self.known[crate.name] else kit.weight(self.rt, crate)
             if key == proof:
-                made[key] = waits, work, self.timed("proofs", key, call)
+                own[key] = waits, work, self.timed("proofs", key, call)
             elif key[1] == "tests":
-                made[key] = waits, work if lines else 0, self.timed("tests", key, call)
+                own[key] = waits, work if lines else 0, self.timed("tests", key, call)
             else:
-                made.update(self.edit_tasks(crate, waits, lines))
-        given = self.taken_at_once(made)
-        lanes.run(made, given, *kit.lanes(self.rt), kit.memory_for)
+                own.update(self.edit_tasks(crate, waits, lines))
+        given = self.taken_at_once(own)
+        with modules.below(f"{self.work}/made"):
+            # (with one job the prover writes no modules for the edits, and holds all of a large program at once)
+            lanes.run(own, given, *kit.lanes(self.rt), kit.memory_for, fewest=2)
         for crate in self.crates.values():
             self.count(crate, given)
         return given
 
-    def taken_at_once(self, made):
+    def taken_at_once(self, tasks):
         """Takes the tasks of known crates out of these, and returns what they give: what was built is put back, and no lane is
         needed, nor what the kit's script looks at before it proves a crate, since the earlier run did."""
         given = {}
-        for key in [it for it in made if self.known[it[0]]]:
-            if all(it in given for it in made[key][0]):
-                call = made.pop(key)[2]
+        for key in [it for it in tasks if self.known[it[0]]]:
+            if all(it in given for it in tasks[key][0]):
+                call = tasks.pop(key)[2]
                 if key[1] == "proof":
                     self.store.bring_back(self.crates[key[0]])
                 given[key] = key[1] in ("proof", "tests") or call(given, 1)
