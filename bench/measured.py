@@ -1,4 +1,4 @@
-"""What the scripts of bench/ share: commands with their least times, the program of crates/bench, and a loop in Jasmin."""
+"""What the scripts of bench/ share: commands with their least times, the program of crates/cases, and a loop in Jasmin."""
 import os
 import shutil
 import subprocess
@@ -66,23 +66,23 @@ class Program:
         self.memory = max(self.memory, used.ru_maxrss * 1024)
 
 
-BENCH = f"{TOP}/crates/bench/out/bench"
+CASES = f"{TOP}/crates/cases/out/cases"
 
 
 def is_built():
-    """Whether crates/bench is built, and no source changed since."""
-    if not os.path.isfile(BENCH):
+    """Whether crates/cases is built, and no source changed since."""
+    if not os.path.isfile(CASES):
         return False
-    built = os.path.getmtime(BENCH)
+    built = os.path.getmtime(CASES)
     parts = (f"{TOP}/crates/{crate}/{part}" for crate in os.listdir(f"{TOP}/crates") for part in ("src", "specs", "proofs"))
     return all(os.path.getmtime(f"{folder}/{it}") <= built for part in parts for folder, _, files in os.walk(part) for it in files)
 
 
 def bench(*words):
-    """The program of crates/bench, built where it isn't, and run once with the name of a benchmark."""
-    if not is_built() and subprocess.run(["rt", "run"], cwd=f"{TOP}/crates/bench", stdout=subprocess.DEVNULL).returncode:
-        sys.exit("crates/bench was not built")
-    program = Program([BENCH, *words])
+    """The program of crates/cases, built where it isn't, and run once with the name of a benchmark."""
+    if not is_built() and subprocess.run(["rt", "run", "--", "bench"], cwd=f"{TOP}/crates/cases", stdout=subprocess.DEVNULL).returncode:
+        sys.exit("crates/cases was not built")
+    program = Program([CASES, "bench", *words])
     program.run()
     return program
 

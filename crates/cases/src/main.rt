@@ -1,6 +1,6 @@
 //! Judges the cases of files: `cases FILE..`. See [`archive`] for their form. A file's folder says what its cases
 //! are: files in the Jasmin form (`jasmin`), classes (`classes`), traces (`traces`), and a file `NAME.txtar` is a
-//! whole command line with its files (`programs`).
+//! whole command line with its files (`programs`). `cases bench NAME` measures times ([`bench`]).
 //!
 //! The number of cases of each file, and each case that failed, is reported on standard output. The exit status is 0
 //! where all files could be read and all cases passed, else 1.
@@ -10,6 +10,7 @@
 #![tactic(auto)]
 
 mod archive;
+mod bench;
 mod classes;
 mod classes_fields;
 mod classes_hierarchy;
@@ -26,12 +27,12 @@ mod traces;
 mod words;
 
 use crate::archive::{Archive, Part};
+use crate::bench::Benchmark;
 use crate::linked::Asked;
 use crate::report::Report;
 use std::alloc::{Alloc, Global};
-use std::io::Write;
 use std::process::ExitCode;
-use std::rt::Files;
+use std::rt::{Clock, Files};
 use std::sync::Wait;
 use std::thread::Threads;
 use std::{env, fs, io};
@@ -75,30 +76,36 @@ fn judge_bytes<R: Threads + Wait + Sync>(
     }
 }
 
-/// Judges the cases of a file of this name.
-fn judge_file<'a, R: Files + Alloc + Threads + Wait + Sync>(
+/// Judges the cases of a file of this name, or does a little of each benchmark.
+fn judge_file<'a, R: Files + Alloc + Clock + Threads + Wait + Sync>(
     rt: &R,
     alloc: Global,
     file: &'a str,
+    benchmarks: &[Benchmark],
     report: &mut Report<'a>,
 ) {
     report.begins(file);
-    match fs::read(rt, file) {
-        Ok(bytes) => judge_bytes(rt, alloc, file, &bytes, report),
-        Err(_) => report.refuses(b"can't be read"),
+    if file == "bench" {
+        bench::judge(rt, alloc, benchmarks, report);
+    } else {
+        match fs::read(rt, file) {
+            Ok(bytes) => judge_bytes(rt, alloc, file, &bytes, report),
+            Err(_) => report.refuses(b"can't be read"),
+        }
     }
     report.ends();
 }
 
 /// Judges the files of these names, after the program's own, and answers whether all cases passed.
-fn judge_all<'a, R: Files + Alloc + Threads + Wait + Sync>(
+fn judge_all<'a, R: Files + Alloc + Clock + Threads + Wait + Sync>(
     rt: &R,
     alloc: Global,
     args: &'a [String],
+    benchmarks: &[Benchmark],
     report: &mut Report<'a>,
 ) -> bool {
     for file in args.iter().skip(1) {
-        judge_file(rt, alloc, file.as_str(), report);
+        judge_file(rt, alloc, file.as_str(), benchmarks, report);
     }
     report.closes()
 }
@@ -109,12 +116,40 @@ fn args_of(rt: &HostRuntime) -> io::Result<Vec<String>> {
     Ok(args)
 }
 
-fn main(rt: HostRuntime) -> ExitCode {
-    let Ok(args) = args_of(&rt) else {
-        return ExitCode::from(1);
-    };
-    let mut report = Report::new(rt.alloc());
-    let has_passed = judge_all(&rt, rt.alloc(), &args, &mut report);
-    let is_written = rt.stdout().write_all(report.text()).is_ok();
+/// Judges the files of these names, after the program's own, and prints what came of them.
+fn judge_and_print<R: Files + Alloc + Clock + Print + Threads + Wait + Sync>(
+    rt: &R,
+    alloc: Global,
+    args: &[String],
+    benchmarks: &[Benchmark],
+) -> ExitCode {
+    let mut report = Report::new(alloc);
+    let has_passed = judge_all(rt, alloc, args, benchmarks, &mut report);
+    let is_written = rt.write_all(report.text()).is_ok();
     ExitCode::from(if has_passed && is_written { 0 } else { 1 })
+}
+
+/// Does what the words ask for.
+fn answer<R: Files + Alloc + Clock + Print + Eprint + Threads + Wait + Sync>(
+    rt: &R,
+    alloc: Global,
+    args: &[String],
+    benchmarks: &[Benchmark],
+) -> ExitCode {
+    match args {
+        [_, word, name] if word.as_str() == "bench" => {
+            bench::answer(rt, alloc, benchmarks, name.as_str(), "all")
+        }
+        [_, word, name, detail, ..] if word.as_str() == "bench" => {
+            bench::answer(rt, alloc, benchmarks, name.as_str(), detail.as_str())
+        }
+        _ => judge_and_print(rt, alloc, args, benchmarks),
+    }
+}
+
+fn main(rt: HostRuntime) -> ExitCode {
+    match args_of(&rt) {
+        Ok(args) => answer(&rt, rt.alloc(), &args, bench::ALL),
+        Err(_) => ExitCode::from(1),
+    }
 }

@@ -1,0 +1,6 @@
+use Rattle.std.proofs.Common.{drop}
+use Rattle.bodies.specs.Runs.{AreMains}
+use Rattle.cases.proofs.bench.threads.are_of_files.Given as goal
+
+abbrev pub invariant-loop-main : goal.invariant-loop-main
+invariant-loop-main l = AreMains l.program (drop l.main-index l.mains) → AreMains l.program l.mains
