@@ -1,6 +1,7 @@
 -- Access words before a name, both ways: what is read stands in lines of the grammar, and what stands there is read.
-use Rattle.std.proofs.Common.{◌≡◌, ℕ, Bool, true, false, not, ◌&&◌, cond, List, [], ◌∷◌, ◌++◌, map, Option, Some, None, is_some, Ok, refl, sym, ap, subst, ◌∙◌, codes}
+use Rattle.std.proofs.Common.{◌≡◌, ℕ, Bool, true, false, not, ◌&&◌, cond, inl, inr, List, [], ◌∷◌, ◌++◌, map, Option, Some, None, is_some, Ok, refl, sym, ap, subst, ◌∙◌, codes}
 use Rattle.std.specs.Option.{option_map, ok_or}
+use Rattle.std.proofs.lemmas.Bool.{cases_Bool}
 use Rattle.std.proofs.lemmas.Slice.Eq.{bytes_eq-Decides}
 use Rattle.std.specs.Str.{bytes_eq}
 use Rattle.jasmin_words.specs.declared.fault.FaultKind.{FaultKind}
@@ -52,11 +53,7 @@ is_access_at member = is_member_word
 
 says_some : (p : Place) (w : List ℕ) → is_some (head_word_at p w) ≡ is_access_at p w
 unfolding head_word_at class_word_at
-says_some place.Class w = by (bytes_eq w (codes "interface"))
-  where
-    by : (s : Bool) → is_some (cond s (Some class_word.Interface) (option_map class_word.Access (access_of w))) ≡ cond s true (is_some (access_of w))
-    by true = refl
-    by false = mapped (access_of w)
+says_some place.Class w = elim (cases_Bool (bytes_eq w (codes "interface"))) [ inl y ↦ rw y refl | inr y ↦ rw y (mapped (access_of w)) ]
 says_some place.Interface w = mapped (access_of w)
 says_some member w = mapped (member_access_of w)
 
@@ -67,8 +64,7 @@ no_access_word p w u e = sym (says_some p w) ∙ by (head_word_at p w) e
     by : (o : Option ClassWord) → no_access_by o ≡ Ok u → is_some o ≡ false
     by None e = refl
     by (Some (class_word.Access word.LeftOut)) e = absurd cc
-    by (Some (class_word.Access a)) e = absurd cc
-    by other e = absurd cc
+    by o e = absurd cc
 
 pub passed_over : (p : Place) (w : List ℕ) → is_access_at p w ≡ false → no_access_in p w ≡ Ok tt
 unfolding no_access_in
@@ -91,23 +87,16 @@ Says : List ℕ → ClassWord → Type 0
 Says w class_word.Interface = w ≡ codes "interface"
 Says w (class_word.Access a) = access_of w ≡ Some a
 
-says_access : (o : Option AccessWord) (a : AccessWord) → option_map class_word.Access o ≡ Some (class_word.Access a) → o ≡ Some a
-says_access (Some b) a e = cc
-says_access None a e = absurd cc
-
-no_interface : (o : Option AccessWord) → option_map class_word.Access o ≡ Some class_word.Interface → ⊥
-no_interface (Some b) e = absurd cc
-no_interface None e = absurd cc
+says_access : (o : Option AccessWord) (c : ClassWord) → option_map class_word.Access o ≡ Some c → (a : AccessWord) × (c ≡ class_word.Access a) × (o ≡ Some a)
+says_access (Some a) c e = (a, cc, refl)
+says_access None c e = absurd cc
 
 class_says : (w : List ℕ) (c : ClassWord) → head_word_at place.Class w ≡ Some c → Says w c
 unfolding head_word_at class_word_at Says
-class_says w c e = by (bytes_eq w (codes "interface")) refl c e
-  where
-    by : (s : Bool) → bytes_eq w (codes "interface") ≡ s → (c : ClassWord) → cond s (Some class_word.Interface) (option_map class_word.Access (access_of w)) ≡ Some c → Says w c
-    by true p class_word.Interface h = (bytes_eq-Decides w (codes "interface")).0 p
-    by true p (class_word.Access a) h = absurd cc
-    by false p class_word.Interface h = absurd (no_interface (access_of w) h)
-    by false p (class_word.Access a) h = says_access (access_of w) a h
+class_says w c e = elim (cases_Bool (bytes_eq w (codes "interface"))) [
+  | inl y ↦ let is : class_word.Interface ≡ c = (let k = rw y at e in cc) in rw (← is) ((bytes_eq-Decides w (codes "interface")).0 y)
+  | inr y ↦ let (a, is, found) = says_access (access_of w) c (rw y at e) in rw is found
+]
 
 -- ---- words before a name
 
@@ -139,8 +128,11 @@ pub simple_access : (p : Place) (says : List ℕ → Option AccessWord) → Know
 simple_access p says known nothing = (none, refl, λ first. first)
 simple_access p says known (access {w} a is t s words) =
     let (are, kind, last) = simple_access p says known words in
-    (more (says_access (says w) a (sym (known w) ∙ is)) t are, kind, λ first. last s)
-simple_access p says known (to_interface {w} is words) = absurd (no_interface (says w) (sym (known w) ∙ is))
+    let (b, same, found) = says_access (says w) (class_word.Access a) (sym (known w) ∙ is) in
+    (more (cc (same, found)) t are, kind, λ first. last s)
+simple_access p says known (to_interface {w} is words) =
+    let (b, same, _) = says_access (says w) class_word.Interface (sym (known w) ∙ is) in
+    absurd (cc same)
 
 -- what may not stand together doesn't with one word more
 fits_before : (p : Place) (x : AccessWord) (a : Access) → stand_together p (more_access x a) ≡ true → stand_together p a ≡ true

@@ -8,7 +8,7 @@ use Rattle.descriptors.specs.Signature.{Signature}
 use Rattle.jasmin_words.specs.declared.fault.FaultKind.{FaultKind}
 use Rattle.jasmin_words.specs.declared.fault.FaultKind.TheVariants as fault
 use Rattle.sequence.specs.Gives.{◌>>=◌}
-use Rattle.sequence.proofs.Results.{bind_ok, done, back, test_passed}
+use Rattle.sequence.proofs.Results.{bind_ok, done, back, test_passed, not_refused}
 use Rattle.jasmin_text.specs.Grammar.{Row, StackRow, LocalsRow, CatchRow, LabelRow, InstructionRow, TableRow, LookupRow, TargetRow, CaseRow, DefaultRow, Body as Added, Catch, with_instruction as and_instruction, Cases, case_row, with_case, AreSorted, FitsHigh, IsBody, none, more, stack, locals, catch, label, operation, table, lookup, place_of}
 use Rattle.jasmin_text.specs.declared.access.Access.{Access}
 use Rattle.jasmin_text.specs.declared.instruction.Instruction.{Instruction}
@@ -108,14 +108,13 @@ plain_step row rows b c last s t labels catches out e step follows =
     let f = subst (λ (o : Option Switch). From o d rows last) out (back (Follows rows last) e follows) in
     subst (λ (o : Option Switch). From o b (row ∷ rows) last) (sym out) (step f.0, f.1, f.2)
 
--- where there is room, what takes room is added
-in_room : {A B : Type 0} (room : ℕ) (u : Unit {0}) (f : A → B) (full added : A) (z : B) → has_room room ≡ Ok u → done {F = FaultKind} (f (cond (eqb room 0) full added)) ≡ Ok z → (1 ≤ room) × (done {F = FaultKind} (f added) ≡ Ok z)
-in_room zero u f full it z h e = absurd cc
-in_room (suc n) u f full it z h e = let some = eqb-suc-zero n in (omega arith, rw some at e)
-
 room_taken : (room : ℕ) (u : Unit {0}) → has_room room ≡ Ok u → 1 ≤ room
 room_taken zero u e = absurd cc
 room_taken (suc n) u e = omega arith
+
+-- where there is room, what takes room is added
+in_room : {A B : Type 0} (room : ℕ) (u : Unit {0}) (f : A → B) (full added : A) (z : B) → has_room room ≡ Ok u → done {F = FaultKind} (f (cond (eqb room 0) full added)) ≡ Ok z → (1 ≤ room) × (done {F = FaultKind} (f added) ≡ Ok z)
+in_room room u f full it z h e = let some = not_refused (eqb room 0) _ _ u h in (room_taken room u h, rw some.0 at e)
 
 -- a row of the listing
 listing_step : (o : Option Switch) (row : Row) (rows : List Row) (b c last : Body) → b.listing.switch ≡ o → is_good_row row ≡ true → (may_list b.listing.room o row >>= λ _. done (record b { listing = listed_by b.listing o row })) ≡ Ok c → Follows rows last c
@@ -224,8 +223,7 @@ some_room zero h = absurd (omega arith)
 some_room (suc n) h = eqb-suc-zero n
 
 is_some_size : (i : Instruction (List ℕ)) → 1 ≤ listed_size i
-is_some_size (instruction.TableSwitch low labels default) = omega arith
-is_some_size (instruction.LookupSwitch cases default) = omega arith
+is_some_size (instruction.New name) = omega arith
 is_some_size i = omega arith
 
 -- ---- switches that are read
@@ -265,10 +263,7 @@ sorted_length acc cases sorted (more {c} {cs} lacks are) = let ih = sorted_lengt
 
 -- the method h with this in its body, outside of switches, and this room
 abbrev pub holding : Body → Added → ℕ → Body
-holding h g room = record {
-  access = h.access;
-  name = h.name;
-  method_type = h.method_type;
+holding h g room = record h {
   stack = g.stack;
   locals = g.locals;
   labels = g.labels;

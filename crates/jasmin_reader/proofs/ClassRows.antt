@@ -1,7 +1,7 @@
 -- The rows of a class, and what they add to the class of the grammar; what is read is what the lines spell. Both ways.
 use Rattle.std.proofs.Common.{cond, ◌≡◌, ℕ, ◌+◌, ◌-◌, ◌≤◌, ◌<◌, Bool, true, not, ◌&&◌, ◌||◌, eqb, nat_le, nat_lt, List, [], ◌∷◌, ◌++◌, length, map, Option, Some, None, IfOk, IfSome, is_none, unwrap_or, Result, Ok, Err, refl, sym, ap, subst, ◌∙◌, arith}
 use Rattle.std.specs.List.{list_all}
-use Rattle.std.proofs.lemmas.Bool.{and_from, leb-true, le-leb, ltb-true, lt-ltb, and_parts}
+use Rattle.std.proofs.lemmas.Bool.{and_from, leb-true, le-leb, ltb-true, lt-ltb, and_parts, or_parts, not-true, not-false}
 use Rattle.std.proofs.lemmas.List.{length_push}
 use Rattle.std.proofs.lemmas.List.Folds.{list_all-append}
 use Rattle.descriptors.specs.ClassName.{is_class_name}
@@ -42,11 +42,9 @@ members_of r = record { superclass = r.superclass; interfaces = r.interfaces; fi
 -- ---- steps
 
 header_is : (m : Members) → not (not (eqb (length m.fields) 0) || not (eqb (length m.methods) 0)) ≡ true → IsHeader m
-header_is m h = by (eqb (length m.fields) 0) (eqb (length m.methods) 0) (list_empty m.fields) (list_empty m.methods) h
-  where
-    by : (s t : Bool) → (s ≡ true → m.fields ≡ []) → (t ≡ true → m.methods ≡ []) → not (not s || not t) ≡ true → IsHeader m
-    by true true f g h = (f refl, g refl)
-    by s t f g h = absurd cc
+header_is m h =
+    let p = or_parts (not (eqb (length m.fields) 0)) (not (eqb (length m.methods) 0)) (not-true _ h) in
+    (list_empty m.fields (not-false _ p.0), list_empty m.methods (not-false _ p.1))
 
 header_read : (head : HeadWords × List ℕ) (m : Members) → IsHeader m → is_in_header (mid head m None) ≡ true
 header_read head m h = rw (h.0, h.1) refl
@@ -185,22 +183,18 @@ superclass_is (Some name) good = good
 abbrev Ends : Reader → ClassParts → Type 0
 Ends r c = (head : HeadWords × List ℕ) × (r.class ≡ Some head) × (r.body ≡ None) × (parts_of r head ≡ c)
 
-abbrev Finishes : Result ClassParts ReadFault → ClassParts → Type 0
-Finishes read c = read ≡ Ok c
-
 ends_ok : (r : Reader) (n : ℕ) (c : ClassParts) → finished r n ≡ Ok c → Ends r c
 unfolding finished
 ends_ok r n c e = by r.class r.body refl refl e
   where
     by : (o : Option (HeadWords × List ℕ)) (b : Option Body) → r.class ≡ o → r.body ≡ b
-        → Finishes (elim o [ None ↦ Err (fault_at fault.Misplaced 1) | Some h ↦ elim b [ Some x ↦ Err (fault_at fault.Unfinished n) | None ↦ Ok (parts_of r h) ] ]) c → Ends r c
+        → elim o as (λ o. Result ClassParts ReadFault) [ None ↦ Err (fault_at fault.Misplaced 1) | Some h ↦ elim b [ Some x ↦ Err (fault_at fault.Unfinished n) | None ↦ Ok (parts_of r h) ] ] ≡ Ok c → Ends r c
     by (Some h) None p q e = (h, p, q, cc)
     by o b p q e = absurd cc
 
 -- What is read is the class that the rows say.
 class_taken : (rows : List Row) (last : Reader) (n : ℕ) (c : ClassParts) → list_all is_good_row rows ≡ true → rows_at empty_reader rows ≡ Ok last → finished last n ≡ Ok c → IsClass rows c
 unfolding is_good_row is_spellable
-class_taken [] last n c good e ends = absurd (let x = ends_ok last n c ends in let k : None ≡ last.class = given (λ (r : Reader). None ≡ r.class) e refl in let q = x.1 in cc)
 class_taken (ClassRow k a name ∷ rows) last n c good e ends =
     let x = ends_ok last n c ends in
     let head : HeadWords × List ℕ = (record { kind = k; access = a }, name) in
@@ -217,7 +211,7 @@ class_taken (ClassRow k a name ∷ rows) last n c good e ends =
     let methods = le-leb (length last.methods) (1024 - length last.fields) (omega (arith, few)) in
     let spellable : IsSpellable (parts_of last head) = rw (p.0, p.1, superclass_is last.superclass w.0, interfaces, w.1, fields, methods, f.fields, f.methods) refl in
     subst (IsClass (ClassRow k a name ∷ rows)) parts (record { members = rows; given = last.superclass; parts = refl; are_members = m.0; superclass = refl; spellable = spellable })
-class_taken (row ∷ rows) last n c good e ends = absurd cc
+class_taken rows last n c good e ends = let x = ends_ok last n c ends in let q = x.1 in absurd cc
 
 -- ---- rows that are read
 

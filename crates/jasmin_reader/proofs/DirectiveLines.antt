@@ -1,7 +1,7 @@
 -- Lines that begin with a directive, and their rows. Both ways.
-use Rattle.std.proofs.Common.{◌≡◌, ℕ, Bool, true, false, not, cond, List, [], ◌∷◌, Option, Some, None, Result, Ok, refl, sym, ap, subst, ◌∙◌, codes}
+use Rattle.std.proofs.Common.{◌≡◌, ℕ, inl, inr, Bool, true, false, not, List, [], ◌∷◌, Option, Some, None, Result, Ok, refl, sym, ap, subst, ◌∙◌, codes}
 use Rattle.std.specs.List.{list_all}
-use Rattle.std.proofs.lemmas.Bool.{and_from, not-true}
+use Rattle.std.proofs.lemmas.Bool.{and_from, cases_Bool, not-true}
 use Rattle.std.proofs.lemmas.Slice.Eq.{bytes_eq-Decides}
 use Rattle.std.specs.Str.{bytes_eq}
 use Rattle.descriptors.specs.ClassName.{is_class_name, IsClassName}
@@ -29,9 +29,9 @@ use Rattle.jasmin_reader.specs.Bodies.{outside_switch, limit_by, limit_from, cau
 use Rattle.jasmin_reader.specs.Reading.{may_stand, said_in, with_row, ended_by, end_line, directive_line}
 use Rattle.jasmin_reader.proofs.AccessWords.{first_is}
 use Rattle.jasmin_reader.proofs.GoodRows.{is_headed}
-use Rattle.jasmin_reader.proofs.Heads.{IsHeadedRow, class_taken, interface_taken, field_taken, method_taken}
+use Rattle.jasmin_reader.proofs.Heads.{IsHeadedRow, neither, class_taken, interface_taken, field_taken, method_taken}
 use Rattle.jasmin_reader.proofs.OperandForms.{ended_ok, operand_ok, last_ok, checked_last}
-use Rattle.jasmin_reader.proofs.RowSteps.{body_row, body_rows, is_body_row, row_at, rows_at, one_row}
+use Rattle.jasmin_reader.proofs.RowSteps.{body_row, body_rows, is_body_row, row_at, rows_at}
 use Rattle.jasmin_reader.proofs.Words.{checked_ok, number_ok, AllRows, find_ok}
 
 -- ---- what a line says
@@ -44,7 +44,7 @@ pub record Says (r : Reader) (items : List Item) (s : Reader) : Type 0 where
   pub headed : list_all is_headed rows ≡ true
 
 said : (r s : Reader) (items : List Item) (row : Row) → IsHeadedRow items row → row_at r row ≡ Ok s → Says r items s
-said r s items row is e = record { rows = row ∷ []; is_row = is.0; does = one_row r s row e; headed = and_from _ _ is.1 refl }
+said r s items row is e = record { rows = row ∷ []; is_row = is.0; does = rw e refl; headed = and_from _ _ is.1 refl }
 
 -- the rows of a line in a method, and what they add
 pub record BodySays (b : Body) (items : List Item) (c : Body) : Type 0 where
@@ -85,11 +85,7 @@ name_ok w row items name fit e is =
 -- an access word stands before no name
 pub untaken : (k : ClassKind) (name : List ℕ) → not (is_taken k name) ≡ true → is_taken kind.Interface name ≡ false
 untaken kind.Interface name h = not-true (is_taken kind.Interface name) h
-untaken kind.Class name h = by (bytes_eq name (codes "interface")) (is_taken kind.Interface name) h
-  where
-    by : (s t : Bool) → not (cond s true t) ≡ true → t ≡ false
-    by true t h = absurd cc
-    by false t h = not-true t h
+untaken kind.Class name h = (neither (bytes_eq name (codes "interface")) (is_taken kind.Interface name) (not-true _ h)).1
 
 -- ---- limits
 
@@ -116,18 +112,14 @@ limit_ok r items row e =
 -- ---- handler tables
 
 caught_ok : (w : List ℕ) (c : Option (List ℕ)) → caught_in w ≡ Ok c → IsCaught w c
-caught_ok w c e = by (bytes_eq w (codes "all")) refl e
-  where
-    by : (t : Bool) → bytes_eq w (codes "all") ≡ t → cond t (Ok None) (class_name_in w >>= λ name. Ok (Some name)) ≡ Ok c → IsCaught w c
-    by true p h =
-        let k : None ≡ c = cc in
-        rw ((bytes_eq-Decides w (codes "all")).0 p, ← k) all
-    by false p h =
-        let one = bind_ok (class_name_in w) _ c h in
-        let a = checked_ok is_class_name w one.0 one.1 in
-        let k : Some w ≡ c = cc (a.1, one.2) in
-        let name : is_class_name w ≡ true = rw a.1 a.0 in
-        rw (← k) (a_class p name)
+caught_ok w c e = elim (cases_Bool (bytes_eq w (codes "all"))) [
+  | inl y ↦ let k : None ≡ c = (let h = rw y at e in cc) in rw ((bytes_eq-Decides w (codes "all")).0 y, ← k) all
+  | inr y ↦
+      let one = bind_ok (class_name_in w) _ c (rw y at e) in
+      let a = checked_ok is_class_name w one.0 one.1 in
+      let k : Some w ≡ c = cc (a.1, one.2) in
+      rw (← k) (a_class {name = w} y (rw a.1 a.0))
+]
 
 -- a label behind a word
 behind_ok : (keyword : List ℕ) (items : List Item) (x : List ℕ × List Item) → label_behind keyword items ≡ Ok x → (items ≡ Word keyword ∷ Word x.0 ∷ x.1) × (is_label x.0 ≡ true) × (fits x.0 ≡ true)
@@ -207,13 +199,12 @@ IsDirectiveRow w directive.Catch = w ≡ codes ".catch"
 IsDirectiveRow w directive.Skipped = Unit {0}
 IsDirectiveRow w directive.LeftOut = Unit {0}
 
-directive_rows : AllRows IsDirectiveRow directives
-unfolding directives
-directive_rows = (refl, (refl, (refl, (refl, (refl, (refl, (refl, (refl, (refl, (tt, (tt, (tt, (tt, (tt, (tt, (tt, (tt, (tt, (tt, (tt, (tt, (tt, (tt, tt)))))))))))))))))))))))
-
 directive_is : (w : List ℕ) (d : Directive) → directive_at w ≡ Some d → IsDirectiveRow w d
-unfolding directive_at
-directive_is w d e = find_ok IsDirectiveRow w directives d directive_rows e
+unfolding directive_at directives
+directive_is w d e = find_ok IsDirectiveRow w directives d all e
+  where
+    all : AllRows IsDirectiveRow directives
+    all = (refl, (refl, (refl, (refl, (refl, (refl, (refl, (refl, (refl, (tt, (tt, (tt, (tt, (tt, (tt, (tt, (tt, (tt, (tt, (tt, (tt, (tt, (tt, tt)))))))))))))))))))))))
 
 pub directive_ok : (r s : Reader) (w : List ℕ) (d : Directive) (rest : List Item) → directive_at w ≡ Some d → directive_line r d rest ≡ Ok s → Says r (Word w ∷ rest) s
 unfolding directive_line said_in

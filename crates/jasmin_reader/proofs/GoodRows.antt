@@ -1,8 +1,8 @@
 -- What a row keeps so that what it leads to can be spelled; the words of a line give such rows.
-use Rattle.std.proofs.Common.{◌≡◌, ℕ, ◌+◌, Bool, true, false, not, ◌&&◌, cond, eqb, nat_le, List, [], ◌∷◌, ◌++◌, length, Option, Some, None, ℤ, refl, ap, sym, subst, ◌∙◌, arith, codes}
+use Rattle.std.proofs.Common.{◌≡◌, ℕ, ◌+◌, inl, inr, Bool, true, not, ◌&&◌, eqb, nat_le, List, [], ◌∷◌, ◌++◌, length, Option, Some, None, ℤ, refl, ap, sym, subst, ◌∙◌, arith, codes}
 use Rattle.std.specs.Prelude.{int_lt}
 use Rattle.std.specs.List.{list_all}
-use Rattle.std.proofs.lemmas.Bool.{and_from, and_parts}
+use Rattle.std.proofs.lemmas.Bool.{and_from, and_parts, cases_Bool}
 use Rattle.std.specs.Str.{bytes_eq}
 use Rattle.descriptors.specs.Signature.{Signature}
 use Rattle.descriptors.specs.Spelling.{method_spelling}
@@ -26,7 +26,7 @@ use Rattle.jasmin_text.proofs.Conditions.{five}
 use Rattle.jasmin_reader.specs.Heads.{may_initialize}
 use Rattle.jasmin_reader.proofs.AccessWords.{words_behind}
 use Rattle.jasmin_reader.proofs.RowSteps.{is_body_row}
-use Rattle.jasmin_reader.proofs.Words.{integer_int, short_within, descriptor_good, signature_good}
+use Rattle.jasmin_reader.proofs.Words.{all_weaker, integer_int, short_within, descriptor_good, signature_good}
 
 -- ---- instructions, with labels as targets
 
@@ -113,15 +113,9 @@ is_form other = true
 
 pub find_good : {T : Type 0} (p : T → Bool) (w : List ℕ) (rows : List (List ℕ × T)) (x : T) → list_all (λ r. p r.1) rows ≡ true → find_row w rows ≡ Some x → p x ≡ true
 find_good p w [] x h e = absurd cc
-find_good {T} p w (r ∷ rs) x h e = let parts = and_parts (p r.1) (list_all (λ r. p r.1) rs) h in by (bytes_eq w r.0) (λ found. find_good p w rs x parts.1 found) parts.0 e
-  where
-    by : (t : Bool) → (find_row w rs ≡ Some x → p x ≡ true) → p r.1 ≡ true → cond t (Some r.1) (find_row w rs) ≡ Some x → p x ≡ true
-    by true later first e = cc (e, first)
-    by false later first e = later e
-
-form_good : (w : List ℕ) (f : Form) → form_at w ≡ Some f → is_form f ≡ true
-unfolding form_at forms
-form_good w f e = find_good is_form w forms f refl e
+find_good p w (r ∷ rs) x h e =
+    let parts = and_parts (p r.1) (list_all (λ r. p r.1) rs) h in
+    elim (cases_Bool (bytes_eq w r.0)) [ inl y ↦ cc (rw y at e, parts.0) | inr y ↦ find_good p w rs x parts.1 (rw y at e) ]
 
 field_word_good : (v w owner name : List ℕ) (type : FieldType) → IsMemberWord v owner name → IsDescriptor w type → fits v ≡ true → fits w ≡ true
     → is_field_reference (record { class = owner; name = name; field_type = type }) ≡ true
@@ -156,8 +150,9 @@ operands_good f items i (array {w} {type} d h) good fit lexed = and_also (and_al
 operands_good f items i other good fit lexed = refl
 
 instruction_good : (items : List Item) (row : Row) → IsInstructionLine items row → AreWords items → AreLexed items → is_good_row row ≡ true
-unfolding is_good_row
-instruction_good items row (simple {w} {f} {operands} {i} e is) fit lexed = operands_good f operands i is (form_good w f e) fit.1 lexed.1
+unfolding is_good_row form_at forms
+instruction_good items row (simple {w} {f} {operands} {i} e is) fit lexed =
+    operands_good f operands i is (find_good is_form w forms f refl e) fit.1 lexed.1
 instruction_good items row (table {v} {low} e from) fit lexed = integer_int v low from
 instruction_good items row (table_to {u} {low} e from to) fit lexed = integer_int u low from
 instruction_good items row (lookup e) fit lexed = refl
@@ -179,27 +174,17 @@ is_headed other = true
 
 -- a row of a method is no head
 pub rows_headed : (rows : List Row) → list_all is_body_row rows ≡ true → list_all is_headed rows ≡ true
-rows_headed [] h = refl
-rows_headed (row ∷ rows) h = let p = and_parts (is_body_row row) (list_all is_body_row rows) h in and_from (is_headed row) (list_all is_headed rows) (one row p.0) (rows_headed rows p.1)
+rows_headed rows h = all_weaker is_body_row is_headed one rows h
   where
     one : (row : Row) → is_body_row row ≡ true → is_headed row ≡ true
-    one (ClassRow k a name) h = absurd cc
-    one (FieldRow f) h = absurd cc
-    one (MethodRow a name type) h = absurd cc
-    one row h = refl
+    one (StackRow n) h = refl
+    one row h = cc
 
 value_good : (t : FieldType) (items : List Item) (v : Option Constant) → IsValue items v → AreLexed items → is_typed t v ≡ true → is_value_of t v ≡ true
 value_good t items v none lexed h = refl
 value_good t items v (int {w} {n} e) lexed h = and_also h (integer_int w n e)
 value_good t items v text lexed h = and_also h (and_also lexed.1.0.0 lexed.1.0.1)
 value_good t items v (signature {items = rest} is e) lexed h = value_good t rest v is lexed.1.1 h
-
-field_good : (f : Field) (w : List ℕ) (rest : List Item) → is_member_name f.name ≡ true → IsDescriptor w f.field_type → IsValue rest f.value → fits f.name ≡ true → fits w ≡ true → AreLexed rest
-    → is_headed (FieldRow f) ≡ true → is_field f ≡ true
-unfolding is_field
-field_good f w rest name d v p q lexed h =
-    let tests = and_parts (not (is_member_word f.name)) (is_typed f.field_type f.value) h in
-    and_also (and_also (and_also (and_also name p) tests.0) (descriptor_good w f.field_type d q)) (value_good f.field_type rest f.value v lexed tests.1)
 
 caught_good : (w : List ℕ) (o : Option (List ℕ)) → IsCaught w o → fits w ≡ true → is_caught o ≡ true
 caught_good w o all p = refl
@@ -217,7 +202,7 @@ field_headed f h =
     and_also p.2 (typed_of f.field_type f.value p.4)
 
 row_good : (items : List Item) (rows : List Row) → IsRow items rows → AreWords items → AreLexed items → list_all is_headed rows ≡ true → list_all is_good_row rows ≡ true
-unfolding is_good_row is_head
+unfolding is_good_row is_head is_field
 row_good items rows (class {items = words} {k} {name} access e is c other) fit lexed h =
     let word = (words_behind access (Word name ∷ []) (subst AreWords e fit.1)).0 in
     and_also (and_also (and_also c word) (and_parts (not (is_taken k name)) true h).0) refl
@@ -229,7 +214,9 @@ row_good items rows (implements c) fit lexed h = and_also (and_also c fit.1.0) r
 row_good items rows (field {items = words} {a} {name} {type} {value} access rest w e is c d v) fit lexed h =
     let short = words_behind access (Word name ∷ Word w ∷ rest) (subst AreWords e fit.1) in
     let behind = lexed_behind access (Word name ∷ Word w ∷ rest) (subst AreLexed e lexed.1) in
-    and_also (field_good (record { access = a; name = name; field_type = type; value = value }) w rest c d v short.0 short.1.0 behind.1.1 (and_parts _ true h).0) refl
+    let tests = and_parts (not (is_member_word name)) (is_typed type value) (and_parts _ true h).0 in
+    let field_type = descriptor_good w type d short.1.0 in
+    and_also (and_also (and_also (and_also (and_also c short.0) tests.0) field_type) (value_good type rest value v behind.1.1 tests.1)) refl
 row_good items rows (method {items = words} {a} {name} {type} access w e spelled is c m) fit lexed h =
     let word = (words_behind access (Word w ∷ []) (subst AreWords e fit.1)).0 in
     and_also (and_also (and_also (and_also c (signature_good type m)) (ap fits (sym spelled) ∙ word)) (and_parts (fits_head a name type) true h).0) refl

@@ -1,6 +1,7 @@
 -- Lines that name a class, a field or a method, both ways: those that are read are lines of the grammar, and those are read.
-use Rattle.std.proofs.Common.{◌≡◌, ℕ, Bool, true, false, not, ◌&&◌, cond, eqb, List, [], ◌∷◌, ◌++◌, map, Option, Some, Result, Ok, Err, refl, sym, ap, subst, ◌∙◌, codes}
-use Rattle.std.proofs.lemmas.Bool.{and_from, and_right, not_from_false, false_from_ne_true, and_parts, not-true}
+use Rattle.std.proofs.Common.{◌≡◌, ℕ, inl, inr, Bool, true, false, not, ◌&&◌, cond, List, [], ◌∷◌, ◌++◌, map, Option, Some, Result, Ok, Err, refl, sym, ap, subst, ◌∙◌, codes}
+use Rattle.std.proofs.lemmas.Bool.{and_from, cases_Bool, and_right, not_from_false, false_from_ne_true, and_parts, not-true}
+use Rattle.std.proofs.lemmas.List.Folds.{list_all-append}
 use Rattle.std.proofs.lemmas.Slice.Eq.{bytes_eq-Decides}
 use Rattle.std.specs.Str.{bytes_eq}
 use Rattle.descriptors.specs.ClassName.{is_class_name, IsClassName}
@@ -33,7 +34,7 @@ use Rattle.jasmin_reader.specs.Operands.{class_name_in, member_name_in, integer_
 use Rattle.jasmin_reader.specs.Heads.{start, no_access_in, named_from, begins_with_part, is_before_name, kind_at, class_from, constant_for, value_at, value_from, is_signature, described_from, field_from, may_initialize, fits_initializer, method_from}
 use Rattle.jasmin_reader.proofs.AccessWords.{within_ok, words_behind, no_access_word, passed_over, knows, is_access_at, Words, class_access, class_words, simple_access, simple_words, Found, Named, named_ok, named_read, word_behind}
 use Rattle.jasmin_reader.proofs.GoodRows.{fits_head, is_typed, is_headed}
-use Rattle.jasmin_reader.proofs.OperandForms.{ended_ok, ended_words, operand_ok}
+use Rattle.jasmin_reader.proofs.OperandForms.{ended_ok, operand_ok}
 use Rattle.jasmin_reader.proofs.Words.{access_lacks, lacks, type_read, typed_read, member_lacks, checked_ok, integer_ok, type_ok, typed_ok}
 
 -- a row of the grammar, with what its words don't say by themselves
@@ -50,6 +51,10 @@ found_ok p k items f r e =
 
 -- ---- classes
 
+pub neither : (s t : Bool) → cond s true t ≡ false → (s ≡ false) × (t ≡ false)
+neither true t e = absurd cc
+neither false t e = (refl, e)
+
 abbrev IsClassHead : Place → List Item → HeadWords × List ℕ → Type 0
 IsClassHead p items r = (before : List (List ℕ)) × Words p (start (kind_at p)) before r.0 × (items ≡ map Word before ++ Word r.1 ∷ []) × IsClassName r.1 × (is_access_at p r.1 ≡ false) × AreWords items
 
@@ -61,7 +66,7 @@ class_ok p items r e =
     let two = bind_ok (within_limit x.1.0) _ r one.2 in
     let three = bind_ok (ended_at x.1.1) _ r two.2 in
     let c = checked_ok is_class_name x.1.0 one.0 one.1 in
-    let fit = n.3 (within_ok x.1.0 two.0 two.1, ended_words x.1.1 three.0 three.1) in
+    let fit = n.3 (within_ok x.1.0 two.0 two.1, rw (ended_ok x.1.1 three.0 three.1) tt) in
     given (IsClassHead p items) three.2 (n.0, n.1, cc (n.2, c.1, ended_ok x.1.1 three.0 three.1), c.0, rw (← c.1) free, fit)
 
 pub class_taken : (items : List Item) (r : HeadWords × List ℕ) → class_from place.Class items ≡ Ok r → IsHeadedRow (Word (codes ".class") ∷ items) (ClassRow r.0.kind r.0.access r.1)
@@ -69,10 +74,6 @@ class_taken items r e =
     let (before, words, parts, is_name, free, fit) = class_ok place.Class items r e in
     let none_of = neither (bytes_eq r.1 (codes "interface")) (is_access_word r.1) free in
     (of_words (refl, fit) (class (map Word before) parts (class_access words) is_name none_of.0), elim r.0.kind as (λ k. not (is_taken k r.1) ≡ true) [ kind.Class ↦ ap not free | kind.Interface ↦ ap not none_of.1 ])
-  where
-    neither : (s t : Bool) → cond s true t ≡ false → (s ≡ false) × (t ≡ false)
-    neither true t e = absurd cc
-    neither false t e = (refl, e)
 
 pub interface_taken : (items : List Item) (r : HeadWords × List ℕ) → class_from place.Interface items ≡ Ok r → IsHeadedRow (Word (codes ".interface") ∷ items) (ClassRow r.0.kind r.0.access r.1)
 interface_taken items r e =
@@ -141,16 +142,15 @@ value_at_ok type items v e = absurd cc
 
 value_ok : (type : FieldType) (items : List Item) (v : Option Constant) → value_from type items ≡ Ok v → IsTypedValue type items v
 unfolding value_from
-value_ok type (Word w ∷ rest) v e = by (bytes_eq w (codes "signature")) refl e
-  where
-    by : (t : Bool) → bytes_eq w (codes "signature") ≡ t → (cond t (string_from rest >>= λ t. Ok t.1) (Ok (Word w ∷ rest)) >>= value_at type) ≡ Ok v → IsTypedValue type (Word w ∷ rest) v
-    by true p h =
-        let one = bind_ok (string_from rest >>= λ t. Ok t.1) _ v h in
-        let two = bind_ok (string_from rest) _ one.0 one.1 in
-        let behind = value_at_ok type one.0 v one.2 in
-        let parts : rest ≡ Text two.0.0 ∷ one.0 = cc (string_ok rest two.0 two.1, two.2) in
-        rw ((bytes_eq-Decides w (codes "signature")).0 p, parts) (signature behind.0.0 behind.1, behind.0.1, (refl, (tt, behind.0.2)))
-    by false p h = absurd cc
+value_ok type (Word w ∷ rest) v e = elim (cases_Bool (bytes_eq w (codes "signature"))) [
+  | inl y ↦
+      let one = bind_ok (string_from rest >>= λ t. Ok t.1) _ v (rw y at e) in
+      let two = bind_ok (string_from rest) _ one.0 one.1 in
+      let behind = value_at_ok type one.0 v one.2 in
+      let parts : rest ≡ Text two.0.0 ∷ one.0 = cc (string_ok rest two.0 two.1, two.2) in
+      rw ((bytes_eq-Decides w (codes "signature")).0 y, parts) (signature behind.0.0 behind.1, behind.0.1, (refl, (tt, behind.0.2)))
+  | inr y ↦ absurd (let h = rw y at e in cc)
+]
 value_ok type items v e = (value_at_ok type items v e).0
 
 string_no_int : (t : FieldType) → is_string_type t ≡ true → is_int_type t ≡ false
@@ -228,16 +228,12 @@ method_taken items r e =
     let t = typed_ok member_name_in x.1.0 one.0 one.1 in
     let c = checked_ok is_member_name t.front one.0.0 t.value in
     let parts : items ≡ map Word n.0 ++ Word x.1.0 ∷ [] = cc (n.2, ended_ok x.1.1 four.0 four.1) in
-    let fit = n.3 (within_ok x.1.0 two.0 two.1, ended_words x.1.1 four.0 four.1) in
+    let fit = n.3 (within_ok x.1.0 two.0 two.1, rw (ended_ok x.1.1 four.0 four.1) tt) in
     let spelled : x.1.0 ≡ one.0.0 ++ method_spelling one.0.1 = cc (t.parts, c.1) in
     let starts = not_refused (bytes_eq one.0.0 (codes "<clinit>") && not (may_initialize x.0.access one.0.1)) fault.BadInitializer (Ok tt) three.0 three.1 in
     let are = simple_access place.Method member_access_of knows.2 n.1 in
     let head : fits_head x.0.access one.0.0 one.0.1 ≡ true = and_from _ _ (are.2 refl) (not_from_false _ starts.0) in
     given (λ m. IsHeadedRow (Word (codes ".method") ∷ items) (MethodRow m.0 m.1.0 m.1.1)) four.2 (of_words (refl, fit) (method (map Word n.0) x.1.0 parts spelled are.0 c.0 t.type), head)
-
-has_parenthesis : (name : List ℕ) (m : Signature) → lacks 40 name ≡ true → lacks 40 (name ++ method_spelling m) ≡ false
-has_parenthesis [] m h = refl
-has_parenthesis (b ∷ bs) m h = let p = and_parts (not (eqb b 40)) (lacks 40 bs) h in rw (p.0) (has_parenthesis bs m p.1)
 
 pub method_head : (items before : List Item) (w : List ℕ) (a : Access) (name : List ℕ) (type : Signature) → items ≡ before ++ Word w ∷ [] → w ≡ name ++ method_spelling type
     → IsMemberAccess before a → IsMemberName name → IsMethodType type → fits_head a name type ≡ true → AreWords items → method_from items ≡ Ok (a, (name, type))
@@ -247,7 +243,8 @@ method_head items before w a name type e spelled is h m fits_all good =
     let bare = member_lacks 40 refl refl refl name h in
     let name_read : member_name_in name ≡ Ok name = rw h refl in
     let typed : typed_in member_name_in w ≡ Ok (name, type) = rw spelled (typed_read member_name_in name type name bare name_read m) in
-    let no_word : is_member_word w ≡ false = rw (access_lacks w (ap (lacks 40) spelled ∙ has_parenthesis name type bare)) refl in
+    let parenthesis : lacks 40 w ≡ false = ap (lacks 40) spelled ∙ list_all-append _ name (method_spelling type) ∙ rw bare refl in
+    let no_word : is_member_word w ≡ false = rw (access_lacks w parenthesis) refl in
     let (ws, parts, (words, none_wrong)) = simple_words place.Method member_access_of knows.2 kind.Class is p.0 in
     let (fit, short) = name_fits before ws w [] e parts good in
     rw (e, parts, named_read place.Method w [] refl (word_behind w) words fit, passed_over place.Method w no_word, typed, short, not-true _ p.1) refl

@@ -1,6 +1,6 @@
 -- Lines, one cut off after the other.
-use Rattle.std.proofs.Common.{◌≡◌, ℕ, suc, ◌+◌, ◌<◌, true, false, cond, eqb, List, [], ◌∷◌, length, drop, take, Result, Ok, inl, inr, refl, sym, ap, ◌∙◌, arith, subst, ◌-◌}
-use Rattle.std.proofs.lemmas.List.{take_all}
+use Rattle.std.proofs.Common.{◌≡◌, ℕ, ◌+◌, ◌<◌, eqb, List, [], ◌∷◌, length, drop, take, Result, Ok, inl, inr, refl, sym, ap, ◌∙◌, arith, one-add}
+use Rattle.std.proofs.lemmas.Bool.{cases_Bool}
 use Rattle.jasmin_reader.specs.declared.reader.Reader.{Reader}
 use Rattle.jasmin_text.specs.declared.class_text.ClassParts.{ClassParts}
 use Rattle.jasmin_reader.specs.declared.fault.ReadFault.{ReadFault}
@@ -13,31 +13,12 @@ use Rattle.jasmin_reader.specs.Reading.{line_at}
 use Rattle.jasmin_text.specs.Lines.{line_len, with_byte, lines_of}
 use Rattle.jasmin_reader.specs.File.{then_lines, rest_at, finished, Tells, fault_of}
 
--- the lines behind what stands at the front of rest
-abbrev pub behind : List ℕ → List ℕ
-behind [] = []
-behind (b ∷ bs) = bs
-
-one-more : (n : ℕ) → 1 + n ≡ suc n
-one-more n = omega arith
-
-pub lines-cut : (b : ℕ) (bs : List ℕ) → lines_of (b ∷ bs) ≡ take (line_len (b ∷ bs)) (b ∷ bs) ∷ lines_of (behind (drop (line_len (b ∷ bs)) (b ∷ bs)))
-lines-cut b [] = elim (eqb b 10) as (λ t. cond t ([] ∷ []) ((b ∷ []) ∷ []) ≡ take (cond t 0 1) (b ∷ []) ∷ lines_of (behind (drop (cond t 0 1) (b ∷ [])))) [ true ↦ refl | false ↦ refl ]
-lines-cut b (c ∷ cs) =
-    let ih = lines-cut c cs in
-    elim (eqb b 10) as (λ t. cond t ([] ∷ lines_of (c ∷ cs)) (with_byte b (lines_of (c ∷ cs))) ≡ take (cond t 0 (1 + line_len (c ∷ cs))) (b ∷ c ∷ cs) ∷ lines_of (behind (drop (cond t 0 (1 + line_len (c ∷ cs))) (b ∷ c ∷ cs)))) [ true ↦ refl | false ↦ ap (with_byte b) ih ∙ subst (λ (n : ℕ). (b ∷ take (line_len (c ∷ cs)) (c ∷ cs)) ∷ lines_of (behind (drop (line_len (c ∷ cs)) (c ∷ cs))) ≡ take n (b ∷ c ∷ cs) ∷ lines_of (behind (drop n (b ∷ c ∷ cs)))) (sym (one-more (line_len (c ∷ cs)))) refl ]
-
-pub lines_are : (bytes : List ℕ) → 0 < length bytes → lines_of bytes ≡ take (line_len bytes) bytes ∷ lines_of (behind (drop (line_len bytes) bytes))
+pub lines_are : (bytes : List ℕ) → 0 < length bytes → lines_of bytes ≡ take (line_len bytes) bytes ∷ lines_of (drop 1 (drop (line_len bytes) bytes))
 lines_are [] lt = absurd (omega arith)
-lines_are (b ∷ bs) lt = lines-cut b bs
-
-pub behind-none : (bs : List ℕ) → length bs < 1 → behind bs ≡ bs
-behind-none [] lt = refl
-behind-none (b ∷ bs) lt = absurd (omega arith)
-
-pub behind-some : (bs : List ℕ) → 0 < length bs → behind bs ≡ take (length bs - 1) (drop 1 bs)
-behind-some [] lt = absurd (omega arith)
-behind-some (b ∷ bs) lt = let e : suc (length bs) - 1 ≡ length bs = omega arith in rw e (sym (take_all (length bs) bs (omega arith)))
+lines_are (b ∷ []) lt = elim (cases_Bool (eqb b 10)) [ inl y ↦ rw y refl | inr y ↦ rw y refl ]
+lines_are (b ∷ c ∷ cs) lt =
+    let ih = lines_are (c ∷ cs) (omega arith) in
+    elim (cases_Bool (eqb b 10)) [ inl y ↦ rw y refl | inr y ↦ rw (y, one-add (line_len (c ∷ cs))) (ap (with_byte b) ih) ]
 
 -- ---- the loop over the lines
 

@@ -1,7 +1,7 @@
 -- Where a method ends: labels get their places, and the method is that of the grammar, both ways; what good rows lead to can be spelled.
 use Rattle.std.proofs.Common.{◌≡◌, ℕ, suc, ◌+◌, ◌-◌, ◌≤◌, Bool, true, false, not, ◌&&◌, cond, eqb, nat_le, List, [], ◌∷◌, ◌++◌, length, map, Option, Some, None, Result, Ok, Err, ℤ, refl, sym, ap, subst, ◌∙◌, arith, codes}
 use Rattle.std.specs.List.{list_all}
-use Rattle.std.proofs.lemmas.Bool.{eqb-true, leb-true, le-leb, and_parts, not-true}
+use Rattle.std.proofs.lemmas.Bool.{eqb-true, leb-true, le-leb, and_from, and_parts, not-true}
 use Rattle.std.proofs.lemmas.List.{nil_from_length, length_push}
 use Rattle.std.proofs.lemmas.List.Folds.{list_all-append, list_all-map}
 use Rattle.std.specs.Str.{bytes_eq}
@@ -22,6 +22,7 @@ use Rattle.jasmin_reader.specs.Heads.{may_initialize}
 use Rattle.jasmin_reader.specs.Bodies.{each, placed_label, placed_labels, placed_case, placed_cases, placed, all_placed, placed_catch, placed_catches, has_nothing, body_of, method_with, closed}
 use Rattle.jasmin_reader.proofs.BodyRows.{added, caught, read_catch, holding}
 use Rattle.jasmin_reader.proofs.GoodRows.{keys_rise, are_keys, is_listed, listed_size, sizes, fits_head, is_head, is_good_row, find_good}
+use Rattle.jasmin_reader.proofs.Words.{all_weaker}
 use Rattle.jasmin_reader.proofs.SortedCases.{with_case_all, with_case_rises, same_rise}
 
 -- ---- lists
@@ -46,6 +47,14 @@ each_map f R xs ys (more {xs = others} {ys = rest} r rs) = more r (each_map f R 
 pub each_length : {A B : Type 0} (R : A → B → Type 0) (xs : List A) (ys : List B) → Each R xs ys → length ys ≡ length xs
 each_length R xs ys none = refl
 each_length R xs ys (more {xs = others} {ys = rest} r rs) = ap suc (each_length R others rest rs)
+
+-- what R relates to what passes one test passes the other
+each_all : {A B : Type 0} (R : A → B → Type 0) (p : A → Bool) (q : B → Bool) → ((x : A) (y : B) → R x y → p x ≡ true → q y ≡ true)
+    → (xs : List A) (ys : List B) → Each R xs ys → list_all p xs ≡ true → list_all q ys ≡ true
+each_all R p q f xs ys none h = refl
+each_all R p q f xs ys (more {x} {y} {xs = others} {ys = rest} r rs) h =
+    let t = and_parts (p x) _ h in
+    and_from _ _ (f x y r t.0) (each_all R p q f others rest rs t.1)
 
 -- ---- places
 
@@ -145,8 +154,7 @@ closed_ok b m e =
 -- an initializer of a class, as a head has it and as a method has it
 pub starts : (e f : Bool) → not (e && not f) ≡ cond e f true
 starts true true = refl
-starts true false = refl
-starts false f = refl
+starts e f = refl
 
 pub method_facts : (m : Method) → is_method m ≡ true → (fits_head m.access m.name m.method_type ≡ true) × (is_optional_code m.access.is_abstract m.code ≡ true)
 unfolding is_method
@@ -160,14 +168,14 @@ placed_size labels i j (table {ls} {places} is e) = ap (λ (n : ℕ). n + 1) (ea
 placed_size labels i j (lookup {cs} {cases} is e) = ap (λ (n : ℕ). n + 1) (each_length (IsPlacedCase labels) cs cases is)
 placed_size labels i j other = refl
 
-sizes_fit : (labels : List (List ℕ × ℕ)) (is : List (Instruction (List ℕ))) (js : List (Instruction ℕ)) (room : ℕ) → Each (IsPlaced labels) is js → have_room room js ≡ true → sizes is ≤ room
-sizes_fit labels is js room none h = omega arith
-sizes_fit labels is js room (more {x = i} {y = j} {xs = others} {ys = rest} p ps) h =
-    let q = and_parts (nat_le (instruction_size j) room) (have_room (room - instruction_size j) rest) h in
-    let first = leb-true (instruction_size j) room q.0 in
-    let size = placed_size labels i j p in
-    let ih = sizes_fit labels others rest (room - instruction_size j) ps q.1 in
-    omega (arith, first, size, ih)
+both_fit : (a b room : ℕ) → (nat_le a room && nat_le b (room - a)) ≡ nat_le (a + b) room
+both_fit a b room = grind arith
+
+-- there is room for as much as the sizes come to
+sizes_fit : (labels : List (List ℕ × ℕ)) (is : List (Instruction (List ℕ))) (js : List (Instruction ℕ)) (room : ℕ) → Each (IsPlaced labels) is js → have_room room js ≡ nat_le (sizes is) room
+sizes_fit labels is js room none = sym (le-leb 0 room (omega arith))
+sizes_fit labels is js room (more {x = i} {y = j} {xs = others} {ys = rest} p ps) =
+    rw (placed_size labels i j p, sizes_fit labels others rest (room - listed_size i) ps) (both_fit (listed_size i) (sizes others) room)
 
 -- code that can be spelled has instructions, and its body had room for them
 code_facts : (g : Added) (c : Code) → IsCodeOf g c → is_code c ≡ true → (eqb (length c.instructions) 0 ≡ false) × (sizes g.instructions ≤ 16384)
@@ -175,7 +183,7 @@ unfolding is_code
 code_facts g c is h =
     let n = length c.instructions in
     let p = six (nat_le c.stack 1024) (nat_le c.locals 1024) (not (eqb n 0)) (have_room 16384 c.instructions) (list_all (is_handler n) c.handlers) (list_all (is_instruction n) c.instructions) h in
-    (not-true (eqb n 0) p.2, sizes_fit g.labels g.instructions c.instructions 16384 is.instructions p.3)
+    (not-true (eqb n 0) p.2, leb-true _ 16384 (sym (sizes_fit g.labels g.instructions c.instructions 16384 is.instructions) ∙ p.3))
 
 pub body_fits : (is_abstract : Bool) (g : Added) (o : Option Code) → IsCodeOrNone g o → is_optional_code is_abstract o ≡ true → sizes g.instructions ≤ 16384
 body_fits is_abstract g None is h = let e = ap sizes is.instructions in omega (arith, e)
@@ -212,11 +220,7 @@ abbrev Within : ℕ → List (List ℕ × ℕ) → Type 0
 Within count labels = list_all (λ (l : List ℕ × ℕ). nat_le l.1 count) labels ≡ true
 
 labels_stay : (m n : ℕ) (labels : List (List ℕ × ℕ)) → m ≤ n → Within m labels → Within n labels
-labels_stay m n [] less h = refl
-labels_stay m n (l ∷ ls) less h =
-    let p = and_parts (nat_le l.1 m) (list_all (λ (l : List ℕ × ℕ). nat_le l.1 m) ls) h in
-    let place = leb-true l.1 m p.0 in
-    rw (le-leb l.1 n (omega (arith, place, less)), labels_stay m n ls less p.1) refl
+labels_stay m n labels less h = all_weaker _ _ (λ l within. let place = leb-true l.1 m within in le-leb l.1 n (omega arith)) labels h
 
 -- what stands in a method can be spelled
 pub record IsGoodBody (g : Added) : Type 0 where
@@ -275,38 +279,24 @@ places_within : (count : ℕ) (labels : List (List ℕ × ℕ)) (ls : List (List
 places_within count labels ls places h none = refl
 places_within count labels ls places h (more {x = l} {y = place} {xs = others} {ys = rest} e is) = rw (within count labels l place h e, places_within count labels others rest h is) refl
 
-cases_within : (count : ℕ) (labels : List (List ℕ × ℕ)) (cs : Cases) (ds : List (ℤ × ℕ)) → Within count labels → Each (IsPlacedCase labels) cs ds → list_all has_int cs ≡ true
-    → list_all (λ (c : ℤ × ℕ). is_int c.0 && nat_le c.1 count) ds ≡ true
-cases_within count labels cs ds h none ints = refl
-cases_within count labels cs ds h (more {x = c} {y = d} {xs = others} {ys = rest} e is) ints =
-    let p = and_parts (has_int c) (list_all has_int others) ints in
-    rw (ap is_int e.0, p.0, within count labels c.1 d.1 h e.1, cases_within count labels others rest h is p.1) refl
+case_good : (count : ℕ) (labels : List (List ℕ × ℕ)) → Within count labels → (c : ℤ × List ℕ) (d : ℤ × ℕ) → IsPlacedCase labels c d
+    → has_int c ≡ true → (is_int d.0 && nat_le d.1 count) ≡ true
+case_good count labels h c d e int = rw (ap is_int e.0, int, within count labels c.1 d.1 h e.1) refl
 
-placed_good : (count : ℕ) (labels : List (List ℕ × ℕ)) (i : Instruction (List ℕ)) (j : Instruction ℕ) → Within count labels → IsPlaced labels i j → is_listed i ≡ true → is_instruction count j ≡ true
+placed_good : (count : ℕ) (labels : List (List ℕ × ℕ)) → Within count labels → (i : Instruction (List ℕ)) (j : Instruction ℕ) → IsPlaced labels i j → is_listed i ≡ true → is_instruction count j ≡ true
 unfolding is_listed is_instruction
-placed_good count labels i j h (jump {l} {place} e) good = within count labels l place h e
-placed_good count labels i j h (table {low} {ls} {d} {places} {place} is e) good = rw (good, places_within count labels ls places h is, within count labels d place h e) refl
-placed_good count labels i j h (lookup {cs} {d} {cases} {place} is e) good =
+placed_good count labels h i j (jump {l} {place} e) good = within count labels l place h e
+placed_good count labels h i j (table {low} {ls} {d} {places} {place} is e) good = rw (good, places_within count labels ls places h is, within count labels d place h e) refl
+placed_good count labels h i j (lookup {cs} {d} {cases} {place} is e) good =
     let p = and_parts (list_all has_int cs) (keys_rise cs) good in
-    rw (cases_within count labels cs cases h is p.0, same_rise labels cs cases is, p.1, within count labels d place h e) refl
-placed_good count labels i j h other good = good
+    let all = each_all (IsPlacedCase labels) has_int _ (case_good count labels h) cs cases is p.0 in
+    rw (all, same_rise labels cs cases is, p.1, within count labels d place h e) refl
+placed_good count labels h i j other good = good
 
-all_good : (count : ℕ) (labels : List (List ℕ × ℕ)) (is : List (Instruction (List ℕ))) (js : List (Instruction ℕ)) → Within count labels → Each (IsPlaced labels) is js → list_all is_listed is ≡ true
-    → (room : ℕ) → sizes is ≤ room → (list_all (is_instruction count) js ≡ true) × (have_room room js ≡ true)
-all_good count labels is js h none good room less = (refl, refl)
-all_good count labels is js h (more {x = i} {y = j} {xs = others} {ys = rest} one all) good room less =
-    let p = and_parts (is_listed i) (list_all is_listed others) good in
-    let size = placed_size labels i j one in
-    let ih = all_good count labels others rest h all p.1 (room - instruction_size j) (omega (arith, size, less)) in
-    (rw (placed_good count labels i j h one p.0, ih.0) refl, rw (le-leb (instruction_size j) room (omega (arith, size, less)), ih.1) refl)
-
-handlers_good : (count : ℕ) (labels : List (List ℕ × ℕ)) (cs : List Catch) (hs : List Handler) → Within count labels → list_all (λ c. is_caught c.class) cs ≡ true → Each (IsPlacedRow labels) cs hs
-    → list_all (is_handler count) hs ≡ true
+handler_good : (count : ℕ) (labels : List (List ℕ × ℕ)) → Within count labels → (c : Catch) (k : Handler) → IsPlacedRow labels c k
+    → is_caught c.class ≡ true → is_handler count k ≡ true
 unfolding is_handler
-handlers_good count labels cs hs h good none = refl
-handlers_good count labels cs hs h good (more {x = c} {y = k} {xs = others} {ys = rest} r rs) =
-    let p = and_parts (is_caught c.class) (list_all (λ c. is_caught c.class) others) good in
-    rw (r.class, p.0, within count labels c.from k.from h r.from, within count labels c.to k.to h r.to, within count labels c.handler k.handler h r.handler, handlers_good count labels others rest h p.1 rs) refl
+handler_good count labels h c k r p = rw (r.class, p, within count labels c.from k.from h r.from, within count labels c.to k.to h r.to, within count labels c.handler k.handler h r.handler) refl
 
 code_good : (b : Body) (o : Option Code) → IsGoodBody (added b) → sizes b.listing.instructions ≤ 16384 → IsCodeOrNone (added b) o → Demanded b o → is_optional_code b.access.is_abstract o ≡ true
 unfolding is_code
@@ -315,9 +305,12 @@ code_good b (Some c) g room is demanded =
     let count = sym (each_length (IsPlaced b.labels) b.listing.instructions c.instructions is.instructions) in
     let some : eqb (length c.instructions) 0 ≡ false = ap (λ (n : ℕ). eqb n 0) (sym count) ∙ demanded.1 in
     let labels = subst (λ (n : ℕ). Within n b.labels) count g.labels in
-    let all = all_good (length c.instructions) b.labels b.listing.instructions c.instructions labels is.instructions g.instructions 16384 room in
-    let handlers = handlers_good (length c.instructions) b.labels (map caught b.catches) c.handlers labels g.catches is.handlers in
-    rw (demanded.0, is.stack, is.locals, g.stack, g.locals, some, all.1, handlers, all.0) refl
+    let fits = sizes_fit b.labels b.listing.instructions c.instructions 16384 is.instructions ∙ le-leb _ 16384 room in
+    let one = placed_good (length c.instructions) b.labels labels in
+    let all = each_all (IsPlaced b.labels) is_listed _ one b.listing.instructions c.instructions is.instructions g.instructions in
+    let handler = handler_good (length c.instructions) b.labels labels in
+    let handlers = each_all (IsPlacedRow b.labels) _ _ handler (map caught b.catches) c.handlers is.handlers g.catches in
+    rw (demanded.0, is.stack, is.locals, g.stack, g.locals, some, fits, handlers, all) refl
 
 pub closed_good : (b : Body) (m : Method) → is_head b.access b.name b.method_type ≡ true → IsGoodBody (added b) → sizes b.listing.instructions ≤ 16384 → closed b ≡ Ok m → is_method m ≡ true
 unfolding is_method is_head

@@ -1,6 +1,6 @@
 -- Operands and instruction lines, both ways: those that are read are those of the grammar.
-use Rattle.std.proofs.Common.{◌≡◌, ℕ, zero, suc, ℤ, pos, negsuc, ◌+ℤ◌, ◌-ℤ◌, Bool, true, false, not, cond, eqb, List, [], ◌∷◌, ◌++◌, replicate, Option, Some, None, Result, Ok, Err, refl, sym, ap, subst, ◌∙◌, arith}
-use Rattle.std.proofs.lemmas.Bool.{not_from_false, and_parts, not-true}
+use Rattle.std.proofs.Common.{◌≡◌, ℕ, zero, suc, inl, inr, ℤ, pos, negsuc, ◌+ℤ◌, ◌-ℤ◌, Bool, true, false, not, eqb, List, [], ◌∷◌, ◌++◌, replicate, Option, Some, None, Result, Ok, Err, refl, sym, ap, subst, ◌∙◌, arith}
+use Rattle.std.proofs.lemmas.Bool.{cases_Bool, not_from_false, and_parts, not-true}
 use Rattle.std.proofs.lemmas.Int.{ints}
 use Rattle.descriptors.specs.ClassName.{is_class_name}
 use Rattle.descriptors.specs.Spelling.{field_spelling, element_spelling}
@@ -40,10 +40,6 @@ use Rattle.jasmin_reader.proofs.RowSteps.{may_list}
 use Rattle.jasmin_reader.proofs.Words.{checked_ok, integer_ok, int_ok, int_read, number_ok, number_read, type_ok, type_read, lacks, class_lacks, member_ok, member_read, method_ok, method_read, find_ok}
 
 -- ---- places
-
-pub ended_words : (items : List Item) (u : Unit {0}) → ended_at items ≡ Ok u → AreWords items
-ended_words [] u e = tt
-ended_words (t ∷ rest) u e = absurd cc
 
 pub ended_ok : (items : List Item) (u : Unit {0}) → ended_at items ≡ Ok u → items ≡ []
 ended_ok [] u e = refl
@@ -111,20 +107,19 @@ no_bracket (b ∷ bs) h = not-true (eqb b 91) (and_parts _ _ h).0
 
 reference_ok : (t : _) (w : List ℕ) (r : ReferenceType) → reference_in w ≡ Ok r → IsOperands (form.TypeUse t) (Word w ∷ []) (instruction.TypeUse t r)
 unfolding reference_in
-reference_ok t w r e = by (begins_with 91 w) refl e
+reference_ok t w r e = elim (cases_Bool (begins_with 91 w)) [
+  | inl y ↦
+      let one = bind_ok (type_in w) _ r (rw y at e) in
+      let is = type_ok w one.0 one.1 in
+      given Says one.2 (array is (not-true (eqb one.0.dimensions 0) (cc (bracket one.0, is.spelling, y))))
+  | inr y ↦
+      let one = bind_ok (class_name_in w) _ r (rw y at e) in
+      let is = checked_ok is_class_name w one.0 one.1 in
+      given Says one.2 (subst (λ (v : List ℕ). IsOperands (form.TypeUse t) (Word v ∷ []) (instruction.TypeUse t (reference.Class one.0))) (sym is.1) (class_use is.0))
+]
   where
     Says : ReferenceType → Type 0
     Says r = IsOperands (form.TypeUse t) (Word w ∷ []) (instruction.TypeUse t r)
-
-    by : (s : Bool) → begins_with 91 w ≡ s → cond s (type_in w >>= λ d. Ok (reference.Array d)) (class_name_in w >>= λ name. Ok (reference.Class name)) ≡ Ok r → Says r
-    by true p h =
-        let one = bind_ok (type_in w) _ r h in
-        let is = type_ok w one.0 one.1 in
-        given Says one.2 (array is (not-true (eqb one.0.dimensions 0) (cc (bracket one.0, is.spelling, p))))
-    by false p h =
-        let one = bind_ok (class_name_in w) _ r h in
-        let is = checked_ok is_class_name w one.0 one.1 in
-        given Says one.2 (subst (λ (v : List ℕ). IsOperands (form.TypeUse t) (Word v ∷ []) (instruction.TypeUse t (reference.Class one.0))) (sym is.1) (class_use is.0))
 
 -- ---- switches
 

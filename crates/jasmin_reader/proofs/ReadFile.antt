@@ -1,12 +1,11 @@
 -- All lines of a file, and the rows that they say. Both ways.
-use Rattle.std.proofs.Common.{◌≡◌, ℕ, ◌+◌, true, not, List, [], ◌∷◌, ◌++◌, Option, Some, None, Result, Ok, Err, refl, ◌∙◌}
+use Rattle.std.proofs.Common.{◌≡◌, ℕ, ◌+◌, true, not, List, [], ◌∷◌, ◌++◌, Option, Some, None, Result, Ok, Err, refl, ap, ◌∙◌}
 use Rattle.std.specs.List.{list_all}
 use Rattle.std.proofs.lemmas.Bool.{and_from, and_parts}
 use Rattle.std.proofs.lemmas.List.Folds.{list_all-append}
 use Rattle.jasmin_words.proofs.Lexed.{are_lexed}
 use Rattle.jasmin_words.specs.declared.fault.FaultKind.{FaultKind}
 use Rattle.jasmin_words.specs.declared.fault.FaultKind.TheVariants as fault
-use Rattle.sequence.specs.Gives.{◌>>=◌}
 use Rattle.sequence.proofs.Results.{not_refused, bind_ok, then}
 use Rattle.jasmin_words.specs.Lexing.{Item, Word, words_of}
 use Rattle.jasmin_words.specs.Spelling.{AreWords}
@@ -27,7 +26,7 @@ use Rattle.jasmin_reader.proofs.AccessWords.{first_is}
 use Rattle.jasmin_reader.proofs.DirectiveLines.{Says, directive_ok, untaken, row_read}
 use Rattle.jasmin_reader.proofs.GoodRows.{is_good_row, is_typed, is_headed, rows_good, rows_headed}
 use Rattle.jasmin_reader.proofs.Heads.{class_head, interface_head, field_head, method_head}
-use Rattle.jasmin_reader.proofs.RowSteps.{row_at, rows_at, rows_append, lifted}
+use Rattle.jasmin_reader.proofs.RowSteps.{row_at, rows_at, rows_append, rows_in_method}
 use Rattle.jasmin_reader.proofs.StatementLines.{statement_taken, label_said, labelled_said, operation_said, target_said, case_said, default_said}
 use Rattle.jasmin_reader.proofs.Words.{number_read}
 use Rattle.jasmin_reader.specs.File.{finished, then_lines, rest_at, empty_reader, class_at}
@@ -39,7 +38,9 @@ statement_ok r s w rest None p e = absurd cc
 statement_ok r s w rest (Some b) p e =
     let one = bind_ok (statement_at b w rest) _ s e in
     let t = statement_taken b one.0 w rest one.1 in
-    record { rows = t.rows; is_row = t.is_row; does = lifted t.rows t.are r b one.0 p t.does ∙ one.2; headed = rows_headed t.rows t.are }
+    let same : r ≡ record r { body = Some b } = ap (λ (o : Option Body). record r { body = o }) p in
+    let does = ap (λ (x : Reader). rows_at x t.rows) same ∙ rows_in_method t.rows t.are r b one.0 t.does ∙ one.2 in
+    record { rows = t.rows; is_row = t.is_row; does = does; headed = rows_headed t.rows t.are }
 
 -- A line that is read is a line of the grammar, and its rows do what was read.
 pub line_taken : (r s : Reader) (items : List Item) → line_at r items ≡ Ok s → Says r items s
@@ -57,11 +58,6 @@ line_taken r s (t ∷ rest) e =
 
 single : (r s : Reader) (row : Row) → rows_at r (row ∷ []) ≡ Ok s → row_at r row ≡ Ok s
 single r s row e = let one = bind_ok (row_at r row) _ s e in one.1 ∙ one.2
-
-two_rows : (r s : Reader) (one two : Row) → rows_at r (one ∷ two ∷ []) ≡ Ok s → (row_at r one >>= λ t. row_at t two) ≡ Ok s
-two_rows r s one two e =
-    let a = bind_ok (row_at r one) _ s e in
-    rw (a.1) (single a.0 s two a.2)
 
 -- A line of the grammar is read, and adds what its rows do.
 row_said : (r s : Reader) (items : List Item) (rows : List Row) → IsRow items rows → AreWords items → list_all is_headed rows ≡ true → rows_at r rows ≡ Ok s → line_at r items ≡ Ok s
@@ -81,7 +77,9 @@ row_said r s items rows (stack {w} {n} h) fit headed done = rw (number_read 0 10
 row_said r s items rows (locals {w} {n} h) fit headed done = rw (number_read 0 1024 fault.LimitExceeded w n h, fit.1.1.0) (single r s (LocalsRow n) done)
 row_said r s items rows (catch {w} {from} {to} {using} {class = k} h i j l) fit headed done = rw (row_read w from to using k h i j l (fit.1.0, (fit.1.1.1.0, (fit.1.1.1.1.1.0, (fit.1.1.1.1.1.1.1.0, tt))))) (single r s (CatchRow k from to using) done)
 row_said r s items rows (label {l} h) fit headed done = label_said r s l h fit.0 (single r s (LabelRow l) done)
-row_said r s items rows (labelled {l} {items = i} {row} h is) fit headed done = labelled_said r s l i row h fit.0 is fit.1.1 (two_rows r s (LabelRow l) row done)
+row_said r s items rows (labelled {l} {items = i} {row} h is) fit headed done =
+    let one = bind_ok (row_at r (LabelRow l)) _ s done in
+    labelled_said r s l i row h fit.0 is fit.1.1 (rw (one.1) (single one.0 s row one.2))
 row_said r s items rows (operation {items = i} {row} is) fit headed done = operation_said r s i row is fit (single r s row done)
 row_said r s items rows (target {l} h) fit headed done = target_said r s l h fit.0 (single r s (TargetRow l) done)
 row_said r s items rows (case {w} {l} {key} i h) fit headed done = case_said r s w l key i h fit.0 fit.1.1.0 (single r s (CaseRow key l) done)

@@ -83,9 +83,6 @@ abbrev pub rows_at : Reader → List Row → Result Reader FaultKind
 rows_at r [] = Ok r
 rows_at r (row ∷ rows) = row_at r row >>= λ s. rows_at s rows
 
-pub one_row : (r s : Reader) (row : Row) → row_at r row ≡ Ok s → rows_at r (row ∷ []) ≡ Ok s
-one_row r s row e = ap (λ (x : Result Reader FaultKind). x >>= λ t. Ok t) e
-
 pub rows_append : (r : Reader) (xs ys : List Row) → rows_at r (xs ++ ys) ≡ (rows_at r xs >>= λ s. rows_at s ys)
 rows_append r [] ys = refl
 rows_append r (x ∷ xs) ys = by (row_at r x) (λ s. rows_append s xs ys)
@@ -96,13 +93,8 @@ rows_append r (x ∷ xs) ys = by (row_at r x) (λ s. rows_append s xs ys)
 
 -- a row in a method that stands open
 pub row_in_method : (row : Row) → is_body_row row ≡ true → (r : Reader) (b : Body) → row_at (record r { body = Some b }) row ≡ (may_set b row >>= λ _. done (record r { body = Some (with_setting b row) }))
-row_in_method (ClassRow k a name) h r b = absurd cc
-row_in_method (SuperRow name) h r b = absurd cc
-row_in_method (ImplementsRow name) h r b = absurd cc
-row_in_method (FieldRow f) h r b = absurd cc
-row_in_method (MethodRow a name type) h r b = absurd cc
 row_in_method EndRow h r b = absurd cc
-row_in_method row h r b = refl
+row_in_method row h r b = cc
 
 -- the rows of a method
 pub rows_in_method : (rows : List Row) → list_all is_body_row rows ≡ true → (r : Reader) (b last : Body) → body_rows b rows ≡ Ok last → rows_at (record r { body = Some b }) rows ≡ Ok (record r { body = Some last })
@@ -114,9 +106,3 @@ rows_in_method (row ∷ rows) h r b last e =
     let here = ap (λ (x : Result Body FaultKind). x >>= λ c. done (record r { body = Some c })) may.2 in
     let step : row_at (record r { body = Some b }) row ≡ Ok (record r { body = Some one.0 }) = row_in_method row p.0 r b ∙ then (may_set b row) _ may.0 _ may.1 here in
     ap (λ (x : Result Reader FaultKind). x >>= λ s. rows_at s rows) step ∙ rows_in_method rows p.1 r one.0 last one.2
-
--- the rows of a line in a method
-pub lifted : (rows : List Row) → list_all is_body_row rows ≡ true → (r : Reader) (b last : Body) → r.body ≡ Some b → body_rows b rows ≡ Ok last → rows_at r rows ≡ Ok (record r { body = Some last })
-lifted rows h r b last here e =
-    let same : r ≡ record r { body = Some b } = ap (λ (o : Option Body). record r { body = o }) here in
-    ap (λ (x : Reader). rows_at x rows) same ∙ rows_in_method rows h r b last e

@@ -1,15 +1,13 @@
 -- Cases that are put in their places, one after the other.
-use Rattle.std.proofs.Common.{◌≡◌, ℕ, suc, Bool, true, not, false, ◌&&◌, ◌||◌, cond, List, [], ◌∷◌, length, Option, Some, None, is_some, Ok, Err, Less, Equal, Greater, refl, ap, ◌∙◌}
-use Rattle.std.proofs.lemmas.Bool.{and_parts}
+use Rattle.std.proofs.Common.{◌≡◌, ℕ, suc, inl, inr, Bool, true, not, false, ◌&&◌, ◌||◌, cond, List, [], ◌∷◌, length, Option, Some, None, is_some, Ok, Less, Equal, Greater, refl, ap, ◌∙◌}
+use Rattle.std.proofs.lemmas.Bool.{and_parts, cases_Bool}
 use Rattle.std.specs.Prelude.{ℤ, int_lt}
 use Rattle.std.specs.List.{list_all}
-use Rattle.std.specs.Ordering.{is_eq, match_ordering}
-use Rattle.jasmin_words.specs.declared.fault.FaultKind.TheVariants as fault
+use Rattle.std.specs.Ordering.{is_eq}
 use Rattle.jasmin_text.specs.Grammar.{Cases, with_case, lacks_key, Each, none, more, IsPlacedCase}
 use Rattle.jasmin_text.specs.Spellable.{rises, rises_from}
 use Rattle.jasmin_reader.proofs.GoodRows.{keys_rise_from, keys_rise}
-use Rattle.jasmin_reader.specs.Operands.{integer_in}
-use Rattle.jasmin_reader.specs.Listing.{wanted, case_of, with_key, key_in}
+use Rattle.jasmin_reader.specs.Listing.{wanted, case_of, with_key}
 
 -- ---- new keys
 
@@ -18,14 +16,8 @@ pub new_key_is : (acc : Cases) (key : ℤ) (label : List ℕ) → lacks_key key 
 new_key_is [] key label h = (refl, refl)
 new_key_is (e ∷ es) key label h =
     let p = and_parts (int_lt key e.0 || int_lt e.0 key) (lacks_key key es) h in
-    by (int_lt key e.0) (int_lt e.0 key) p.0 (new_key_is es key label p.1)
-  where
-    by : (s t : Bool) → (s || t) ≡ true → (case_of es key ≡ None) × (with_key es key label ≡ with_case (key, label) es)
-        → (cond (is_eq (cond s Less (cond t Greater Equal))) (Some e.1) (case_of es key) ≡ None)
-        × (match_ordering (cond s Less (cond t Greater Equal)) ((key, label) ∷ e ∷ es) ((e.0, label) ∷ es) (e ∷ with_key es key label) ≡ cond s ((key, label) ∷ e ∷ es) (e ∷ with_case (key, label) es))
-    by true t k i = (i.0, refl)
-    by false true k i = (i.0, ap (λ (l : Cases). e ∷ l) i.1)
-    by false false k i = absurd cc
+    let ih = new_key_is es key label p.1 in
+    elim (cases_Bool (int_lt key e.0)) [ inl y ↦ rw y (ih.0, refl) | inr y ↦ rw (y, rw y at p.0) (ih.0, ap (λ (l : Cases). e ∷ l) ih.1) ]
 
 pub new_key_lacks : (acc : Cases) (key : ℤ) → case_of acc key ≡ None → lacks_key key acc ≡ true
 new_key_lacks [] key h = refl
@@ -39,50 +31,30 @@ pub new_key_ok : (o : Option (List ℕ)) (u : Unit {0}) → wanted (not (is_some
 new_key_ok None u e = refl
 new_key_ok (Some label) u e = absurd cc
 
-pub repeated : (cases : Cases) (w : List ℕ) (key : ℤ) → integer_in w ≡ Ok key → true ≡ is_some (case_of cases key) → key_in cases w ≡ Err fault.BadOperand
-repeated cases w key i e = rw (i, ← e) refl
-
 -- ---- one case more
 
 pub with_case_length : (c : ℤ × List ℕ) (cs : Cases) → length (with_case c cs) ≡ suc (length cs)
 with_case_length c [] = refl
-with_case_length c (d ∷ ds) = by (int_lt c.0 d.0) (with_case_length c ds)
-  where
-    by : (t : Bool) → length (with_case c ds) ≡ suc (length ds) → length (cond t (c ∷ d ∷ ds) (d ∷ with_case c ds)) ≡ suc (suc (length ds))
-    by true rest = refl
-    by false rest = ap suc rest
+with_case_length c (d ∷ ds) = elim (cases_Bool (int_lt c.0 d.0)) [ inl y ↦ rw y refl | inr y ↦ rw y (ap suc (with_case_length c ds)) ]
 
 pub with_case_all : (p : ℤ × List ℕ → Bool) (c : ℤ × List ℕ) (cs : Cases) → p c ≡ true → list_all p cs ≡ true → list_all p (with_case c cs) ≡ true
 with_case_all p c [] h k = rw h refl
 with_case_all p c (d ∷ ds) h k =
     let q = and_parts (p d) (list_all p ds) k in
-    by (int_lt c.0 d.0) q.0 q.1 (with_case_all p c ds h q.1)
-  where
-    by : (t : Bool) → p d ≡ true → list_all p ds ≡ true → list_all p (with_case c ds) ≡ true → list_all p (cond t (c ∷ d ∷ ds) (d ∷ with_case c ds)) ≡ true
-    by true first others rest = rw (h, first, others) refl
-    by false first others rest = rw (first, rest) refl
+    elim (cases_Bool (int_lt c.0 d.0)) [ inl y ↦ rw (y, h, q.0, q.1) refl | inr y ↦ rw (y, q.0) (with_case_all p c ds h q.1) ]
 
 rises_after : (from : ℤ) (c : ℤ × List ℕ) (cs : Cases) → int_lt from c.0 ≡ true → lacks_key c.0 cs ≡ true → keys_rise_from from cs ≡ true → keys_rise_from from (with_case c cs) ≡ true
 rises_after from c [] below h k = rw below refl
 rises_after from c (d ∷ ds) below h k =
     let p = and_parts (int_lt c.0 d.0 || int_lt d.0 c.0) (lacks_key c.0 ds) h in
     let q = and_parts (int_lt from d.0) (keys_rise_from d.0 ds) k in
-    by (int_lt c.0 d.0) refl p.0 q.0 q.1 (λ above. rises_after d.0 c ds above p.1 q.1)
-  where
-    by : (t : Bool) → int_lt c.0 d.0 ≡ t → (t || int_lt d.0 c.0) ≡ true → int_lt from d.0 ≡ true → keys_rise_from d.0 ds ≡ true → (int_lt d.0 c.0 ≡ true → keys_rise_from d.0 (with_case c ds) ≡ true)
-        → keys_rise_from from (cond t (c ∷ d ∷ ds) (d ∷ with_case c ds)) ≡ true
-    by true e above first others rest = rw (below, e, others) refl
-    by false e above first others rest = rw (first, rest above) refl
+    elim (cases_Bool (int_lt c.0 d.0)) [ inl y ↦ rw (y, below, y, q.1) refl | inr y ↦ rw (y, q.0) (rises_after d.0 c ds (rw y at p.0) p.1 q.1) ]
 
 pub with_case_rises : (c : ℤ × List ℕ) (cs : Cases) → lacks_key c.0 cs ≡ true → keys_rise cs ≡ true → keys_rise (with_case c cs) ≡ true
 with_case_rises c [] h k = refl
 with_case_rises c (d ∷ ds) h k =
     let p = and_parts (int_lt c.0 d.0 || int_lt d.0 c.0) (lacks_key c.0 ds) h in
-    by (int_lt c.0 d.0) refl p.0 (λ above. rises_after d.0 c ds above p.1 k)
-  where
-    by : (t : Bool) → int_lt c.0 d.0 ≡ t → (t || int_lt d.0 c.0) ≡ true → (int_lt d.0 c.0 ≡ true → keys_rise_from d.0 (with_case c ds) ≡ true) → keys_rise (cond t (c ∷ d ∷ ds) (d ∷ with_case c ds)) ≡ true
-    by true e above rest = rw (e, k) refl
-    by false e above rest = rest above
+    elim (cases_Bool (int_lt c.0 d.0)) [ inl y ↦ rw (y, y, k) refl | inr y ↦ rw y (rises_after d.0 c ds (rw y at p.0) p.1 k) ]
 
 -- ---- keys with places
 

@@ -1,8 +1,8 @@
 -- Lines of instructions, labels and switches, and their rows. Both ways.
-use Rattle.std.proofs.Common.{◌≡◌, ℕ, Bool, true, not, false, cond, List, [], ◌∷◌, length, Option, Some, None, is_some, Result, Ok, Err, refl, sym, ap, subst, ◌∙◌, codes}
+use Rattle.std.proofs.Common.{◌≡◌, ℕ, inl, inr, true, not, false, List, [], ◌∷◌, length, Option, Some, None, is_some, Result, Ok, refl, sym, ap, subst, ◌∙◌, codes}
 use Rattle.std.specs.Prelude.{ℤ}
 use Rattle.std.specs.Option.{option_map}
-use Rattle.std.proofs.lemmas.Bool.{and_from}
+use Rattle.std.proofs.lemmas.Bool.{and_from, cases_Bool}
 use Rattle.std.proofs.lemmas.Slice.Eq.{bytes_eq-Decides}
 use Rattle.jasmin_words.specs.declared.fault.FaultKind.{FaultKind}
 use Rattle.jasmin_words.specs.declared.fault.FaultKind.TheVariants as fault
@@ -96,14 +96,13 @@ record LabelSays (b : Body) (w : List ℕ) (row : Row) : Type 0 where
 
 label_ok : (b : Body) (w : List ℕ) (row : Row) → label_at b w ≡ Ok row → LabelSays b w row
 unfolding label_at
-label_ok b w row e = by (is_label w) refl e
-  where
-    by : (t : Bool) → is_label w ≡ t → cond t (new_label (place_of b.labels w) >>= λ _. within_limit w >>= λ _. Ok (LabelRow w)) (Err fault.UnknownInstruction) ≡ Ok row → LabelSays b w row
-    by false p h = absurd cc
-    by true p h =
-        let one = bind_ok (new_label (place_of b.labels w)) _ row h in
-        let two = bind_ok (within_limit w) _ row one.2 in
-        record { short = within_ok w two.0 two.1; is = p; same = cc two.2; new = one.1 }
+label_ok b w row e = elim (cases_Bool (is_label w)) [
+  | inl y ↦
+      let one = bind_ok (new_label (place_of b.labels w)) _ row (rw y at e) in
+      let two = bind_ok (within_limit w) _ row one.2 in
+      record { short = within_ok w two.0 two.1; is = y; same = cc two.2; new = one.1 }
+  | inr y ↦ absurd (let h = rw y at e in cc)
+]
 
 not_directive : (c d : Body) (w : List ℕ) (rest : List Item) (o : Option Directive) → labelled_by c w rest o ≡ Ok d → listed c (instruction_at c.listing.room w rest) ≡ Ok d
 not_directive c d w rest (Some x) e = absurd cc
@@ -212,18 +211,16 @@ switch_ok : (room : ℕ) (s : Switch) (w : List ℕ) (rest : List Item) (row : R
 unfolding switch_at
 switch_ok room (switch.Table t) w rest row e = by (behind_colon rest) refl e
   where
-    at : (after : List Item) → behind_colon rest ≡ Some after → (t' : Bool) → is_default w ≡ t' → cond t' (table_end t after) (target_at room t w rest) ≡ Ok row → ListedSays room (Some (switch.Table t)) (Word w ∷ rest) row
-    at after p true q h = table_ended room t w rest after row q (colon_is rest after p) h
-    at after p false q h = target_ok room t w rest row h
-
     by : (o : Option (List Item)) → behind_colon rest ≡ o → table_by room t w rest o ≡ Ok row → ListedSays room (Some (switch.Table t)) (Word w ∷ rest) row
     by None p h = target_ok room t w rest row h
-    by (Some after) p h = at after p (is_default w) refl h
-switch_ok room (switch.Lookup cases) w rest row e = by (is_default w) refl e
-  where
-    by : (t : Bool) → is_default w ≡ t → cond t (lookup_end rest) (case_at room cases w rest) ≡ Ok row → ListedSays room (Some (switch.Lookup cases)) (Word w ∷ rest) row
-    by true p h = lookup_ended room cases w rest row p h
-    by false p h = case_ok room cases w rest row h
+    by (Some after) p h = elim (cases_Bool (is_default w)) [
+      | inl y ↦ table_ended room t w rest after row y (colon_is rest after p) (rw y at h)
+      | inr y ↦ target_ok room t w rest row (rw y at h)
+    ]
+switch_ok room (switch.Lookup cases) w rest row e = elim (cases_Bool (is_default w)) [
+  | inl y ↦ lookup_ended room cases w rest row y (rw y at e)
+  | inr y ↦ case_ok room cases w rest row (rw y at e)
+]
 
 -- A line in a method that begins with no directive is a line of the grammar.
 pub statement_taken : (b c : Body) (w : List ℕ) (rest : List Item) → statement_at b w rest ≡ Ok c → BodySays b (Word w ∷ rest) c

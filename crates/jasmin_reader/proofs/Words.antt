@@ -1,8 +1,8 @@
 -- What single words stand for, both ways: integers, descriptors, members, words of tables.
-use Rattle.std.proofs.Common.{◌≡◌, ℕ, zero, suc, ◌+◌, ◌^◌, ◌<◌, ◌≤◌, ℤ, pos, negsuc, neg_ℤ, int_le, Bool, true, false, not, cond, eqb, nat_le, List, [], ◌∷◌, ◌++◌, length, take, drop, Option, Some, None, IfSome, Result, Ok, Err, refl, sym, ap, ◌∙◌, arith, codes, add-one, one-add, eqb-true, lt-ltb, leb-true, le-leb, take-append-drop, take_at, drop_at}
+use Rattle.std.proofs.Common.{◌≡◌, ℕ, zero, suc, ◌+◌, ◌^◌, ◌<◌, ◌≤◌, inl, inr, ℤ, pos, negsuc, neg_ℤ, int_le, Bool, true, false, not, cond, eqb, nat_le, List, [], ◌∷◌, ◌++◌, length, take, drop, Option, Some, None, IfSome, Result, Ok, Err, refl, sym, ap, ◌∙◌, arith, codes, add-one, one-add, eqb-true, lt-ltb, leb-true, le-leb, take-append-drop, take_at, drop_at}
 use Rattle.std.specs.List.{list_all, AllByRecursion}
 use Rattle.std.specs.Str.Parse.{digits_value}
-use Rattle.std.proofs.lemmas.Bool.{and_from, not_from_false, not-false, false_from_ne_true, and_parts, not-true, cond-false}
+use Rattle.std.proofs.lemmas.Bool.{and_from, cases_Bool, not_from_false, not-false, false_from_ne_true, and_parts, not-true, cond-false}
 use Rattle.std.proofs.lemmas.Int.Digits.{digits_value-lt}
 use Rattle.std.proofs.lemmas.Option.{cond_some}
 use Rattle.std.proofs.Math.Seq.{drop-append-add}
@@ -10,7 +10,7 @@ use Rattle.std.proofs.Math.Nat.{pow-le-pow_right}
 use Rattle.std.proofs.lemmas.List.Folds.{list_all-append}
 use Rattle.std.proofs.lemmas.Slice.Eq.{bytes_eq-Decides}
 use Rattle.std.specs.Str.{bytes_eq}
-use Rattle.descriptors.specs.ClassName.{is_name_byte, with_byte, segments, is_class_name, IsClassName}
+use Rattle.descriptors.specs.ClassName.{is_name_byte, segments, is_class_name, IsClassName}
 use Rattle.descriptors.specs.Signature.{Signature}
 use Rattle.descriptors.specs.Spelling.{method_spelling, IsElementType, IsFieldType, IsMethodType}
 use Rattle.descriptors.specs.Reading.{field_of_text, method_of_text}
@@ -72,10 +72,7 @@ number_ok low high above w n e =
 
 pub number_read : (low high : ℕ) (above : FaultKind) (w : List ℕ) (n : ℕ) → IsNumberIn low high w n → number_in low high above w ≡ Ok n
 unfolding number_in
-number_read low high above w n h =
-    let from : nat_le low n ≡ true = h.from in
-    let to : nat_le n high ≡ true = h.to in
-    rw (h.value, from, to) refl
+number_read low high above w n h = rw (h.value, h.from, h.to) refl
 
 bits_int : (n : ℕ) → n < 4294967296 → is_int (of_bits n) ≡ true
 bits_int n h = grind arith
@@ -146,18 +143,17 @@ lacks c = list_all (λ b. not (eqb b c))
 is_other : (c : ℕ) (test : ℕ → Bool) → test c ≡ false → (b : ℕ) → test b ≡ true → not (eqb b c) ≡ true
 is_other c test none_here b h = not_from_false (eqb b c) (false_from_ne_true (eqb b c) (λ e. cc (ap test (eqb-true b c e), none_here, h)))
 
-all_lack : (c : ℕ) (test : ℕ → Bool) → test c ≡ false → (xs : List ℕ) → list_all test xs ≡ true → lacks c xs ≡ true
-all_lack c test none_here [] h = refl
-all_lack c test none_here (x ∷ xs) h = let p = and_parts (test x) _ h in and_from _ _ (is_other c test none_here x p.0) (all_lack c test none_here xs p.1)
+-- each element that passes one test passes the other
+pub all_weaker : {A : Type 0} (p q : A → Bool) → ((x : A) → p x ≡ true → q x ≡ true) → (xs : List A) → list_all p xs ≡ true → list_all q xs ≡ true
+all_weaker p q f [] h = refl
+all_weaker p q f (x ∷ xs) h = let t = and_parts (p x) _ h in and_from _ _ (f x t.0) (all_weaker p q f xs t.1)
 
 segments_lack : (c : ℕ) → eqb 47 c ≡ false → is_name_byte c ≡ false → (name : List ℕ) → list_all (list_all is_name_byte) (segments name) ≡ true → lacks c name ≡ true
 segments_lack c slash none_here [] h = refl
-segments_lack c slash none_here (b ∷ bs) h = by (eqb b 47) refl (segments_lack c slash none_here bs) h
-  where
-    by : (t : Bool) → eqb b 47 ≡ t → (list_all (list_all is_name_byte) (segments bs) ≡ true → lacks c bs ≡ true)
-        → list_all (list_all is_name_byte) (cond t ([] ∷ segments bs) (with_byte b (segments bs))) ≡ true → lacks c (b ∷ bs) ≡ true
-    by true e rest k = and_from _ _ (not_from_false (eqb b c) (ap (λ (z : ℕ). eqb z c) (eqb-true b 47 e) ∙ slash)) (rest k)
-    by false e rest k = let p = split_byte b (segments bs) k in and_from _ _ (is_other c is_name_byte none_here b p.0) (rest p.1)
+segments_lack c slash none_here (b ∷ bs) h = elim (cases_Bool (eqb b 47)) [
+  | inl y ↦ and_from _ _ (not_from_false (eqb b c) (ap (λ (z : ℕ). eqb z c) (eqb-true b 47 y) ∙ slash)) (segments_lack c slash none_here bs (rw y at h))
+  | inr y ↦ let p = split_byte b (segments bs) (rw y at h) in and_from _ _ (is_other c is_name_byte none_here b p.0) (segments_lack c slash none_here bs p.1)
+]
 
 pub class_lacks : (c : ℕ) → eqb 47 c ≡ false → is_name_byte c ≡ false → (name : List ℕ) → IsClassName name → lacks c name ≡ true
 unfolding is_class_name
@@ -167,7 +163,7 @@ pub member_lacks : (c : ℕ) → lacks c (codes "<init>") ≡ true → lacks c (
 unfolding is_member_name
 member_lacks c i j none_here name h =
     one_of (bytes_eq name (codes "<init>")) (bytes_eq name (codes "<clinit>")) _ (lacks c name ≡ true) h
-    (λ e. ap (lacks c) ((bytes_eq-Decides name (codes "<init>")).0 e) ∙ i) (λ e. ap (lacks c) ((bytes_eq-Decides name (codes "<clinit>")).0 e) ∙ j) (λ e. all_lack c is_member_byte none_here name (and_parts _ _ e).1)
+    (λ e. ap (lacks c) ((bytes_eq-Decides name (codes "<init>")).0 e) ∙ i) (λ e. ap (lacks c) ((bytes_eq-Decides name (codes "<clinit>")).0 e) ∙ j) (λ e. all_weaker is_member_byte _ (is_other c is_member_byte none_here) name (and_parts _ _ e).1)
 
 -- ---- members: the last slash
 
@@ -213,9 +209,8 @@ member_read w class name m =
 
 both_ok : {A B : Type 0} (x : Result A FaultKind) (y : Result B FaultKind) (z : A × B) → both x y ≡ Ok z → (x ≡ Ok z.0) × (y ≡ Ok z.1)
 both_ok (Ok a) (Ok b) z e = (cc, cc)
-both_ok (Err j) (Ok b) z e = absurd cc
-both_ok (Ok a) (Err k) z e = absurd cc
 both_ok (Err j) (Err k) z e = absurd cc
+both_ok x y z e = absurd cc
 
 name_len_is : (front : List ℕ) (m : Signature) → lacks 40 front ≡ true → name_len (front ++ method_spelling m) ≡ length front
 name_len_is [] m h = refl
@@ -253,9 +248,7 @@ method_read w class name type m =
     let front = class ++ 47 ∷ name in
     let read = member_read front class name (record { parts = refl; class_name = m.class_name; member_name = m.member_name }) in
     let bare = list_all-append _ class (47 ∷ name) ∙ and_from _ _ (class_lacks 40 refl refl class m.class_name) (member_lacks 40 refl refl refl name m.member_name) in
-    let typed = typed_read member_in front type (class, name) bare read m.method_type in
-    let spelled : w ≡ front ++ method_spelling type = m.parts in
-    rw spelled (rw typed refl)
+    rw (m.parts, typed_read member_in front type (class, name) bare read m.method_type) refl
 
 -- ---- words of tables
 
@@ -266,11 +259,10 @@ AllRows P (r ∷ rows) = P r.0 r.1 × AllRows P rows
 -- what holds of each row holds of the word that was found and of what stands beside it
 pub find_ok : {X : Type 0} (P : List ℕ → X → Type 0) (w : List ℕ) (rows : List (List ℕ × X)) (x : X) → AllRows P rows → find_row w rows ≡ Some x → P w x
 find_ok P w [] x all e = absurd cc
-find_ok {X} P w (r ∷ rows) x all e = by (bytes_eq w r.0) refl (find_ok P w rows x all.1) e
-  where
-    by : (t : Bool) → bytes_eq w r.0 ≡ t → (find_row w rows ≡ Some x → P w x) → cond t (Some r.1) (find_row w rows) ≡ Some x → P w x
-    by true p rest h = let value : r.1 ≡ x = cc in rw ((bytes_eq-Decides w r.0).0 p, ← value) all.0
-    by false p rest h = rest h
+find_ok P w (r ∷ rows) x all e = elim (cases_Bool (bytes_eq w r.0)) [
+  | inl y ↦ let value : r.1 ≡ x = (let found = rw y at e in cc) in rw ((bytes_eq-Decides w r.0).0 y, ← value) all.0
+  | inr y ↦ find_ok P w rows x all.1 (rw y at e)
+]
 
 find_none : {X : Type 0} (test : List ℕ → Bool) (w : List ℕ) → test w ≡ false → (rows : List (List ℕ × X)) → list_all (λ (r : List ℕ × X). test r.0) rows ≡ true → find_row w rows ≡ None
 find_none test w h [] k = refl

@@ -1,6 +1,6 @@
-use Rattle.std.proofs.Common.{◌∙◌, sym, ap, length}
-use Rattle.jasmin_reader.proofs.LabelTables.{zip_length}
+use Rattle.std.proofs.Common.{ap, length, arith}
+use Rattle.std.proofs.lemmas.Slice.Zip.{length-zip}
 use Rattle.jasmin_reader.proofs.labels.Labels.len.Goals as goal
 
 pub returns : goal.returns
-returns c = c.len.ensures ∙ c.self.inside.places.ok.0 ∙ sym (zip_length c.self.inside.names c.self.inside.places.items c.self.invariant) ∙ ap length c.self.view_is
+returns c = let same = ap length c.self.view_is in omega (arith, length-zip c.self.inside.names c.self.inside.places.items)
