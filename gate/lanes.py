@@ -1,9 +1,9 @@
 """Tasks side by side, in the place of the kit's `in_lanes`.
 
 What has nearly the longest path of others after it leads. The other proofs and the tests run beside it at a lower priority, and edits
-at a still lower one. So each takes what those before it leave: no task has work for all processors all the time. What leads has three
-jobs where it has much work, and others more than the fewest where their path is longer than what is left for each processor, or where
-processors would be idle: several jobs take the processors 15 to 50 % longer than one."""
+at a still lower one. So each takes what those before it leave: no task has work for all processors all the time. What leads alone has
+three jobs where it has much work, what leads beside others two, as has what has a longer path than what is left for each processor; and
+each has more where processors would be idle: several jobs take the processors 15 to 50 % longer than one."""
 import os
 from concurrent.futures import FIRST_COMPLETED, ThreadPoolExecutor, wait
 
@@ -63,9 +63,10 @@ def run(tasks, given, processors, memory, memory_for, fewest=1):
             return 1
         if 4 * tasks[key][1] < most_work:
             return fewest
-        others = len(running) + len([it for it in left if is_ready(it)]) - 1
+        beside = [it for it in [*left, *(it for it, _, _ in running.values())] if it != key and is_ready(it)]
         is_waited_for = processors * behind[key] > sum(tasks[it][1] for it in left)
-        return max(fewest, processors - others, 3 if lanes is lead else 2 if is_waited_for else 1)
+        leads_alone = lanes is lead and not any(lanes_of(it) is lead for it in beside)
+        return max(fewest, processors - len(beside), 3 if leads_alone else 2 if lanes is lead or is_waited_for else 1)
 
     def start():
         """Starts what there is room for: first what gathers the results of a crate's edits, so that the crate is kept, then proofs

@@ -6,6 +6,7 @@ reads it. One that is missed would only be checked again."""
 import contextlib
 import os
 import re
+import shutil
 import threading
 
 # How often they are looked for, in seconds: once all are written, a check takes some seconds for the library itself.
@@ -29,6 +30,8 @@ def below(folder):
 @contextlib.contextmanager
 def linked(crate, to):
     """Links what is made of the crate meanwhile to a new folder, within one of the name that this build of the prover looks for."""
+    # (there is one where a check before was killed)
+    shutil.rmtree(f"{to}/new", ignore_errors=True)
     os.makedirs(f"{to}/new")
     is_over = threading.Event()
     looking = threading.Thread(target=link, args=(os.environ["TMPDIR"], crate.name, f"{to}/new", is_over))

@@ -103,6 +103,9 @@ class Gate:
                 if tests or self.is_program or not rt.edits_of(self)[0]:
                     # (a program's edits are few, and start from nothing)
                     return super().ci(flags, tests)
+                if flags == ["--jobs", "1"]:
+                    # (the second try after a check that was killed for want of memory: by one job, no modules would be written)
+                    flags = ["--jobs", "2"]
                 with modules.linked(self, gate.kept(self)):
                     return super().ci(flags, tests)
 
