@@ -172,14 +172,19 @@ def plan(crate, names, edits):
 
 
 def refused_by_own(said):
-    """The functions that the prover refuses for a goal of their own."""
-    with_errors = set()
+    """The functions that the prover refuses for a goal of their own. One of which it only says that its proof names what isn't there
+    any more is shown: another edit may tell more of its contract."""
+    errors = {}
     for line in said.split("\n"):
         found = re.match(r"(?:\./)?proofs/(\S+)/[^/ ]+\.antt:\d+:\d+: error: (.*)", line)
         if found and "was not admitted" not in found[2]:
-            with_errors.add(found[1])
+            errors.setdefault(found[1], []).append(found[2])
     own = set()
     for name, rest in re.findall(r"^fn (\S+): (?:not proved|no proof)(.*)$", said, re.M):
-        if "`search` did not prove" in rest or "/".join(name.split("::")[1:]) in with_errors:
+        told = errors.get("/".join(name.split("::")[1:]), [])
+        is_searched = "`search` did not prove" in rest
+        if is_searched or told:
             own.add(name)
+        if told and not is_searched and all(re.search(r"has no (field )?`", it) for it in told):
+            say(f"the edit of {name} is refused for names alone")
     return own

@@ -4,7 +4,7 @@ ghost use Rattle.std.specs.Prelude.{◌≡◌, Result, List, ℕ};
 ghost use Rattle.jasmin_words.specs.declared.fault.FaultKind.{FaultKind};
 ghost use Rattle.sequence.specs.Gives.{Gives};
 ghost use Rattle.jasmin_text.specs.declared.instruction.Instruction.TheVariants as instructions;
-ghost use Rattle.jasmin_reader.specs.Bodies.{placed_label, placed_labels, placed_cases, placed, each, handler_of, placed_catch, body_of, method_with, closed};
+ghost use Rattle.jasmin_reader.specs.Bodies.{placed_label, placed, each, handler_of, placed_catch, body_of, method_with, closed};
 
 use crate::body::{Body, Catch};
 use crate::labels::Labels;
@@ -25,36 +25,71 @@ fn place(labels: &Labels, label: &Text) -> Result<u16, LineError>
     }
 }
 
-/// The places of labels.
+/// What has labels and gets places for them where its method ends.
+trait HasLabels: Drop {
+    /// The same with places.
+    type Placed: Drop;
+
+    /// It with the places of its labels, or the fault of a label that is nowhere.
+    ghost placed: { List (List ℕ × ℕ) → Self → Result Self.Placed FaultKind };
+
+    /// The same with places for its labels.
+    fn with_places(self, alloc: Global, labels: &Labels) -> Result<Self::Placed, LineError>
+        ensures { Gives (λ x. x) result (placed labels.now self) };
+}
+
+/// A label.
+impl HasLabels for Text {
+    ghost use Rattle.jasmin_reader.specs.Bodies.{placed_label};
+
+    type Placed = u16;
+
+    ghost placed = { placed_label };
+
+    fn with_places(self, _alloc: Global, labels: &Labels) -> Result<u16, LineError> {
+        place(labels, &self)
+    }
+}
+
+/// A key and its label.
+impl HasLabels for (i32, Text) {
+    ghost use Rattle.jasmin_reader.specs.Bodies.{placed_case};
+
+    type Placed = (i32, u16);
+
+    ghost placed = { placed_case };
+
+    fn with_places(self, _alloc: Global, labels: &Labels) -> Result<(i32, u16), LineError> {
+        Ok((self.0, place(labels, &self.1)?))
+    }
+}
+
+/// Each with places for its labels.
 #[tactic(auto, unfolding(crate::specs::Bodies::each), using(crate::proofs::Gathered::gathering))]
-fn places(alloc: Global, labels: &Labels, names: &[Text]) -> Result<Sequence<u16>, LineError>
-    ensures { Gives (λ x. x) result (placed_labels labels.now names.now) }
+fn all_with_places<T: HasLabels>(
+    alloc: Global,
+    labels: &Labels,
+    items: Vec<T>,
+) -> Result<Sequence<T::Placed>, LineError>
+    ensures { Gives (λ x. x) result (each (T.placed labels.now) items.items) }
 {
-    let mut all = Sequence::from_vec(Vec::with_capacity(alloc, names.len())?);
-    let mut rest = names;
-    while let [name, after @ ..] = rest {
-        all.push(place(labels, name)?)?;
-        rest = after;
+    let mut all = Sequence::from_vec(Vec::with_capacity(alloc, items.len())?);
+    for item in items {
+        all.push(item.with_places(alloc, labels)?)?;
     }
     Ok(all)
 }
 
-/// Keys with the places of their labels.
-#[tactic(auto, unfolding(crate::specs::Bodies::each), using(crate::proofs::Gathered::gathering))]
-fn cases(
+/// Each with places for its labels, in memory of their own.
+fn boxed_with_places<T: HasLabels>(
     alloc: Global,
     labels: &Labels,
-    names: &[(i32, Text)],
-) -> Result<Sequence<(i32, u16)>, LineError>
-    ensures { Gives (λ x. x) result (placed_cases labels.now names.now) }
+    items: Boxed<Sequence<T>>,
+) -> Result<Boxed<Sequence<T::Placed>>, LineError>
+    ensures { Gives (λ x. x) result (each (T.placed labels.now) items) }
 {
-    let mut all = Sequence::from_vec(Vec::with_capacity(alloc, names.len())?);
-    let mut rest = names;
-    while let [name, after @ ..] = rest {
-        all.push((name.0, place(labels, &name.1)?))?;
-        rest = after;
-    }
-    Ok(all)
+    let placed = all_with_places(alloc, labels, items.into_value().into_vec())?;
+    Ok(Boxed::new(alloc, placed)?)
 }
 
 /// A jump with the place of its label.
@@ -76,7 +111,7 @@ fn table_with_places(
 ) -> Result<Instruction<u16>, LineError>
     ensures { Gives (λ x. x) result (placed labels.now (instructions.TableSwitch low names label)) }
 {
-    let targets = Boxed::new(alloc, places(alloc, labels, names.get().as_slice())?)?;
+    let targets = boxed_with_places(alloc, labels, names)?;
     Ok(Instruction::TableSwitch(low, targets, place(labels, &label)?))
 }
 
@@ -85,26 +120,13 @@ fn table_with_places(
 fn lookup_with_places(
     alloc: Global,
     labels: &Labels,
-    names: Boxed<Sequence<(i32, Text)>>,
+    cases: Boxed<Sequence<(i32, Text)>>,
     label: Text,
 ) -> Result<Instruction<u16>, LineError>
-    ensures { Gives (λ x. x) result (placed labels.now (instructions.LookupSwitch names label)) }
+    ensures { Gives (λ x. x) result (placed labels.now (instructions.LookupSwitch cases label)) }
 {
-    let targets = Boxed::new(alloc, cases(alloc, labels, names.get().as_slice())?)?;
-    Ok(Instruction::LookupSwitch(targets, place(labels, &label)?))
-}
-
-/// What has labels and gets places for them where its method ends.
-trait HasLabels: Drop {
-    /// The same with places.
-    type Placed: Drop;
-
-    /// It with the places of its labels, or the fault of a label that is nowhere.
-    ghost placed: { List (List ℕ × ℕ) → Self → Result Self.Placed FaultKind };
-
-    /// The same with places for its labels.
-    fn with_places(self, alloc: Global, labels: &Labels) -> Result<Self::Placed, LineError>
-        ensures { Gives (λ x. x) result (placed labels.now self) };
+    let cases = boxed_with_places(alloc, labels, cases)?;
+    Ok(Instruction::LookupSwitch(cases, place(labels, &label)?))
 }
 
 impl HasLabels for Instruction<Text> {
@@ -125,8 +147,8 @@ impl HasLabels for Instruction<Text> {
             Instruction::TableSwitch(low, names, label) => {
                 table_with_places(alloc, labels, low, names, label)
             }
-            Instruction::LookupSwitch(names, label) => {
-                lookup_with_places(alloc, labels, names, label)
+            Instruction::LookupSwitch(cases, label) => {
+                lookup_with_places(alloc, labels, cases, label)
             }
             Instruction::Field(access, field) => Ok(Instruction::Field(access, field)),
             Instruction::Call(call, method) => Ok(Instruction::Call(call, method)),
@@ -165,22 +187,6 @@ impl HasLabels for Catch {
             class: self.class,
         })
     }
-}
-
-/// Each with places for its labels.
-#[tactic(auto, unfolding(crate::specs::Bodies::each), using(crate::proofs::Gathered::gathering))]
-fn all_with_places<T: HasLabels>(
-    alloc: Global,
-    labels: &Labels,
-    items: Vec<T>,
-) -> Result<Sequence<T::Placed>, LineError>
-    ensures { Gives (λ x. x) result (each (T.placed labels.now) items.items) }
-{
-    let mut all = Sequence::from_vec(Vec::with_capacity(alloc, items.len())?);
-    for item in items {
-        all.push(item.with_places(alloc, labels)?)?;
-    }
-    Ok(all)
 }
 
 impl Body {

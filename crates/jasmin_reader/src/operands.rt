@@ -213,8 +213,8 @@ fn field(alloc: Global, word: FieldAccess, tokens: &[Token<'_>]) -> Result<Liste
 fn call(alloc: Global, word: Call, tokens: &[Token<'_>]) -> Result<Listed, LineError>
     ensures { Gives listed_row result (begun_at (forms.Call word) (views tokens.now)) }
 {
-    match last_operand::<MethodReference>(alloc, tokens) {
-        Ok(method) => Ok(Listed::Instruction(Instruction::Call(word, Boxed::new(alloc, method)?))),
+    match last_operand::<Boxed<MethodReference>>(alloc, tokens) {
+        Ok(method) => Ok(Listed::Instruction(Instruction::Call(word, method))),
         Err(error) => Err(error),
     }
 }
@@ -223,17 +223,17 @@ fn call(alloc: Global, word: Call, tokens: &[Token<'_>]) -> Result<Listed, LineE
 fn interface_call(alloc: Global, tokens: &[Token<'_>]) -> Result<Listed, LineError>
     ensures { Gives listed_row result (begun_at forms.CallInterface (views tokens.now)) }
 {
-    let (method, rest) = operand::<MethodReference>(alloc, tokens)?;
+    let (method, rest) = operand::<Boxed<MethodReference>>(alloc, tokens)?;
     count(alloc, rest)?;
-    Ok(Listed::Instruction(Instruction::CallInterface(Boxed::new(alloc, method)?)))
+    Ok(Listed::Instruction(Instruction::CallInterface(method)))
 }
 
 /// What a line of `new` says.
 fn object(alloc: Global, tokens: &[Token<'_>]) -> Result<Listed, LineError>
     ensures { Gives listed_row result (begun_at forms.New (views tokens.now)) }
 {
-    match last_operand::<ClassName>(alloc, tokens) {
-        Ok(class) => Ok(Listed::Instruction(Instruction::New(Boxed::new(alloc, class)?))),
+    match last_operand::<Boxed<ClassName>>(alloc, tokens) {
+        Ok(class) => Ok(Listed::Instruction(Instruction::New(class))),
         Err(error) => Err(error),
     }
 }
@@ -252,11 +252,8 @@ fn array(alloc: Global, tokens: &[Token<'_>]) -> Result<Listed, LineError>
 fn type_use(alloc: Global, word: TypeUse, tokens: &[Token<'_>]) -> Result<Listed, LineError>
     ensures { Gives listed_row result (begun_at (forms.TypeUse word) (views tokens.now)) }
 {
-    match last_operand::<ReferenceType>(alloc, tokens) {
-        Ok(reference) => {
-            let reference = Boxed::new(alloc, reference)?;
-            Ok(Listed::Instruction(Instruction::TypeUse(word, reference)))
-        }
+    match last_operand::<Boxed<ReferenceType>>(alloc, tokens) {
+        Ok(reference) => Ok(Listed::Instruction(Instruction::TypeUse(word, reference))),
         Err(error) => Err(error),
     }
 }

@@ -63,11 +63,8 @@ impl Cases {
     pub(crate) fn into_sequence(self, alloc: Global) -> Result<Sequence<(i32, Text)>, AllocError>
         ensures { Rattle.std.specs.Prelude.IfOk result (λ cases. cases ≡ self) }
     {
-        let mut cases = Sequence::from_vec(Vec::with_capacity(alloc, self.labels.len())?);
-        for case in self.labels {
-            cases.push(case)?;
-        }
-        Ok(cases)
+        let cases: Vec<(i32, Text)> = self.labels.into_iter().collect(alloc)?;
+        Ok(Sequence::from_vec(cases))
     }
 }
 

@@ -10,7 +10,7 @@ use crate::table::{BaseWord, base_word_of};
 use descriptors::{
     BaseType, ClassName, DescriptorFault, FieldType, MethodType, parse_field, parse_method,
 };
-use jasmin_text::{MethodReference, ReferenceType};
+use jasmin_text::{Boxed, MethodReference, ReferenceType};
 use jasmin_words::FaultKind;
 use jasmin_words::integer::parse_integer;
 use jasmin_words::name::{MemberName, is_label};
@@ -49,6 +49,16 @@ pub(crate) fn limit(word: &[u8]) -> Result<u16, LineError>
     ensures { Gives (λ n. n) result (limit_in word.now) }
 {
     number(0, 1024, FaultKind::LimitExceeded, word)
+}
+
+/// A large operand, in memory of its own.
+impl<T: FromWord> FromWord for Boxed<T> {
+    ghost read = { T.read };
+
+    fn from_word(alloc: Global, word: &[u8]) -> Result<Boxed<T>, LineError> {
+        let value = T::from_word(alloc, word)?;
+        Ok(Boxed::new(alloc, value)?)
+    }
 }
 
 impl FromWord for i32 {

@@ -30,6 +30,13 @@ impl<T: Drop> Boxed<T> {
 }
 
 impl<T> Boxed<T> {
+    /// The value, out of its memory.
+    pub fn into_value(self) -> T
+        ensures { result ≡ self }
+    {
+        Box::into_inner(self.boxed)
+    }
+
     /// The value.
     pub fn get(&self) -> &T
         ensures { result.now ≡ self.now }

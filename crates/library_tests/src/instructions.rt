@@ -8,7 +8,7 @@ use std::mem::size_of;
 fn is_boxed(alloc: Global, bytes: &[u8]) -> Result<bool, AllocError> {
     let operand = Text::copied(alloc, bytes)?;
     let boxed = Boxed::new(alloc, operand)?;
-    Ok(boxed.get().as_slice() == bytes)
+    Ok(boxed.get().as_slice() == bytes && boxed.into_value().as_slice() == bytes)
 }
 
 #[test]
