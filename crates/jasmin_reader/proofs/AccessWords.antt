@@ -25,7 +25,7 @@ use Rattle.jasmin_reader.specs.declared.head.HeadWords.{HeadWords}
 use Rattle.jasmin_reader.specs.declared.table.ClassWord.{ClassWord}
 use Rattle.jasmin_reader.specs.declared.table.ClassWord.TheVariants as class_word
 use Rattle.jasmin_reader.specs.Places.{word_of, first_word, within_limit}
-use Rattle.jasmin_reader.specs.Heads.{with_access, stand_together, fits_place, class_word_at, head_word_at, with_class_word, with_word, is_before_name, named_from, has_word, no_access_by, no_access_in}
+use Rattle.jasmin_reader.specs.Heads.{with_access, stand_together, fits_place, head_word_at, with_class_word, with_word, is_before_name, named_from, has_word, no_access_by, no_access_in}
 
 -- ---- words
 
@@ -52,7 +52,7 @@ is_access_at place.Interface = is_taken kind.Interface
 is_access_at member = is_member_word
 
 says_some : (p : Place) (w : List ℕ) → is_some (head_word_at p w) ≡ is_access_at p w
-unfolding head_word_at class_word_at
+unfolding head_word_at
 says_some place.Class w = elim (cases_Bool (bytes_eq w (codes "interface"))) [ inl y ↦ rw y refl | inr y ↦ rw y (mapped (access_of w)) ]
 says_some place.Interface w = mapped (access_of w)
 says_some member w = mapped (member_access_of w)
@@ -92,7 +92,7 @@ says_access (Some a) c e = (a, cc, refl)
 says_access None c e = absurd cc
 
 class_says : (w : List ℕ) (c : ClassWord) → head_word_at place.Class w ≡ Some c → Says w c
-unfolding head_word_at class_word_at Says
+unfolding head_word_at Says
 class_says w c e = elim (cases_Bool (bytes_eq w (codes "interface"))) [
   | inl y ↦ let is : class_word.Interface ≡ c = (let k = rw y at e in cc) in rw (← is) ((bytes_eq-Decides w (codes "interface")).0 y)
   | inr y ↦ let (a, is, found) = says_access (access_of w) c (rw y at e) in rw is found
@@ -118,7 +118,7 @@ abbrev pub AreJust : List Item → (List (List ℕ) → Type 0) → Type 0
 AreJust items P = (ws : List (List ℕ)) × (items ≡ map Word ws) × P ws
 
 pub class_words : {k l : ClassKind} {a b : Access} {items : List Item} → IsClassAccess k a items l b → AreJust items (λ ws. Words place.Class (record { kind = k; access = a }) ws (record { kind = l; access = b }))
-unfolding head_word_at class_word_at
+unfolding head_word_at
 class_words none = ([], refl, nothing)
 class_words (more {w} {word = x} e t is) = let (ws, parts, words) = class_words is in (w ∷ ws, ap (λ l. Word w ∷ l) parts, access x (rw (access_not_interface w x e, e) refl) t refl words)
 class_words (interface is) = let (ws, parts, words) = class_words is in (codes "interface" ∷ ws, ap (λ l. Word (codes "interface") ∷ l) parts, to_interface refl words)
@@ -153,9 +153,9 @@ simple_words p says known k {a = a} (more {w} {k = x} e t is) s =
 abbrev pub Found : Type 0
 Found = HeadWords × (List ℕ × List Item)
 
--- the words, the name and what follows; the words before the name are within their limit
+-- the words, the name, which is no access word, and what follows; the words before the name are within their limit
 abbrev pub Named : Place → HeadWords → List Item → Found → Type 0
-Named p h items x = (before : List (List ℕ)) × Words p h before x.0 × (items ≡ map Word before ++ Word x.1.0 ∷ x.1.1) × (AreWords (Word x.1.0 ∷ x.1.1) → AreWords items)
+Named p h items x = (before : List (List ℕ)) × Words p h before x.0 × (items ≡ map Word before ++ Word x.1.0 ∷ x.1.1) × (AreWords (Word x.1.0 ∷ x.1.1) → AreWords items) × (is_access_at p x.1.0 ≡ false)
 
 one_more : (p : Place) (h next k : HeadWords) (w : List ℕ) (ws : List (List ℕ)) → with_word p h w ≡ Ok next → Words p next ws k → Words p h (w ∷ ws) k
 unfolding with_word
@@ -178,22 +178,25 @@ named_ok p h (t ∷ rest) x e =
     let one = bind_ok (word_of t) _ x e in
     by one.0 (first_is fault.BadOperand t one.0 one.1) (is_before_name p rest) one.2 (λ next. named_ok p next rest x)
   where
-    by : (w : List ℕ) → t ≡ Word w → (b : Bool) → cond b (with_word p h w >>= λ next. within_limit w >>= λ _. named_from p next rest) (Ok (h, (w, rest))) ≡ Ok x
+    by : (w : List ℕ) → t ≡ Word w → (b : Bool) → cond b (with_word p h w >>= λ next. within_limit w >>= λ _. named_from p next rest) (no_access_in p w >>= λ _. Ok (h, (w, rest))) ≡ Ok x
         → ((next : HeadWords) → named_from p next rest ≡ Ok x → Named p next rest x) → Named p h (t ∷ rest) x
-    by w is false e others = let k : (h, (w, rest)) ≡ x = cc in rw (← k, is) ([], nothing, refl, λ good. good)
+    by w is false e others =
+        let one = bind_ok (no_access_in p w) _ x e in
+        let k : (h, (w, rest)) ≡ x = cc (one.2) in
+        rw (← k, is) ([], nothing, refl, (λ good. good), no_access_word p w one.0 one.1)
     by w is true e others =
         let one = bind_ok (with_word p h w) _ x e in
         let two = bind_ok (within_limit w) _ x one.2 in
-        let (before, words, parts, fit) = others one.0 two.2 in
-        rw is (w ∷ before, one_more p h one.0 x.0 w before one.1 words, ap (λ (l : List Item). Word w ∷ l) parts, λ good. (within_ok w two.0 two.1, fit good))
+        let (before, words, parts, fit, free) = others one.0 two.2 in
+        rw is (w ∷ before, one_more p h one.0 x.0 w before one.1 words, ap (λ (l : List Item). Word w ∷ l) parts, (λ good. (within_ok w two.0 two.1, fit good)), free)
 
 -- a name is read where it is looked for behind the words before it
-pub named_read : (p : Place) (name : List ℕ) (rest : List Item) → is_before_name p rest ≡ false → ((ws : List (List ℕ)) → is_before_name p (map Word ws ++ Word name ∷ rest) ≡ true)
+pub named_read : (p : Place) (name : List ℕ) (rest : List Item) → is_access_at p name ≡ false → is_before_name p rest ≡ false → ((ws : List (List ℕ)) → is_before_name p (map Word ws ++ Word name ∷ rest) ≡ true)
     → {h k : HeadWords} {ws : List (List ℕ)} → Words p h ws k → AreWords (map Word ws ++ Word name ∷ rest) → named_from p h (map Word ws ++ Word name ∷ rest) ≡ Ok (k, (name, rest))
 unfolding named_from with_word
-named_read p name rest ends follows nothing fit = rw ends refl
-named_read p name rest ends follows (access {ws} a is t s words) fit = rw (follows ws, is, t, s, fit.0) (named_read p name rest ends follows words fit.1)
-named_read p name rest ends follows (to_interface {ws} is words) fit = rw (follows ws, is, fit.0) (named_read p name rest ends follows words fit.1)
+named_read p name rest free ends follows nothing fit = rw (ends, passed_over p name free) refl
+named_read p name rest free ends follows (access {ws} a is t s words) fit = rw (follows ws, is, t, s, fit.0) (named_read p name rest free ends follows words fit.1)
+named_read p name rest free ends follows (to_interface {ws} is words) fit = rw (follows ws, is, fit.0) (named_read p name rest free ends follows words fit.1)
 
 pub word_behind : (name : List ℕ) (ws : List (List ℕ)) → has_word (map Word ws ++ Word name ∷ []) ≡ true
 word_behind name [] = refl

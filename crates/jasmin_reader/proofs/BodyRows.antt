@@ -18,7 +18,8 @@ use Rattle.jasmin_reader.specs.declared.body.Catch.{Catch as ReadCatch}
 use Rattle.jasmin_reader.specs.declared.switch.Switch.{Switch}
 use Rattle.jasmin_reader.specs.declared.switch.Switch.TheVariants as switch
 use Rattle.jasmin_reader.specs.declared.switch.Table.{Table}
-use Rattle.jasmin_reader.specs.Listing.{Listing, has_room, takes_label, is_full, wanted, case_of, with_key, listed_by}
+use Rattle.jasmin_reader.specs.Places.{wanted_or}
+use Rattle.jasmin_reader.specs.Listing.{Listing, has_room, takes_label, is_full, case_of, with_key, listed_by}
 use Rattle.jasmin_reader.specs.Operands.{labels_between}
 use Rattle.jasmin_reader.specs.Bodies.{new_label, outside_switch}
 use Rattle.jasmin_reader.proofs.GoodRows.{is_listed, listed_size, sizes, sizes_push, is_good_row}
@@ -171,7 +172,7 @@ listing_step o row rows b c last here good e follows = let m = bind_ok (may_list
         let body = subst (λ (ls : List (List ℕ)). IsBody (and_instruction (added b) (instruction.TableSwitch t.low ls d)) rows (added last)) none_left k.0 in
         (([], d, rows, refl, fits, body), omega (arith, n, k.1), k.2)
     by (Some (switch.Lookup acc)) (CaseRow key to) u here good m e =
-        let free = bind_ok (wanted (not (is_some (case_of acc key)))) _ u m in
+        let free = bind_ok (wanted_or (not (is_some (case_of acc key))) fault.BadOperand) _ u m in
         let r = room_taken b.listing.room u free.2 in
         let k = after (record b.listing { switch = Some (switch.Lookup (with_key acc key to)); room = b.listing.room - 1 }) e in
         let n : InLookup (added b) (with_key acc key to) rows (added last) = k.0 in

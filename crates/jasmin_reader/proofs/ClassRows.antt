@@ -1,5 +1,5 @@
 -- The rows of a class, and what they add to the class of the grammar; what is read is what the lines spell. Both ways.
-use Rattle.std.proofs.Common.{cond, ◌≡◌, ℕ, ◌+◌, ◌-◌, ◌≤◌, ◌<◌, Bool, true, not, ◌&&◌, ◌||◌, eqb, nat_le, nat_lt, List, [], ◌∷◌, ◌++◌, length, map, Option, Some, None, IfOk, IfSome, is_none, unwrap_or, Result, Ok, Err, refl, sym, ap, subst, ◌∙◌, arith}
+use Rattle.std.proofs.Common.{◌≡◌, ℕ, ◌+◌, ◌-◌, ◌≤◌, ◌<◌, Bool, true, not, ◌&&◌, ◌||◌, eqb, nat_le, nat_lt, List, [], ◌∷◌, ◌++◌, length, map, Option, Some, None, IfOk, IfSome, is_none, unwrap_or, Result, Ok, Err, refl, sym, ap, subst, ◌∙◌, arith}
 use Rattle.std.specs.List.{list_all}
 use Rattle.std.proofs.lemmas.Bool.{and_from, leb-true, le-leb, ltb-true, lt-ltb, and_parts, or_parts, not-true, not-false}
 use Rattle.std.proofs.lemmas.List.{length_push}
@@ -24,7 +24,8 @@ use Rattle.jasmin_reader.specs.declared.fault.ReadFault.{ReadFault}
 use Rattle.jasmin_reader.specs.declared.head.HeadWords.{HeadWords}
 use Rattle.jasmin_reader.specs.declared.reader.Reader.{Reader}
 use Rattle.jasmin_reader.specs.Bodies.{outside_switch, with_setting, closed}
-use Rattle.jasmin_reader.specs.Reading.{allowed, is_in_header, member_room, empty_body, line_at}
+use Rattle.jasmin_reader.specs.Places.{wanted_or}
+use Rattle.jasmin_reader.specs.Reading.{is_in_header, member_room, empty_body, line_at}
 use Rattle.jasmin_reader.specs.File.{Reads, fault_at, object_name, parts_of, finished, rest_at, empty_reader, class_at}
 use Rattle.jasmin_reader.proofs.BodyRows.{added, outside_ok, body_taken, holding, body_read}
 use Rattle.jasmin_reader.proofs.GoodRows.{is_head, is_good_row, is_headed, field_headed, rows_headed}
@@ -54,7 +55,7 @@ is_none_of None e = refl
 is_none_of (Some x) e = absurd cc
 
 -- two guards, and what they guard
-passed : (k : FaultKind) (a b : Bool) (y last : Reader) (rows : List Row) → (((allowed a >>= λ _. cond {A = Result (Unit {0}) FaultKind} b (Ok tt) (Err k)) >>= λ _. done y) >>= λ s. rows_at s rows) ≡ Ok last
+passed : (k : FaultKind) (a b : Bool) (y last : Reader) (rows : List Row) → (((wanted_or a fault.Misplaced >>= λ _. wanted_or b k) >>= λ _. done y) >>= λ s. rows_at s rows) ≡ Ok last
     → (a ≡ true) × (b ≡ true) × (rows_at y rows ≡ Ok last)
 passed k true true y last rows e = (refl, refl, e)
 passed k a b y last rows e = absurd cc

@@ -25,7 +25,7 @@ use Rattle.jasmin_reader.specs.declared.reader.Reader.{Reader}
 use Rattle.jasmin_reader.specs.Places.{word_of, next_word, operand, ended_at, first_word}
 use Rattle.jasmin_reader.specs.Operands.{label_in, class_name_in, limit_in, last_operand}
 use Rattle.jasmin_reader.specs.Heads.{class_from, field_from, method_from}
-use Rattle.jasmin_reader.specs.Bodies.{outside_switch, limit_by, limit_from, caught_in, keyword_in, label_behind, catch_from, end_from, closed}
+use Rattle.jasmin_reader.specs.Bodies.{outside_switch, limit_by, limit_from, caught_in, keyword_in, label_behind, last_labels_from, catch_from, end_from, closed}
 use Rattle.jasmin_reader.specs.Reading.{may_stand, said_in, with_row, ended_by, end_line, directive_line}
 use Rattle.jasmin_reader.proofs.AccessWords.{first_is}
 use Rattle.jasmin_reader.proofs.GoodRows.{is_headed}
@@ -136,17 +136,18 @@ unfolding catch_from
 catch_ok r items x e =
     let one = bind_ok (operand caught_in items) _ x e in
     let two = bind_ok (label_behind (codes "from") one.0.1) _ x one.2 in
-    let three = bind_ok (label_behind (codes "to") two.0.1) _ x two.2 in
-    let four = bind_ok (label_behind (codes "using") three.0.1) _ x three.2 in
-    let five = bind_ok (ended_at four.0.1) _ x four.2 in
+    let ends = bind_ok (last_labels_from two.0.1) _ x two.2 in
+    let three = bind_ok (label_behind (codes "to") two.0.1) _ ends.0 ends.1 in
+    let four = bind_ok (label_behind (codes "using") three.0.1) _ ends.0 three.2 in
+    let five = bind_ok (ended_at four.0.1) _ ends.0 four.2 in
     let a = operand_ok caught_in items one.0 one.1 in
     let b = behind_ok (codes "from") one.0.1 two.0 two.1 in
     let c = behind_ok (codes "to") two.0.1 three.0 three.1 in
     let d = behind_ok (codes "using") three.0.1 four.0 four.1 in
-    let ends = ended_ok four.0.1 five.0 five.1 in
-    let parts : items ≡ Word a.word ∷ Word (codes "from") ∷ Word two.0.0 ∷ Word (codes "to") ∷ Word three.0.0 ∷ Word (codes "using") ∷ Word four.0.0 ∷ [] = cc (a.parts, b.0, c.0, d.0, ends) in
-    given (Taken r directive.Catch (Word (codes ".catch") ∷ items)) five.2
-    ((subst (λ (l : List Item). AreRowsOf (Word (codes ".catch") ∷ l) (CatchRow one.0.0 two.0.0 three.0.0 four.0.0 ∷ [])) (sym parts) (of_words (refl, (a.short, (refl, (b.2, (refl, (c.2, (refl, (d.2, tt)))))))) (catch (caught_ok a.word one.0.0 a.value) b.1 c.1 d.1)), refl), refl)
+    let none_left = ended_ok four.0.1 five.0 five.1 in
+    let parts : items ≡ Word a.word ∷ Word (codes "from") ∷ Word two.0.0 ∷ Word (codes "to") ∷ Word three.0.0 ∷ Word (codes "using") ∷ Word four.0.0 ∷ [] = cc (a.parts, b.0, c.0, d.0, none_left) in
+    given (Taken r directive.Catch (Word (codes ".catch") ∷ items)) ends.2 (given (λ z. Taken r directive.Catch (Word (codes ".catch") ∷ items) (CatchRow one.0.0 two.0.0 z.0 z.1)) five.2
+    ((subst (λ (l : List Item). AreRowsOf (Word (codes ".catch") ∷ l) (CatchRow one.0.0 two.0.0 three.0.0 four.0.0 ∷ [])) (sym parts) (of_words (refl, (a.short, (refl, (b.2, (refl, (c.2, (refl, (d.2, tt)))))))) (catch (caught_ok a.word one.0.0 a.value) b.1 c.1 d.1)), refl), refl))
 
 caught_read : (w : List ℕ) (c : Option (List ℕ)) → IsCaught w c → caught_in w ≡ Ok c
 caught_read w c all = refl

@@ -1,6 +1,6 @@
 -- Lines that name a class, a field or a method, both ways: those that are read are lines of the grammar, and those are read.
-use Rattle.std.proofs.Common.{◌≡◌, ℕ, inl, inr, Bool, true, false, not, ◌&&◌, cond, List, [], ◌∷◌, ◌++◌, map, Option, Some, Result, Ok, Err, refl, sym, ap, subst, ◌∙◌, codes}
-use Rattle.std.proofs.lemmas.Bool.{and_from, cases_Bool, and_right, not_from_false, false_from_ne_true, and_parts, not-true}
+use Rattle.std.proofs.Common.{◌≡◌, ℕ, inl, inr, Bool, true, false, not, ◌&&◌, cond, List, [], ◌∷◌, ◌++◌, map, Option, Some, Ok, Err, refl, sym, ap, subst, ◌∙◌, codes}
+use Rattle.std.proofs.lemmas.Bool.{and_from, cases_Bool, not_from_false, false_from_ne_true, and_parts, not-true}
 use Rattle.std.proofs.lemmas.List.Folds.{list_all-append}
 use Rattle.std.proofs.lemmas.Slice.Eq.{bytes_eq-Decides}
 use Rattle.std.specs.Str.{bytes_eq}
@@ -10,7 +10,6 @@ use Rattle.descriptors.specs.Signature.{Signature}
 use Rattle.descriptors.specs.Spelling.{method_spelling, IsMethodType}
 use Rattle.descriptors.specs.declared.field.ElementType.TheVariants as element
 use Rattle.descriptors.specs.declared.field.FieldType.{FieldType}
-use Rattle.jasmin_words.specs.declared.fault.FaultKind.{FaultKind}
 use Rattle.jasmin_words.specs.declared.fault.FaultKind.TheVariants as fault
 use Rattle.sequence.specs.Gives.{◌>>=◌}
 use Rattle.sequence.proofs.Results.{not_refused, bind_ok, given}
@@ -31,8 +30,8 @@ use Rattle.jasmin_reader.specs.declared.head.Place.TheVariants as place
 use Rattle.jasmin_reader.specs.declared.head.HeadWords.{HeadWords}
 use Rattle.jasmin_reader.specs.Places.{within_limit, operand, string_from, ended_at}
 use Rattle.jasmin_reader.specs.Operands.{class_name_in, member_name_in, integer_in, type_in, typed_in}
-use Rattle.jasmin_reader.specs.Heads.{start, no_access_in, named_from, begins_with_part, is_before_name, kind_at, class_from, constant_for, value_at, value_from, is_signature, described_from, field_from, may_initialize, fits_initializer, method_from}
-use Rattle.jasmin_reader.proofs.AccessWords.{within_ok, words_behind, no_access_word, passed_over, knows, is_access_at, Words, class_access, class_words, simple_access, simple_words, Found, Named, named_ok, named_read, word_behind}
+use Rattle.jasmin_reader.specs.Heads.{start, named_from, begins_with_part, is_before_name, kind_at, class_from, constant_for, value_at, value_from, is_signature, described_from, field_from, may_initialize, fits_initializer, method_from}
+use Rattle.jasmin_reader.proofs.AccessWords.{within_ok, words_behind, knows, is_access_at, Words, class_access, class_words, simple_access, simple_words, named_ok, named_read, word_behind}
 use Rattle.jasmin_reader.proofs.GoodRows.{fits_head, is_typed, is_headed}
 use Rattle.jasmin_reader.proofs.OperandForms.{ended_ok, operand_ok}
 use Rattle.jasmin_reader.proofs.Words.{access_lacks, lacks, type_read, typed_read, member_lacks, checked_ok, integer_ok, type_ok, typed_ok}
@@ -40,14 +39,6 @@ use Rattle.jasmin_reader.proofs.Words.{access_lacks, lacks, type_read, typed_rea
 -- a row of the grammar, with what its words don't say by themselves
 abbrev pub IsHeadedRow : List Item → Row → Type 0
 IsHeadedRow items row = AreRowsOf items (row ∷ []) × (is_headed row ≡ true)
-
--- a name that is no access word, behind access words
-found_ok : {A : Type 0} (p : Place) (k : ClassKind) (items : List Item) (f : Found → Result A FaultKind) (r : A) → (named_from p (start k) items >>= λ n. no_access_in p n.1.0 >>= λ _. f n) ≡ Ok r
-    → (x : Found) × Named p (start k) items x × (is_access_at p x.1.0 ≡ false) × (f x ≡ Ok r)
-found_ok p k items f r e =
-    let one = bind_ok (named_from p (start k) items) _ r e in
-    let two = bind_ok (no_access_in p one.0.1.0) _ r one.2 in
-    (one.0, named_ok p (start k) items one.0 one.1, no_access_word p one.0.1.0 two.0 two.1, two.2)
 
 -- ---- classes
 
@@ -61,13 +52,15 @@ IsClassHead p items r = (before : List (List ℕ)) × Words p (start (kind_at p)
 class_ok : (p : Place) (items : List Item) (r : HeadWords × List ℕ) → class_from p items ≡ Ok r → IsClassHead p items r
 unfolding class_from
 class_ok p items r e =
-    let (x, n, free, rest) = found_ok p (kind_at p) items _ r e in
-    let one = bind_ok (class_name_in x.1.0) _ r rest in
+    let found = bind_ok (named_from p (start (kind_at p)) items) _ r e in
+    let x = found.0 in
+    let n = named_ok p (start (kind_at p)) items x found.1 in
+    let one = bind_ok (class_name_in x.1.0) _ r found.2 in
     let two = bind_ok (within_limit x.1.0) _ r one.2 in
     let three = bind_ok (ended_at x.1.1) _ r two.2 in
     let c = checked_ok is_class_name x.1.0 one.0 one.1 in
     let fit = n.3 (within_ok x.1.0 two.0 two.1, rw (ended_ok x.1.1 three.0 three.1) tt) in
-    given (IsClassHead p items) three.2 (n.0, n.1, cc (n.2, c.1, ended_ok x.1.1 three.0 three.1), c.0, rw (← c.1) free, fit)
+    given (IsClassHead p items) three.2 (n.0, n.1, cc (n.2, c.1, ended_ok x.1.1 three.0 three.1), c.0, rw (← c.1) n.4, fit)
 
 pub class_taken : (items : List Item) (r : HeadWords × List ℕ) → class_from place.Class items ≡ Ok r → IsHeadedRow (Word (codes ".class") ∷ items) (ClassRow r.0.kind r.0.access r.1)
 class_taken items r e =
@@ -94,7 +87,7 @@ unfolding class_from
 class_head items before k a name e is h free good =
     let (ws, parts, words) = class_words is in
     let (fit, short) = name_fits before ws name [] e parts good in
-    rw (e, parts, named_read place.Class name [] refl (word_behind name) words fit, passed_over place.Class name free, h, short) refl
+    rw (e, parts, named_read place.Class name [] free refl (word_behind name) words fit, h, short) refl
 
 pub interface_head : (items before : List Item) (a : Access) (name : List ℕ) → items ≡ before ++ Word name ∷ [] → IsAccess before a → IsClassName name → is_taken kind.Interface name ≡ false → AreWords items
     → class_from place.Interface items ≡ Ok (record { kind = kind.Interface; access = a }, name)
@@ -102,7 +95,7 @@ unfolding class_from
 interface_head items before a name e is h free good =
     let (ws, parts, (words, _)) = simple_words place.Interface access_of knows.0 kind.Interface is refl in
     let (fit, short) = name_fits before ws name [] e parts good in
-    rw (e, parts, named_read place.Interface name [] refl (word_behind name) words fit, passed_over place.Interface name free, h, short) refl
+    rw (e, parts, named_read place.Interface name [] free refl (word_behind name) words fit, h, short) refl
 
 -- ---- the value of a field
 
@@ -169,15 +162,17 @@ value_read t rest v (signature {items} {value} is e) ok good = (refl, (value_rea
 pub field_taken : (items : List Item) (f : Field) → field_from items ≡ Ok f → IsHeadedRow (Word (codes ".field") ∷ items) (FieldRow f)
 unfolding field_from
 field_taken items f e =
-    let (x, n, no_word, rest) = found_ok place.Field kind.Class items _ f e in
-    let one = bind_ok (member_name_in x.1.0) _ f rest in
+    let found = bind_ok (named_from place.Field (start kind.Class) items) _ f e in
+    let x = found.0 in
+    let n = named_ok place.Field (start kind.Class) items x found.1 in
+    let one = bind_ok (member_name_in x.1.0) _ f found.2 in
     let two = bind_ok (within_limit x.1.0) _ f one.2 in
     let three = bind_ok (described_from x.1.1) _ f two.2 in
     let four = bind_ok (value_from three.0.0 three.0.1) _ f three.2 in
     let c = checked_ok is_member_name x.1.0 one.0 one.1 in
     let t = operand_ok type_in x.1.1 three.0 (not_refused (is_signature x.1.1) fault.BadOperand (operand type_in x.1.1) three.0 three.1).1 in
     let parts : items ≡ map Word n.0 ++ Word one.0 ∷ Word t.word ∷ three.0.1 = cc (n.2, c.1, t.parts) in
-    let free : is_member_word one.0 ≡ false = rw (← c.1) no_word in
+    let free : is_member_word one.0 ≡ false = rw (← c.1) n.4 in
     let v = value_ok three.0.0 three.0.1 four.0 four.1 in
     let are = (simple_access place.Field member_access_of knows.1 n.1).0 in
     let fit = n.3 (within_ok x.1.0 two.0 two.1, subst AreWords (sym t.parts) (t.short, v.2)) in
@@ -193,7 +188,7 @@ descriptor_no_signature w t d = false_from_ne_true _ (λ e.
 
 -- a word before a word is a part
 part : (w v : List ℕ) (items : List Item) → begins_with_part (Word w ∷ Word v ∷ items) ≡ true
-part w v items = rw (and_right (bytes_eq w (codes "signature")) false refl) refl
+part w v items = elim (cases_Bool (bytes_eq w (codes "signature"))) [ inl y ↦ rw y refl | inr y ↦ rw y refl ]
 
 field_before : (name w : List ℕ) (rest : List Item) → begins_with_part (Word w ∷ rest) ≡ true → (ws : List (List ℕ)) → is_before_name place.Field (map Word ws ++ Word name ∷ Word w ∷ rest) ≡ true
 field_before name w rest last [] = rw (part name w rest) last
@@ -213,15 +208,17 @@ field_head items before rest a name w type value e is h d v free ok good =
     let at : is_before_name place.Field (Word w ∷ rest) ≡ false = rw (other, behind.0) refl in
     let (ws, parts, (words, _)) = simple_words place.Field member_access_of knows.1 kind.Class is refl in
     let (fit, short) = name_fits before ws name (Word w ∷ rest) e parts good in
-    rw (e, parts, named_read place.Field name (Word w ∷ rest) at (field_before name w rest part) words fit, passed_over place.Field name (not-true _ free), h, short, other, type_read w type d, after.1.0, behind.1) refl
+    rw (e, parts, named_read place.Field name (Word w ∷ rest) (not-true _ free) at (field_before name w rest part) words fit, h, short, other, type_read w type d, after.1.0, behind.1) refl
 
 -- ---- methods
 
 pub method_taken : (items : List Item) (r : Access × (List ℕ × Signature)) → method_from items ≡ Ok r → IsHeadedRow (Word (codes ".method") ∷ items) (MethodRow r.0 r.1.0 r.1.1)
 unfolding method_from
 method_taken items r e =
-    let (x, n, no_word, rest) = found_ok place.Method kind.Class items _ r e in
-    let one = bind_ok (typed_in member_name_in x.1.0) _ r rest in
+    let found = bind_ok (named_from place.Method (start kind.Class) items) _ r e in
+    let x = found.0 in
+    let n = named_ok place.Method (start kind.Class) items x found.1 in
+    let one = bind_ok (typed_in member_name_in x.1.0) _ r found.2 in
     let two = bind_ok (within_limit x.1.0) _ r one.2 in
     let three = bind_ok (fits_initializer x.0.access one.0) _ r two.2 in
     let four = bind_ok (ended_at x.1.1) _ r three.2 in
@@ -247,4 +244,4 @@ method_head items before w a name type e spelled is h m fits_all good =
     let no_word : is_member_word w ≡ false = rw (access_lacks w parenthesis) refl in
     let (ws, parts, (words, none_wrong)) = simple_words place.Method member_access_of knows.2 kind.Class is p.0 in
     let (fit, short) = name_fits before ws w [] e parts good in
-    rw (e, parts, named_read place.Method w [] refl (word_behind w) words fit, passed_over place.Method w no_word, typed, short, not-true _ p.1) refl
+    rw (e, parts, named_read place.Method w [] no_word refl (word_behind w) words fit, typed, short, not-true _ p.1) refl

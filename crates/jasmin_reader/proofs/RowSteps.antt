@@ -12,8 +12,9 @@ use Rattle.jasmin_reader.specs.declared.body.Body.{Body}
 use Rattle.jasmin_reader.specs.declared.reader.Reader.{Reader}
 use Rattle.jasmin_reader.specs.declared.switch.Switch.{Switch}
 use Rattle.jasmin_reader.specs.declared.switch.Switch.TheVariants as switch
+use Rattle.jasmin_reader.specs.Places.{wanted_or}
 use Rattle.jasmin_reader.specs.Operands.{labels_between}
-use Rattle.jasmin_reader.specs.Listing.{has_room, takes_label, is_full, wanted, case_of}
+use Rattle.jasmin_reader.specs.Listing.{has_room, takes_label, is_full, case_of}
 use Rattle.jasmin_reader.specs.Bodies.{new_label, outside_switch, with_setting}
 use Rattle.jasmin_reader.specs.Reading.{may_stand, with_row, ended_by}
 
@@ -31,7 +32,7 @@ may_list room None (TableRow low high) = has_room room >>= λ _. may_reach low h
 may_list room None LookupRow = has_room room
 may_list room (Some (switch.Table t)) (TargetRow label) = takes_label t.low (length t.labels) t.high >>= λ _. has_room room
 may_list room (Some (switch.Table t)) (DefaultRow label) = is_full t.low (length t.labels) t.high
-may_list room (Some (switch.Lookup cases)) (CaseRow key label) = wanted (not (is_some (case_of cases key))) >>= λ _. has_room room
+may_list room (Some (switch.Lookup cases)) (CaseRow key label) = wanted_or (not (is_some (case_of cases key))) fault.BadOperand >>= λ _. has_room room
 may_list room (Some (switch.Lookup cases)) (DefaultRow label) = Ok tt
 may_list room o row = Err fault.Misplaced
 

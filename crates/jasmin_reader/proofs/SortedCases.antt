@@ -7,7 +7,9 @@ use Rattle.std.specs.Ordering.{is_eq}
 use Rattle.jasmin_text.specs.Grammar.{Cases, with_case, lacks_key, Each, none, more, IsPlacedCase}
 use Rattle.jasmin_text.specs.Spellable.{rises, rises_from}
 use Rattle.jasmin_reader.proofs.GoodRows.{keys_rise_from, keys_rise}
-use Rattle.jasmin_reader.specs.Listing.{wanted, case_of, with_key}
+use Rattle.jasmin_words.specs.declared.fault.FaultKind.TheVariants as fault
+use Rattle.jasmin_reader.specs.Places.{wanted_or}
+use Rattle.jasmin_reader.specs.Listing.{case_of, with_key}
 
 -- ---- new keys
 
@@ -27,7 +29,7 @@ new_key_lacks (e ∷ es) key h = by (int_lt key e.0) (int_lt e.0 key) h (λ k. n
     by false false k rest = absurd cc
     by s t k rest = rest k
 
-pub new_key_ok : (o : Option (List ℕ)) (u : Unit {0}) → wanted (not (is_some o)) ≡ Ok u → o ≡ None
+pub new_key_ok : (o : Option (List ℕ)) (u : Unit {0}) → wanted_or (not (is_some o)) fault.BadOperand ≡ Ok u → o ≡ None
 new_key_ok None u e = refl
 new_key_ok (Some label) u e = absurd cc
 

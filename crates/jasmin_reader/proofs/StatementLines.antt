@@ -23,9 +23,9 @@ use Rattle.jasmin_reader.specs.declared.reader.Reader.{Reader}
 use Rattle.jasmin_reader.specs.declared.switch.Switch.{Switch}
 use Rattle.jasmin_reader.specs.declared.switch.Switch.TheVariants as switch
 use Rattle.jasmin_reader.specs.declared.switch.Table.{Table}
-use Rattle.jasmin_reader.specs.Places.{within_limit, ended_at, first_word}
+use Rattle.jasmin_reader.specs.Places.{wanted_or, within_limit, ended_at, first_word}
 use Rattle.jasmin_reader.specs.Operands.{label_in, integer_in, last_operand, begins_with, labels_between, high_in, begun_at}
-use Rattle.jasmin_reader.specs.Listing.{has_room, case_of, wanted, instruction_by, instruction_at, behind_colon, colon_from, is_default, takes_label, is_full, target_at, table_end, table_by, key_in, case_at, lookup_end, switch_at}
+use Rattle.jasmin_reader.specs.Listing.{has_room, case_of, instruction_by, instruction_at, behind_colon, colon_from, is_default, takes_label, is_full, target_at, table_end, table_by, key_in, case_at, lookup_end, switch_at}
 use Rattle.jasmin_reader.specs.Bodies.{listed_with, with_setting, new_label, label_at, listed, labelled_by, labelled_at, plain_by, statement_by, statement_at}
 use Rattle.jasmin_reader.specs.Reading.{statement_line, line_at}
 use Rattle.jasmin_reader.proofs.AccessWords.{within_ok, first_is}
@@ -190,7 +190,7 @@ unfolding case_at
 case_ok room cases w rest row e =
     let one = bind_ok (key_in cases w) _ row e in
     let read = bind_ok (integer_in w) _ one.0 one.1 in
-    let new = bind_ok (wanted (not (is_some (case_of cases read.0)))) _ one.0 read.2 in
+    let new = bind_ok (wanted_or (not (is_some (case_of cases read.0))) fault.BadOperand) _ one.0 read.2 in
     let same_key : read.0 ≡ one.0 = cc new.2 in
     let three = bind_ok (within_limit w) _ row one.2 in
     let four = bind_ok (has_room room) _ row three.2 in
@@ -199,11 +199,11 @@ case_ok room cases w rest row e =
     let a = checked_last is_label five.0 six.0 six.1 in
     let whole : rest ≡ Colon ∷ Word six.0 ∷ [] = cc (colon_ok rest five.0 five.1, a.0) in
     let number : integer_of w ≡ Some one.0 = cc (integer_ok w read.0 read.1, same_key) in
-    let new_here : wanted (not (is_some (case_of cases one.0))) ≡ Ok tt = rw (← same_key) new.1 in
+    let new_here : wanted_or (not (is_some (case_of cases one.0))) fault.BadOperand ≡ Ok tt = rw (← same_key) new.1 in
     given (ListedSays room (Some (switch.Lookup cases)) (Word w ∷ rest)) six.2
     (record {
       is_row = subst (λ (r : List Item). AreRowsOf (Word w ∷ r) (CaseRow one.0 six.0 ∷ [])) (sym whole) (of_words (within_ok w three.0 three.1, (tt, (a.2, tt))) (case number a.1));
-      may = then (wanted (not (is_some (case_of cases one.0)))) _ tt tt new_here four.1;
+      may = then (wanted_or (not (is_some (case_of cases one.0))) fault.BadOperand) _ tt tt new_here four.1;
       listed = record { are = refl; may = λ b. refl; sets = λ b. refl; in_class = λ r. refl };
     })
 
@@ -370,7 +370,7 @@ target_switch w h short room o m = absurd cc
 case_switch : (w v : List ℕ) (key : ℤ) → integer_of w ≡ Some key → is_label v ≡ true → fits w ≡ true → fits v ≡ true → IsSwitchLine w (Colon ∷ Word v ∷ []) (CaseRow key v)
 unfolding switch_at case_at
 case_switch w v key i h p q room (Some (switch.Lookup c)) m =
-    let one = bind_ok (wanted (not (is_some (case_of c key)))) _ tt m in
+    let one = bind_ok (wanted_or (not (is_some (case_of c key))) fault.BadOperand) _ tt m in
     (switch.Lookup c, refl, rw (integer_not_default w key i, i, one.1, p, one.2, h, q) refl)
 case_switch w v key i h p q room o m = absurd cc
 

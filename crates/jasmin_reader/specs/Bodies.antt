@@ -18,6 +18,8 @@ use Rattle.jasmin_text.specs.declared.instruction.Instruction.{Instruction}
 use Rattle.jasmin_text.specs.declared.instruction.Instruction.TheVariants as instruction
 use Rattle.jasmin_reader.specs.declared.body.Body.{Body}
 use Rattle.jasmin_reader.specs.declared.body.Catch.{Catch}
+use Rattle.jasmin_reader.specs.declared.body.Setting.{Setting}
+use Rattle.jasmin_reader.specs.declared.body.Setting.TheVariants as setting
 use Rattle.jasmin_reader.specs.declared.switch.Switch.{Switch}
 use Rattle.jasmin_reader.specs.Places.{within_limit, next_word, operand, ended_at, first_word}
 use Rattle.jasmin_reader.specs.Operands.{label_in, class_name_in, limit_in, last_operand, begins_with}
@@ -28,6 +30,12 @@ use Rattle.jasmin_reader.specs.Listing.{with_listed, instruction_at, switch_at, 
 -- an instruction, or a line of a switch
 abbrev pub listed_with : Body → Row → Body
 listed_with b row = record b { listing = with_listed b.listing row }
+
+-- what the code says of the line of a directive, as the grammar's row
+abbrev pub setting_row : Setting → Row
+setting_row (setting.Stack n) = StackRow n
+setting_row (setting.Locals n) = LocalsRow n
+setting_row (setting.Catch c) = CatchRow c.class c.from c.to c.handler
 
 -- The method with what a row says: the last limit counts, and a label stands before the next instruction.
 abbrev pub with_setting : Body → Row → Body
@@ -112,10 +120,13 @@ keyword_in keyword w = if bytes_eq w keyword then Ok tt else Err fault.BadOperan
 abbrev pub label_behind : List ℕ → List Item → Result (List ℕ × List Item) FaultKind
 label_behind keyword items = operand (keyword_in keyword) items >>= λ k. operand label_in k.1
 
+-- the labels of the place behind a range and of its handler
+abbrev pub last_labels_from : List Item → Result (List ℕ × List ℕ) FaultKind
+last_labels_from items = label_behind (codes "to") items >>= λ to. label_behind (codes "using") to.1 >>= λ handler. ended_at handler.1 >>= λ _. Ok (to.0, handler.0)
+
 -- the row that catches these, by the labels that follow
 abbrev pub row_from : Option (List ℕ) → List Item → Result Row FaultKind
-row_from class items = label_behind (codes "from") items >>= λ from. label_behind (codes "to") from.1 >>= λ to.
-    label_behind (codes "using") to.1 >>= λ handler. ended_at handler.1 >>= λ _. Ok (CatchRow class from.0 to.0 handler.0)
+row_from class items = label_behind (codes "from") items >>= λ from. last_labels_from from.1 >>= λ ends. Ok (CatchRow class from.0 ends.0 ends.1)
 
 -- behind .catch: a row of the handler table by labels
 unfoldable pub catch_from : List Item → Result Row FaultKind

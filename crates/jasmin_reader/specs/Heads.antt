@@ -50,13 +50,9 @@ abbrev pub with_class_word : Place → HeadWords → ClassWord → Result HeadWo
 with_class_word p words class_word.Interface = Ok (record words { kind = Interface })
 with_class_word p words (class_word.Access a) = with_access words.access a >>= λ x. fits_place p x >>= λ y. Ok (record words { access = y })
 
--- what the word says behind .class, if it is an access word there
-unfoldable pub class_word_at : List ℕ → Option ClassWord
-class_word_at w = if bytes_eq w (codes "interface") then Some class_word.Interface else option_map class_word.Access (access_of w)
-
 -- what a word says before a name: the word interface is one more access word, but not behind .interface
 unfoldable pub head_word_at : Place → List ℕ → Option ClassWord
-head_word_at place.Class w = class_word_at w
+head_word_at place.Class w = if bytes_eq w (codes "interface") then Some class_word.Interface else option_map class_word.Access (access_of w)
 head_word_at place.Interface w = option_map class_word.Access (access_of w)
 head_word_at member w = option_map class_word.Access (member_access_of w)
 
@@ -76,10 +72,18 @@ abbrev pub begins_with_word : List Item → Bool
 begins_with_word [] = false
 begins_with_word (t ∷ rest) = is_word t
 
+-- what follows the word signature, where it stands next
+abbrev pub behind_signature : List Item → Option (List Item)
+behind_signature (Word w ∷ rest) = if bytes_eq w (codes "signature") then Some rest else None
+behind_signature other = None
+
+abbrev pub ends_words : Option (List Item) → Bool
+ends_words None = false
+ends_words (Some rest) = not (begins_with_word rest)
+
 -- signature ends the words of a field unless a word follows
 abbrev pub is_signature : List Item → Bool
-is_signature (Word w ∷ rest) = bytes_eq w (codes "signature") && not (begins_with_word rest)
-is_signature other = false
+is_signature items = ends_words (behind_signature items)
 
 -- a word that belongs to the access words, the name and the descriptor of a field
 abbrev pub begins_with_part : List Item → Bool
@@ -95,13 +99,6 @@ abbrev pub is_before_name : Place → List Item → Bool
 is_before_name place.Field items = begins_with_part items && begins_with_part (behind items)
 is_before_name other items = has_word items
 
--- the access words, the word in the name's place, and what follows it
-unfoldable pub named_from : Place → HeadWords → List Item → Result (HeadWords × (List ℕ × List Item)) FaultKind
-named_from p words [] = Err fault.BadOperand
-named_from p words (t ∷ rest) = word_of t >>= λ w.
-    if is_before_name p rest then (with_word p words w >>= λ more. within_limit w >>= λ _. named_from p more rest)
-    else Ok (words, (w, rest))
-
 abbrev pub no_access_by : Option ClassWord → Result (Unit {0}) FaultKind
 no_access_by None = Ok tt
 no_access_by (Some (class_word.Access LeftOut)) = Err fault.LeftOut
@@ -110,6 +107,13 @@ no_access_by other = Err fault.BadOperand
 -- Whether a word in the name's place is an access word is decided first: it is then taken as one, and the name is missing.
 unfoldable pub no_access_in : Place → List ℕ → Result (Unit {0}) FaultKind
 no_access_in p w = no_access_by (head_word_at p w)
+
+-- the access words, the word in the name's place, and what follows it
+unfoldable pub named_from : Place → HeadWords → List Item → Result (HeadWords × (List ℕ × List Item)) FaultKind
+named_from p words [] = Err fault.BadOperand
+named_from p words (t ∷ rest) = word_of t >>= λ w.
+    if is_before_name p rest then (with_word p words w >>= λ more. within_limit w >>= λ _. named_from p more rest)
+    else (no_access_in p w >>= λ _. Ok (words, (w, rest)))
 
 -- ---- classes
 
@@ -120,14 +124,14 @@ kind_at other = Class
 -- behind .class or .interface
 unfoldable pub class_from : Place → List Item → Result (HeadWords × List ℕ) FaultKind
 class_from p items = named_from p (start (kind_at p)) items >>= λ n.
-    no_access_in p n.1.0 >>= λ _. class_name_in n.1.0 >>= λ name. within_limit n.1.0 >>= λ _. ended_at n.1.1 >>= λ _. Ok (n.0, name)
+    class_name_in n.1.0 >>= λ name. within_limit n.1.0 >>= λ _. ended_at n.1.1 >>= λ _. Ok (n.0, name)
 
 -- ---- fields
 
 -- one signature may stand behind the descriptor; it is skipped
-abbrev pub behind_signature : List Item → Result (List Item) FaultKind
-behind_signature (Word w ∷ rest) = if bytes_eq w (codes "signature") then (string_from rest >>= λ t. Ok t.1) else Ok (Word w ∷ rest)
-behind_signature items = Ok items
+abbrev pub skipped_from : List Item → Option (List Item) → Result (List Item) FaultKind
+skipped_from items None = Ok items
+skipped_from items (Some rest) = string_from rest >>= λ t. Ok t.1
 
 -- a value of a type
 unfoldable pub constant_for : FieldType → List Item → Result (Constant × List Item) FaultKind
@@ -143,7 +147,7 @@ value_at t (other ∷ rest) = Err (misplaced other)
 
 -- what stands behind a field's descriptor
 unfoldable pub value_from : FieldType → List Item → Result (Option Constant) FaultKind
-value_from t items = behind_signature items >>= value_at t
+value_from t items = skipped_from items (behind_signature items) >>= value_at t
 
 -- a field's descriptor; it is missing where a signature stands in its place
 abbrev pub described_from : List Item → Result (FieldType × List Item) FaultKind
@@ -156,7 +160,7 @@ field_named a name items = described_from items >>= λ t. value_from t.0 t.1 >>=
 -- behind .field
 unfoldable pub field_from : List Item → Result Field FaultKind
 field_from items = named_from place.Field (start Class) items >>= λ n.
-    no_access_in place.Field n.1.0 >>= λ _. member_name_in n.1.0 >>= λ name. within_limit n.1.0 >>= λ _.
+    member_name_in n.1.0 >>= λ name. within_limit n.1.0 >>= λ _.
     field_named n.0.access name n.1.1
 
 -- ---- methods
@@ -178,4 +182,4 @@ method_named a n = typed_in member_name_in n.0 >>= λ m. method_there a m n.0 n.
 
 -- behind .method: the access words, the name and the type
 unfoldable pub method_from : List Item → Result (Access × (List ℕ × Signature)) FaultKind
-method_from items = named_from place.Method (start Class) items >>= λ n. no_access_in place.Method n.1.0 >>= λ _. method_named n.0.access n.1
+method_from items = named_from place.Method (start Class) items >>= λ n. method_named n.0.access n.1

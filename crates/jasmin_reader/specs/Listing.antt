@@ -18,7 +18,7 @@ use Rattle.jasmin_reader.specs.declared.said.Listed.TheVariants as listed
 use Rattle.jasmin_reader.specs.declared.switch.Switch.{Switch}
 use Rattle.jasmin_reader.specs.declared.switch.Switch.TheVariants as switch
 use Rattle.jasmin_reader.specs.declared.switch.Table.{Table}
-use Rattle.jasmin_reader.specs.Places.{misplaced, within_limit, ended_at}
+use Rattle.jasmin_reader.specs.Places.{wanted_or, misplaced, within_limit, ended_at}
 use Rattle.jasmin_reader.specs.Operands.{label_in, integer_in, labels_between, last_operand, begun_at}
 
 -- with labels as targets; the switch that is not at its end; and how many instructions, labels and keys of
@@ -116,19 +116,15 @@ colon_from (other ∷ rest) = Err (misplaced other)
 abbrev pub is_default : List ℕ → Bool
 is_default w = bytes_eq w (codes "default")
 
--- what is wanted of a number
-abbrev pub wanted : Bool → Result (Unit {0}) FaultKind
-wanted b = if b then Ok tt else Err fault.BadOperand
-
 -- where a last key is given, each key has one label: one more may come behind so many
 abbrev pub takes_label : ℤ → ℕ → Option ℤ → Result (Unit {0}) FaultKind
 takes_label low count None = Ok tt
-takes_label low count (Some high) = labels_between low high >>= λ n. wanted (nat_lt count n)
+takes_label low count (Some high) = labels_between low high >>= λ n. wanted_or (nat_lt count n) fault.BadOperand
 
 -- and so many are all
 abbrev pub is_full : ℤ → ℕ → Option ℤ → Result (Unit {0}) FaultKind
 is_full low count None = Ok tt
-is_full low count (Some high) = labels_between low high >>= λ n. wanted (count == n)
+is_full low count (Some high) = labels_between low high >>= λ n. wanted_or (count == n) fault.BadOperand
 
 -- one label of a tableswitch
 unfoldable pub target_at : ℕ → Table → List ℕ → List Item → Result Row FaultKind
@@ -145,7 +141,7 @@ table_by room t w rest (Some after) = if is_default w then table_end t after els
 
 -- a new key
 abbrev pub key_in : Cases → List ℕ → Result ℤ FaultKind
-key_in cases w = integer_in w >>= λ key. wanted (not (is_some (case_of cases key))) >>= λ _. Ok key
+key_in cases w = integer_in w >>= λ key. wanted_or (not (is_some (case_of cases key))) fault.BadOperand >>= λ _. Ok key
 
 -- one key of a lookupswitch, a colon, and its label; the keys may stand in any order
 unfoldable pub case_at : ℕ → Cases → List ℕ → List Item → Result Row FaultKind

@@ -168,19 +168,23 @@ high_at low (t ∷ rest) = last_operand (high_in low) (t ∷ rest) >>= λ high. 
 abbrev pub raw : Instruction (List ℕ) → Result Row FaultKind
 raw i = Ok (InstructionRow i)
 
+-- what a word says without operands
+abbrev pub alone : Row → List Item → Result Row FaultKind
+alone row items = ended_at items >>= λ _. Ok row
+
 -- an instruction by what its word asks for, or the head of a switch
 unfoldable pub begun_at : Form → List Item → Result Row FaultKind
-begun_at (form.Plain p) items = ended_at items >>= λ _. raw (instruction.Plain p)
-begun_at (form.Number n) items = ended_at items >>= λ _. raw (instruction.Constant (constant.Int n))
+begun_at (form.Plain p) items = alone (InstructionRow (instruction.Plain p)) items
+begun_at (form.Number n) items = alone (InstructionRow (instruction.Constant (constant.Int n))) items
 begun_at form.Byte items = last_operand (int_in byte_low (pos 127)) items >>= λ n. raw (instruction.Constant (constant.Int n))
 begun_at form.Short items = last_operand (int_in short_low (pos 32767)) items >>= λ n. raw (instruction.Constant (constant.Int n))
 begun_at form.Constant items = constant_from items >>= λ c. ended_at c.1 >>= λ _. raw (instruction.Constant c.0)
 begun_at (form.Local l) items = last_operand local_in items >>= λ n. raw (instruction.Local l n)
-begun_at (form.LocalAt l n) items = ended_at items >>= λ _. raw (instruction.Local l n)
+begun_at (form.LocalAt l n) items = alone (InstructionRow (instruction.Local l n)) items
 begun_at form.Increment items = operand local_in items >>= λ n. last_operand (int_in short_low (pos 32767)) n.1 >>= λ by. raw (instruction.Increment n.0 by)
 begun_at (form.Jump j) items = last_operand label_in items >>= λ l. raw (instruction.Jump j l)
 begun_at form.TableSwitch items = operand integer_in items >>= λ low. high_at low.0 low.1 >>= λ high. Ok (TableRow low.0 high)
-begun_at form.LookupSwitch items = ended_at items >>= λ _. Ok LookupRow
+begun_at form.LookupSwitch items = alone LookupRow items
 begun_at (form.Field f) items = operand member_in items >>= λ m. last_operand type_in m.1 >>= λ t. raw (instruction.Field f (record { class = m.0.0; name = m.0.1; field_type = t }))
 begun_at (form.Call c) items = last_operand method_in items >>= λ m. raw (instruction.Call c m)
 begun_at form.CallInterface items = operand method_in items >>= λ m. count_at m.1 >>= λ _. raw (instruction.CallInterface m.0)

@@ -1,5 +1,5 @@
 -- The places of a line: what may stand there, and which fault is met where something else does.
-use Rattle.std.specs.Prelude.{◌≡◌, ℕ, List, [], ◌∷◌, Result, Ok, Err, if◌then◌else◌, nat_le}
+use Rattle.std.specs.Prelude.{◌≡◌, ℕ, Bool, List, [], ◌∷◌, Result, Ok, Err, if◌then◌else◌, nat_le}
 use Rattle.jasmin_words.specs.declared.fault.FaultKind.{FaultKind}
 use Rattle.jasmin_words.specs.declared.fault.FaultKind.TheVariants as fault
 use Rattle.sequence.specs.declared.refusal.Refusal.{Refusal}
@@ -7,6 +7,10 @@ use Rattle.sequence.specs.declared.refusal.Refusal.TheVariants as refusal
 use Rattle.jasmin_words.specs.Fault.{number_of}
 use Rattle.sequence.specs.Gives.{◌>>=◌}
 use Rattle.jasmin_words.specs.Lexing.{Item, Word, BadWord, Text, BadText, fits}
+
+-- this fault, unless what is wanted holds
+abbrev pub wanted_or : Bool → FaultKind → Result (Unit {0}) FaultKind
+wanted_or b k = if b then Ok tt else Err k
 
 -- the fault of what may not stand in its place; other, where it has none of its own
 abbrev pub fault_in : FaultKind → Item → FaultKind
@@ -27,7 +31,7 @@ word_of t = first_word fault.BadOperand t
 
 -- a word's length is looked at where nothing lower is wrong with it
 abbrev pub within_limit : List ℕ → Result (Unit {0}) FaultKind
-within_limit w = if fits w then Ok tt else Err fault.LimitExceeded
+within_limit w = wanted_or (fits w) fault.LimitExceeded
 
 -- the next word, and what follows it; at the line's end an operand is missing
 abbrev pub next_word : List Item → Result (List ℕ × List Item) FaultKind

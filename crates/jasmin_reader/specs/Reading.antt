@@ -8,7 +8,7 @@ use Rattle.sequence.specs.Gives.{◌>>=◌}
 use Rattle.jasmin_words.specs.Lexing.{Item}
 use Rattle.jasmin_words.specs.Names.{is_label}
 use Rattle.jasmin_text.specs.Forms.{form_at, directive_at}
-use Rattle.jasmin_text.specs.Grammar.{Row, ClassRow, SuperRow, ImplementsRow, FieldRow, MethodRow, StackRow, LocalsRow, CatchRow}
+use Rattle.jasmin_text.specs.Grammar.{Row, ClassRow, SuperRow, ImplementsRow, FieldRow, MethodRow}
 use Rattle.jasmin_text.specs.declared.access.Access.{Access}
 use Rattle.jasmin_text.specs.declared.form.Form.{Form}
 use Rattle.jasmin_text.specs.declared.form.Directive.{Directive}
@@ -18,19 +18,13 @@ use Rattle.jasmin_reader.specs.declared.body.Body.{Body}
 use Rattle.jasmin_reader.specs.declared.said.Said.{Said}
 use Rattle.jasmin_reader.specs.declared.said.Said.TheVariants as said
 use Rattle.jasmin_reader.specs.declared.reader.Reader.{Reader}
-use Rattle.jasmin_reader.specs.Places.{ended_at, first_word}
+use Rattle.jasmin_reader.specs.Places.{wanted_or, ended_at, first_word}
 use Rattle.jasmin_reader.specs.Operands.{class_name_in, last_operand, begins_with}
 use Rattle.jasmin_reader.specs.Heads.{class_from, field_from, method_from}
 use Rattle.jasmin_reader.specs.Listing.{empty_listing, behind_colon, unknown_word}
-use Rattle.jasmin_reader.specs.Bodies.{statement_at, limit_from, catch_from, with_setting, end_from, outside_switch, closed}
+use Rattle.jasmin_reader.specs.Bodies.{statement_at, limit_from, catch_from, setting_row, with_setting, end_from, outside_switch, closed}
 
 -- ---- outside of methods
-
-abbrev pub allowed : Bool → Result (Unit {0}) FaultKind
-allowed b = if b then Ok tt else Err fault.Misplaced
-
-abbrev pub has_room_for : Bool → Result (Unit {0}) FaultKind
-has_room_for b = if b then Ok tt else Err fault.LimitExceeded
 
 -- behind .class and outside of methods
 abbrev pub is_in_class : Reader → Bool
@@ -56,12 +50,12 @@ open_at (Some b) = outside_switch b
 -- Where the line of a directive may stand, and whether there is room for what it says: one line names the class,
 -- at most one the superclass, and at most 255 name superinterfaces.
 abbrev pub may_stand : Reader → Directive → Result (Unit {0}) FaultKind
-may_stand r directive.Class = allowed (is_none r.class)
-may_stand r directive.Interface = allowed (is_none r.class)
-may_stand r directive.Super = allowed (is_in_header r) >>= λ _. allowed (is_none r.superclass)
-may_stand r directive.Implements = allowed (is_in_header r) >>= λ _. has_room_for (nat_lt (length r.interfaces) 255)
-may_stand r directive.Field = allowed (is_in_class r) >>= λ _. has_room_for (member_room r)
-may_stand r directive.Method = allowed (is_in_class r) >>= λ _. has_room_for (member_room r)
+may_stand r directive.Class = wanted_or (is_none r.class) fault.Misplaced
+may_stand r directive.Interface = wanted_or (is_none r.class) fault.Misplaced
+may_stand r directive.Super = wanted_or (is_in_header r) fault.Misplaced >>= λ _. wanted_or (is_none r.superclass) fault.Misplaced
+may_stand r directive.Implements = wanted_or (is_in_header r) fault.Misplaced >>= λ _. wanted_or (nat_lt (length r.interfaces) 255) fault.LimitExceeded
+may_stand r directive.Field = wanted_or (is_in_class r) fault.Misplaced >>= λ _. wanted_or (member_room r) fault.LimitExceeded
+may_stand r directive.Method = wanted_or (is_in_class r) fault.Misplaced >>= λ _. wanted_or (member_room r) fault.LimitExceeded
 may_stand r directive.Limit = open_at r.body
 may_stand r directive.Catch = open_at r.body
 may_stand r other = Ok tt
@@ -94,9 +88,7 @@ said_row (said.Super name) = SuperRow name
 said_row (said.Implements name) = ImplementsRow name
 said_row (said.Field f) = FieldRow f
 said_row (said.Method m) = MethodRow m.access m.name m.method_type
-said_row (said.Stack n) = StackRow n
-said_row (said.Locals n) = LocalsRow n
-said_row (said.Catch c) = CatchRow c.class c.from c.to c.handler
+said_row (said.Setting s) = setting_row s
 
 -- ---- in methods
 

@@ -5,16 +5,15 @@ ghost use Rattle.sequence.specs.Gives.{Gives};
 ghost use Rattle.jasmin_reader.specs.Places.{IsFaultOr};
 ghost use Rattle.jasmin_words.specs.Lexing.{views};
 ghost use Rattle.jasmin_text.specs.Grammar.{CatchRow, LabelRow, place_of};
-ghost use Rattle.jasmin_reader.specs.Operands.{limit_in, last_operand as last_operand_of};
-ghost use Rattle.jasmin_reader.specs.Bodies.{with_setting, label_at, listed, end_from, no_directive, labelled_at, plain_by, statement_at, outside_switch, limit_from, caught_in, label_behind, row_from, catch_from};
-ghost use Rattle.jasmin_reader.specs.Reading.{said_row};
+ghost use Rattle.jasmin_reader.specs.Bodies.{setting_row, with_setting, label_at, listed, end_from, no_directive, labelled_at, plain_by, statement_at, outside_switch, limit_from, label_behind, last_labels_from, row_from, catch_from};
 ghost use Rattle.jasmin_reader.specs.Listing.{instruction_at, behind_colon as behind_colon_of};
 
 use crate::labels::Labels;
 use crate::listing::{Listing, behind_colon};
-use crate::place::{FromWord, LineError, bad_operand, ended, first, next, operand, within};
-use crate::said::Said;
-use crate::values::{begins, limit};
+use crate::place::{
+    FromWord, LineError, bad_operand, ended, first, last_operand, next, operand, within,
+};
+use crate::values::{Limit, begins};
 use descriptors::{ClassName, MethodType};
 use jasmin_text::Access;
 use jasmin_text::form::{Directive, directive_of};
@@ -34,6 +33,17 @@ pub(crate) struct Catch {
     pub to: Text,
     /// The label of the handler.
     pub handler: Text,
+}
+
+/// What the line of a directive sets in a method.
+#[derive(Drop)]
+pub(crate) enum Setting {
+    /// The limit of the stack.
+    Stack(u16),
+    /// The limit of the locals.
+    Locals(u16),
+    /// A row of the handler table.
+    Catch(Catch),
 }
 
 /// A method that is not at its end.
@@ -109,55 +119,57 @@ fn label_after<'a, 't>(
     operand::<Text>(alloc, rest)
 }
 
-/// The labels of a row of the handler table: the beginning of the range, its end and the handler.
-fn row_labels(alloc: Global, tokens: &[Token<'_>]) -> Result<(Text, Text, Text), LineError>
-    ensures { (class : Option (List ℕ)) → Gives (λ x. CatchRow class x.0 x.1 x.2) result (row_from class (views tokens.now)) }
+/// The labels of the place behind a range and of its handler.
+fn last_labels(alloc: Global, tokens: &[Token<'_>]) -> Result<(Text, Text), LineError>
+    ensures { Gives (λ x. x) result (last_labels_from (views tokens.now)) }
 {
-    let (from, rest) = label_after(alloc, b"from", tokens)?;
-    let (to, rest) = label_after(alloc, b"to", rest)?;
+    let (to, rest) = label_after(alloc, b"to", tokens)?;
     let (handler, rest) = label_after(alloc, b"using", rest)?;
-    ended(rest)?;
-    Ok((from, to, handler))
+    ended(rest).and(Ok((to, handler)))
 }
 
-/// The row of the handler table behind `.catch`.
-#[tactic(auto, unfolding(crate::specs::Bodies::catch_from))]
-pub(crate) fn handler_row(alloc: Global, tokens: &[Token<'_>]) -> Result<Catch, LineError>
-    ensures { Gives (λ c. CatchRow c.class c.from c.to c.handler) result (catch_from (views tokens.now)) }
+/// The row of the handler table that catches these, by the labels that follow.
+fn row_behind(
+    alloc: Global,
+    class: Option<ClassName>,
+    tokens: &[Token<'_>],
+) -> Result<Setting, LineError>
+    ensures { Gives setting_row result (row_from class (views tokens.now)) }
 {
-    let (class, rest) = operand::<Option<ClassName>>(alloc, tokens)?;
-    let (from, to, handler) = row_labels(alloc, rest)?;
-    Ok(Catch {
+    let (from, rest) = label_after(alloc, b"from", tokens)?;
+    let (to, handler) = last_labels(alloc, rest)?;
+    Ok(Setting::Catch(Catch {
         class,
         from,
         to,
         handler,
-    })
+    }))
 }
 
-/// The number of a limit.
-fn last_limit(tokens: &[Token<'_>]) -> Result<u16, LineError>
-    ensures { Gives (λ x. x) result (last_operand_of limit_in (views tokens.now)) }
+/// The row of the handler table behind `.catch`.
+#[tactic(auto, unfolding(crate::specs::Bodies::catch_from))]
+pub(crate) fn handler_row(alloc: Global, tokens: &[Token<'_>]) -> Result<Setting, LineError>
+    ensures { Gives setting_row result (catch_from (views tokens.now)) }
 {
-    let (word, rest) = next(tokens)?;
-    let count = limit(word)?;
-    within(word)?;
-    ended(rest)?;
-    Ok(count)
+    let (class, rest) = operand::<Option<ClassName>>(alloc, tokens)?;
+    row_behind(alloc, class, rest)
 }
 
 /// The limit behind `.limit`.
-pub(crate) fn limit_behind(tokens: &[Token<'_>]) -> Result<Said, LineError>
-    ensures { Gives said_row result (limit_from (views tokens.now)) }
+pub(crate) fn limit_behind(alloc: Global, tokens: &[Token<'_>]) -> Result<Setting, LineError>
+    ensures { Gives setting_row result (limit_from (views tokens.now)) }
 {
     let (word, rest) = next(tokens)?;
-    if same(word, b"stack") {
-        Ok(Said::Stack(last_limit(rest)?))
-    } else if same(word, b"locals") {
-        Ok(Said::Locals(last_limit(rest)?))
-    } else {
-        Err(bad_operand())
+    let is_stack = same(word, b"stack");
+    if !is_stack && !same(word, b"locals") {
+        return Err(bad_operand());
     }
+    let Limit(count) = last_operand(alloc, rest)?;
+    Ok(if is_stack {
+        Setting::Stack(count)
+    } else {
+        Setting::Locals(count)
+    })
 }
 
 impl Body {
@@ -174,6 +186,18 @@ impl Body {
     {
         if self.listing.is_in_switch() {
             return Err(Refusal::Fault(FaultKind::Misplaced));
+        }
+        Ok(())
+    }
+
+    /// The method with what a line sets.
+    pub(crate) fn set(&mut self, setting: Setting) -> Result<(), AllocError>
+        ensures { OnOk result (self.new ≡ with_setting self.old (setting_row setting)) }
+    {
+        match setting {
+            Setting::Stack(count) => self.stack = count,
+            Setting::Locals(count) => self.locals = count,
+            Setting::Catch(row) => return self.catches.push(row),
         }
         Ok(())
     }

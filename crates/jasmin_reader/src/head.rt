@@ -1,12 +1,13 @@
 //! The lines that name a class, a field or a method.
 
 ghost use Rattle.std.specs.Prelude.{◌≡◌};
+ghost use Rattle.std.specs.Option.{option_map};
 ghost use Rattle.sequence.specs.Gives.{Gives};
 ghost use Rattle.jasmin_words.specs.Lexing.{view, views};
-ghost use Rattle.jasmin_reader.specs.Heads.{start, with_access, fits_place, head_word_at, with_class_word, with_word, is_word, has_word, begins_with_word, is_signature, begins_with_part, behind, is_before_name, named_from, no_access_by, no_access_in, class_from};
+ghost use Rattle.jasmin_reader.specs.Heads.{start, with_access, fits_place, head_word_at, with_class_word, with_word, is_word, has_word, begins_with_word, behind_signature as behind_signature_of, is_signature, begins_with_part, behind, is_before_name, named_from, no_access_by, no_access_in, class_from};
 
 use crate::place::{FromWord, LineError, bad_operand, ended, placed_word, within};
-use crate::table::{ClassWord, class_word_of};
+use crate::table::ClassWord;
 use descriptors::ClassName;
 use jasmin_text::table::{AccessWord, access_of, member_access_of};
 use jasmin_text::{Access, ClassKind};
@@ -99,11 +100,12 @@ fn add_class_word(place: Place, words: HeadWords, word: ClassWord) -> Result<Hea
 fn head_word(place: Place, word: &[u8]) -> Option<ClassWord>
     ensures { result ≡ head_word_at place word.now }
 {
-    match place {
-        Place::Class => class_word_of(word),
-        Place::Interface => access_of(word).map(ClassWord::Access),
-        Place::Field | Place::Method => member_access_of(word).map(ClassWord::Access),
-    }
+    let access = match place {
+        Place::Class if same(word, b"interface") => return Some(ClassWord::Interface),
+        Place::Class | Place::Interface => access_of(word),
+        Place::Field | Place::Method => member_access_of(word),
+    };
+    access.map(ClassWord::Access)
 }
 
 /// The words with one more.
@@ -148,16 +150,26 @@ fn starts_with_word(tokens: &[Token<'_>]) -> bool
     }
 }
 
+/// What follows `signature`, where it stands next.
+pub(crate) fn behind_signature<'a, 't>(tokens: &'t [Token<'a>]) -> Option<&'t [Token<'a>]>
+    ensures { option_map (λ r. views r.now) result ≡ behind_signature_of (views tokens.now) }
+{
+    match tokens {
+        [] => None,
+        [first, rest @ ..] => match first {
+            Token::Word(word) if same(word, b"signature") => Some(rest),
+            _ => None,
+        },
+    }
+}
+
 /// Whether `signature` ends the words of a field here.
 pub(crate) fn is_at_signature(tokens: &[Token<'_>]) -> bool
     ensures { result ≡ is_signature (views tokens.now) }
 {
-    match tokens {
-        [] => false,
-        [first, rest @ ..] => match first {
-            Token::Word(word) => same(word, b"signature") && !starts_with_word(rest),
-            _ => false,
-        },
+    match behind_signature(tokens) {
+        None => false,
+        Some(rest) => !starts_with_word(rest),
     }
 }
 
@@ -187,6 +199,18 @@ fn name_follows(place: Place, tokens: &[Token<'_>]) -> bool
     }
 }
 
+/// The fault of an access word in the name's place, if one stands there: it is taken as one, and the name is missing.
+#[tactic(auto, unfolding(crate::specs::Heads::no_access_in))]
+fn no_access_word(place: Place, word: &[u8]) -> Result<(), LineError>
+    ensures { Gives (λ x. x) result (no_access_in place word.now) }
+{
+    match head_word(place, word) {
+        None => Ok(()),
+        Some(ClassWord::Access(AccessWord::LeftOut)) => Err(Refusal::Fault(FaultKind::LeftOut)),
+        Some(_) => Err(bad_operand()),
+    }
+}
+
 /// The access words, the word in the name's place, and what follows it.
 #[derive(Drop)]
 pub(crate) struct Named<'a, 't> {
@@ -209,29 +233,18 @@ pub(crate) fn read_name<'a, 't>(
     while let [first, after @ ..] = rest {
         let name = placed_word(first)?;
         if !name_follows(place, after) {
-            return Ok(Named {
+            let named = Named {
                 words,
                 name,
                 rest: after,
-            });
+            };
+            return no_access_word(place, name).and(Ok(named));
         }
         words = add_word(place, words, name)?;
         within(name)?;
         rest = after;
     }
     Err(bad_operand())
-}
-
-/// The fault of an access word in the name's place, if one stands there: it is taken as one, and the name is missing.
-#[tactic(auto, unfolding(crate::specs::Heads::no_access_in))]
-pub(crate) fn no_access_word(place: Place, word: &[u8]) -> Result<(), LineError>
-    ensures { Gives (λ x. x) result (no_access_in place word.now) }
-{
-    match head_word(place, word) {
-        None => Ok(()),
-        Some(ClassWord::Access(AccessWord::LeftOut)) => Err(Refusal::Fault(FaultKind::LeftOut)),
-        Some(_) => Err(bad_operand()),
-    }
 }
 
 /// A class's access words and its name, behind `.class` or `.interface`.
@@ -248,9 +261,7 @@ pub(crate) fn class_head(
         _ => ClassKind::Class,
     };
     let named = read_name(place, no_words(kind), tokens)?;
-    no_access_word(place, named.name)?;
     let name = ClassName::from_word(alloc, named.name)?;
     within(named.name)?;
-    ended(named.rest)?;
-    Ok((named.words, name))
+    ended(named.rest).and(Ok((named.words, name)))
 }

@@ -4,17 +4,19 @@ ghost use Rattle.std.specs.Prelude.{◌≡◌, length, is_some, None, OnOk};
 ghost use Rattle.sequence.specs.Gives.{Gives};
 ghost use Rattle.jasmin_words.specs.Lexing.{views};
 ghost use Rattle.std.specs.Option.{option_map};
-ghost use Rattle.jasmin_reader.specs.Listing.{empty_listing, with_switch, with_listed, listed_row, has_room, unknown_word as unknown_word_of, instruction_at, behind_colon as behind_colon_of, colon_from, is_default, wanted as wanted_if, takes_label as takes_label_of, is_full, key_in, target_at, table_end as table_end_of, table_by, case_at, lookup_end as lookup_end_of, switch_at};
+ghost use Rattle.jasmin_reader.specs.Listing.{empty_listing, with_switch, with_listed, listed_row, has_room, unknown_word as unknown_word_of, instruction_at, behind_colon as behind_colon_of, colon_from, is_default, takes_label as takes_label_of, is_full, key_in, target_at, table_end as table_end_of, table_by, case_at, lookup_end as lookup_end_of, switch_at};
 ghost use Rattle.jasmin_text.specs.Grammar.{InstructionRow, TargetRow, CaseRow, DefaultRow};
 
 use crate::operands::{begin, count_up_to};
-use crate::place::{FromWord, LineError, bad_operand, ended, fault_at, last_operand, within};
+use crate::place::{
+    FromWord, LineError, bad_operand, ended, fault_at, last_operand, wanted, within,
+};
 use crate::said::Listed;
 use crate::switch::{Cases, Switch, Table};
 use crate::values::integer;
 use jasmin_text::Instruction;
 use jasmin_text::form::{form_of, left_out};
-use jasmin_words::name::same;
+use jasmin_words::name::{is_label, same};
 use jasmin_words::{FaultKind, Token};
 use sequence::{Refusal, Sequence, Text};
 use std::alloc::{AllocError, Global};
@@ -85,13 +87,6 @@ fn is_default_word(word: &[u8]) -> bool
     same(word, b"default")
 }
 
-/// What is wanted of a number.
-fn wanted(yes: bool) -> Result<(), LineError>
-    ensures { Gives (λ x. x) result (wanted_if yes) }
-{
-    if yes { Ok(()) } else { Err(bad_operand()) }
-}
-
 /// Whether one label more may come in a `tableswitch`.
 fn takes_label(table: &Table) -> Result<(), LineError>
     ensures { Gives (λ x. x) result (takes_label_of table.now.low (length table.now.labels) table.now.high) }
@@ -100,7 +95,7 @@ fn takes_label(table: &Table) -> Result<(), LineError>
         None => Ok(()),
         Some(high) => {
             let count = count_up_to(table.low, high)?;
-            wanted((table.labels.len() as u64) < count)
+            wanted((table.labels.len() as u64) < count, FaultKind::BadOperand)
         }
     }
 }
@@ -113,7 +108,7 @@ fn full(table: &Table) -> Result<(), LineError>
         None => Ok(()),
         Some(high) => {
             let count = count_up_to(table.low, high)?;
-            wanted(table.labels.len() as u64 == count)
+            wanted(table.labels.len() as u64 == count, FaultKind::BadOperand)
         }
     }
 }
@@ -190,10 +185,7 @@ impl Listing {
     fn room(&self) -> Result<(), LineError>
         ensures { Gives (λ x. x) result (has_room self.now.room) }
     {
-        if self.room == 0 {
-            return Err(Refusal::Fault(FaultKind::LimitExceeded));
-        }
-        Ok(())
+        wanted(self.room != 0, FaultKind::LimitExceeded)
     }
 
     /// What a line outside of a switch says that begins with this word.
@@ -209,8 +201,7 @@ impl Listing {
         let Some(form) = form_of(word) else {
             return Err(Refusal::Fault(unknown_word(word)));
         };
-        within(word)?;
-        self.room()?;
+        within(word).and(self.room())?;
         begin(alloc, form, rest)
     }
 
@@ -225,12 +216,12 @@ impl Listing {
     ) -> Result<Listed, LineError>
         ensures { Gives listed_row result (target_at self.now.room table.now word.now (views rest.now)) }
     {
-        let label = Text::from_word(alloc, word)?;
+        wanted(is_label(word), FaultKind::BadOperand)?;
         takes_label(table)?;
         within(word)?;
         self.room()?;
         ended(rest)?;
-        Ok(Listed::Target(label))
+        Ok(Listed::Target(Text::copied(alloc, word)?))
     }
 
     /// A line of a `tableswitch`.
@@ -261,8 +252,7 @@ impl Listing {
         ensures { Gives listed_row result (case_at self.now.room cases.now word.now (views rest.now)) }
     {
         let key = new_key(cases, word)?;
-        within(word)?;
-        self.room()?;
+        within(word).and(self.room())?;
         let after = colon(rest)?;
         let label = last_operand::<Text>(alloc, after)?;
         Ok(Listed::Case(key, label))

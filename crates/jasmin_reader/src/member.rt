@@ -4,9 +4,9 @@ ghost use Rattle.std.specs.Prelude.{◌≡◌};
 ghost use Rattle.sequence.specs.Gives.{Gives};
 ghost use Rattle.jasmin_words.specs.Lexing.{views};
 ghost use Rattle.jasmin_text.specs.Spellable.{is_int_type, is_string_type};
-ghost use Rattle.jasmin_reader.specs.Heads.{behind_signature, constant_for, value_at, value_from, described_from, field_named, field_from, may_initialize, fits_initializer, method_there, method_named, method_from};
+ghost use Rattle.jasmin_reader.specs.Heads.{behind_signature as behind_signature_of, skipped_from, constant_for, value_at, value_from, described_from, field_named, field_from, may_initialize, fits_initializer, method_there, method_named, method_from};
 
-use crate::head::{Place, is_at_signature, no_access_word, no_words, read_name};
+use crate::head::{Place, behind_signature, is_at_signature, no_words, read_name};
 use crate::place::{FromWord, LineError, bad_operand, ended, fault_at, operand, string, within};
 use crate::values::typed;
 use descriptors::{ElementType, FieldType, MethodType};
@@ -18,21 +18,14 @@ use std::alloc::Global;
 
 /// What stands behind the one signature that a field's line may have, which is skipped.
 fn skip_signature<'a, 't>(tokens: &'t [Token<'a>]) -> Result<&'t [Token<'a>], LineError>
-    ensures { Gives (λ x. views x.now) result (behind_signature (views tokens.now)) }
+    ensures { Gives (λ x. views x.now) result (skipped_from (views tokens.now) (behind_signature_of (views tokens.now))) }
 {
-    match tokens {
-        [] => Ok(tokens),
-        [first, rest @ ..] => match first {
-            Token::Word(word) => {
-                if same(word, b"signature") {
-                    let (_text, rest) = string(rest)?;
-                    Ok(rest)
-                } else {
-                    Ok(tokens)
-                }
-            }
-            _ => Ok(tokens),
-        },
+    match behind_signature(tokens) {
+        None => Ok(tokens),
+        Some(rest) => {
+            let (_text, rest) = string(rest)?;
+            Ok(rest)
+        }
     }
 }
 
@@ -95,8 +88,7 @@ fn value_behind(
         [first, rest @ ..] => match first {
             Token::Equals => {
                 let (value, rest) = constant(alloc, field_type, rest)?;
-                ended(rest)?;
-                Ok(Some(value))
+                ended(rest).and(Ok(Some(value)))
             }
             _ => Err(Refusal::Fault(fault_at(first))),
         },
@@ -154,7 +146,6 @@ pub(crate) fn field(alloc: Global, tokens: &[Token<'_>]) -> Result<Field, LineEr
     ensures { Gives (λ x. x) result (field_from (views tokens.now)) }
 {
     let named = read_name(Place::Field, no_words(ClassKind::Class), tokens)?;
-    no_access_word(Place::Field, named.name)?;
     let name = MemberName::from_word(alloc, named.name)?;
     within(named.name)?;
     field_behind(alloc, named.words.access, name, named.rest)
@@ -193,8 +184,7 @@ fn may_stand(head: &MethodHead, word: &[u8], rest: &[Token<'_>]) -> Result<(), L
     ensures { Gives (λ _. (head.now.access, (head.now.name, head.now.method_type))) result (method_there head.now.access (head.now.name, head.now.method_type) word.now (views rest.now)) }
 {
     within(word)?;
-    fit_initializer(head.access, &head.name, &head.method_type)?;
-    ended(rest)
+    fit_initializer(head.access, &head.name, &head.method_type).and(ended(rest))
 }
 
 /// The head of a method with these access words, by the word in the name's place and what follows it.
@@ -212,8 +202,7 @@ fn method_behind(
         name,
         method_type,
     };
-    may_stand(&head, word, rest)?;
-    Ok(head)
+    may_stand(&head, word, rest).and(Ok(head))
 }
 
 /// The access words, the name and the type behind `.method`.
@@ -222,6 +211,5 @@ pub(crate) fn method_head(alloc: Global, tokens: &[Token<'_>]) -> Result<MethodH
     ensures { Gives (λ x. (x.access, (x.name, x.method_type))) result (method_from (views tokens.now)) }
 {
     let named = read_name(Place::Method, no_words(ClassKind::Class), tokens)?;
-    no_access_word(Place::Method, named.name)?;
     method_behind(alloc, named.words.access, named.name, named.rest)
 }

@@ -5,7 +5,7 @@ ghost use Rattle.std.specs.Prelude.{◌≡◌};
 ghost use Rattle.sequence.specs.Gives.{Gives};
 ghost use Rattle.jasmin_words.specs.Lexing.{views};
 ghost use Rattle.jasmin_text.specs.declared.form.Form.TheVariants as forms;
-ghost use Rattle.jasmin_reader.specs.Operands.{constant_from, count_at, labels_between, high_in, high_at, begun_at};
+ghost use Rattle.jasmin_reader.specs.Operands.{constant_from, count_at, labels_between, high_in, high_at, alone as alone_of, begun_at};
 ghost use Rattle.jasmin_reader.specs.Listing.{listed_row};
 
 use crate::place::{LineError, bad_operand, ended, last_operand, next, operand, within};
@@ -15,7 +15,7 @@ use descriptors::{BaseType, ClassName, FieldType};
 use jasmin_text::form::Form;
 use jasmin_text::{
     Boxed, Call, Constant, FieldAccess, FieldReference, Instruction, Jump, Local, MethodReference,
-    Plain, ReferenceType, TypeUse,
+    ReferenceType, TypeUse,
 };
 use jasmin_words::Token;
 use jasmin_words::name::MemberName;
@@ -49,8 +49,7 @@ fn count(alloc: Global, tokens: &[Token<'_>]) -> Result<(), LineError>
     if tokens.is_empty() {
         return Ok(());
     }
-    let _count = last_operand::<u8>(alloc, tokens)?;
-    Ok(())
+    last_operand::<u8>(alloc, tokens).and(Ok(()))
 }
 
 /// How many labels stand for the keys from the first to the last; none where the last is just below the first.
@@ -70,8 +69,7 @@ fn last_key(low: i32, word: &[u8]) -> Result<i32, LineError>
     ensures { Gives (λ n. n) result (high_in low word.now) }
 {
     let high = integer(word)?;
-    let _count = count_up_to(low, high)?;
-    Ok(high)
+    count_up_to(low, high).and(Ok(high))
 }
 
 /// The last key of a `tableswitch`, where it is given.
@@ -84,38 +82,14 @@ fn high(low: i32, tokens: &[Token<'_>]) -> Result<Option<i32>, LineError>
     let (word, rest) = next(tokens)?;
     let high = last_key(low, word)?;
     within(word)?;
-    ended(rest)?;
-    Ok(Some(high))
+    ended(rest).and(Ok(Some(high)))
 }
 
-/// What the line of an instruction without operands says.
-fn plain(word: Plain, tokens: &[Token<'_>]) -> Result<Listed, LineError>
-    ensures { Gives listed_row result (begun_at (forms.Plain word) (views tokens.now)) }
+/// What the line of a word without operands says.
+fn alone(said: Listed, tokens: &[Token<'_>]) -> Result<Listed, LineError>
+    ensures { Gives listed_row result (alone_of (listed_row said) (views tokens.now)) }
 {
-    match ended(tokens) {
-        Ok(()) => Ok(Listed::Instruction(Instruction::Plain(word))),
-        Err(error) => Err(error),
-    }
-}
-
-/// What the line of an instruction says that pushes this int.
-fn number(value: i32, tokens: &[Token<'_>]) -> Result<Listed, LineError>
-    ensures { Gives listed_row result (begun_at (forms.Number value) (views tokens.now)) }
-{
-    match ended(tokens) {
-        Ok(()) => Ok(Listed::Instruction(Instruction::Constant(Constant::Int(value)))),
-        Err(error) => Err(error),
-    }
-}
-
-/// What the line of an instruction says that takes this local.
-fn local_at(word: Local, place: u16, tokens: &[Token<'_>]) -> Result<Listed, LineError>
-    ensures { Gives listed_row result (begun_at (forms.LocalAt word place) (views tokens.now)) }
-{
-    match ended(tokens) {
-        Ok(()) => Ok(Listed::Instruction(Instruction::Local(word, place))),
-        Err(error) => Err(error),
-    }
+    ended(tokens).and(Ok(said))
 }
 
 /// What a line of `bipush` says.
@@ -143,8 +117,7 @@ fn pushed(alloc: Global, tokens: &[Token<'_>]) -> Result<Listed, LineError>
     ensures { Gives listed_row result (begun_at forms.Constant (views tokens.now)) }
 {
     let (constant, rest) = constant(alloc, tokens)?;
-    ended(rest)?;
-    Ok(Listed::Instruction(Instruction::Constant(constant)))
+    ended(rest).and(Ok(Listed::Instruction(Instruction::Constant(constant))))
 }
 
 /// What the line of an instruction with the number of a local says.
@@ -185,16 +158,6 @@ fn table_switch(alloc: Global, tokens: &[Token<'_>]) -> Result<Listed, LineError
     Ok(Listed::Table(low, high))
 }
 
-/// What a line of `lookupswitch` says.
-fn lookup_switch(tokens: &[Token<'_>]) -> Result<Listed, LineError>
-    ensures { Gives listed_row result (begun_at forms.LookupSwitch (views tokens.now)) }
-{
-    match ended(tokens) {
-        Ok(()) => Ok(Listed::Lookup),
-        Err(error) => Err(error),
-    }
-}
-
 /// What the line of an instruction on a field says: a class, a slash and a name stand on it, and then a descriptor.
 fn field(alloc: Global, word: FieldAccess, tokens: &[Token<'_>]) -> Result<Listed, LineError>
     ensures { Gives listed_row result (begun_at (forms.Field word) (views tokens.now)) }
@@ -224,8 +187,7 @@ fn interface_call(alloc: Global, tokens: &[Token<'_>]) -> Result<Listed, LineErr
     ensures { Gives listed_row result (begun_at forms.CallInterface (views tokens.now)) }
 {
     let (method, rest) = operand::<Boxed<MethodReference>>(alloc, tokens)?;
-    count(alloc, rest)?;
-    Ok(Listed::Instruction(Instruction::CallInterface(method)))
+    count(alloc, rest).and(Ok(Listed::Instruction(Instruction::CallInterface(method))))
 }
 
 /// What a line of `new` says.
@@ -263,9 +225,14 @@ pub(crate) fn begin(alloc: Global, form: Form, tokens: &[Token<'_>]) -> Result<L
     ensures { Gives listed_row result (begun_at form (views tokens.now)) }
 {
     match form {
-        Form::Plain(word) => plain(word, tokens),
-        Form::Number(value) => number(value, tokens),
-        Form::LocalAt(word, place) => local_at(word, place, tokens),
+        Form::Plain(word) => alone(Listed::Instruction(Instruction::Plain(word)), tokens),
+        Form::Number(value) => {
+            let constant = Constant::Int(value);
+            alone(Listed::Instruction(Instruction::Constant(constant)), tokens)
+        }
+        Form::LocalAt(word, place) => {
+            alone(Listed::Instruction(Instruction::Local(word, place)), tokens)
+        }
         Form::Byte => byte(alloc, tokens),
         Form::Short => short(alloc, tokens),
         Form::Constant => pushed(alloc, tokens),
@@ -273,7 +240,7 @@ pub(crate) fn begin(alloc: Global, form: Form, tokens: &[Token<'_>]) -> Result<L
         Form::Increment => increment(alloc, tokens),
         Form::Jump(word) => jump(alloc, word, tokens),
         Form::TableSwitch => table_switch(alloc, tokens),
-        Form::LookupSwitch => lookup_switch(tokens),
+        Form::LookupSwitch => alone(Listed::Lookup, tokens),
         Form::Field(word) => field(alloc, word, tokens),
         Form::Call(word) => call(alloc, word, tokens),
         Form::CallInterface => interface_call(alloc, tokens),

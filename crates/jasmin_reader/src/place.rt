@@ -6,7 +6,7 @@ ghost use Rattle.jasmin_words.specs.declared.fault.FaultKind.TheVariants as faul
 ghost use Rattle.sequence.specs.declared.refusal.Refusal.TheVariants as refusals;
 ghost use Rattle.sequence.specs.Gives.{Gives};
 ghost use Rattle.jasmin_words.specs.Lexing.{view, views};
-ghost use Rattle.jasmin_reader.specs.Places.{misplaced, word_of, within_limit, next_word, operand as operand_of, string_from, ended_at, first_word, lowest as lowest_of};
+ghost use Rattle.jasmin_reader.specs.Places.{wanted_or, misplaced, word_of, within_limit, next_word, operand as operand_of, string_from, ended_at, first_word, lowest as lowest_of};
 ghost use Rattle.jasmin_reader.specs.Operands.{last_operand as last_operand_of};
 
 use jasmin_words::token::MOST_BYTES;
@@ -41,6 +41,17 @@ pub(crate) fn placed_word<'a>(token: &Token<'a>) -> Result<&'a [u8], LineError>
     match token {
         Token::Word(word) => Ok(*word),
         _ => Err(Refusal::Fault(fault_at(token))),
+    }
+}
+
+/// This fault, unless what is wanted holds.
+pub(crate) fn wanted(yes: bool, kind: FaultKind) -> Result<(), LineError>
+    ensures { Gives (λ x. x) result (wanted_or yes kind) }
+{
+    if yes {
+        Ok(())
+    } else {
+        Err(Refusal::Fault(kind))
     }
 }
 
@@ -135,8 +146,7 @@ pub(crate) fn operand<'a, 't, T: FromWord>(
 {
     let (word, rest) = next(tokens)?;
     let value = T::from_word(alloc, word)?;
-    within(word)?;
-    Ok((value, rest))
+    within(word).and(Ok((value, rest)))
 }
 
 /// The last operand of a line.
@@ -144,6 +154,5 @@ pub(crate) fn last_operand<T: FromWord>(alloc: Global, tokens: &[Token<'_>]) -> 
     ensures { Gives (λ x. x) result (last_operand_of T.read (views tokens.now)) }
 {
     let (value, rest) = operand(alloc, tokens)?;
-    ended(rest)?;
-    Ok(value)
+    ended(rest).and(Ok(value))
 }

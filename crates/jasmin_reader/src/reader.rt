@@ -6,14 +6,14 @@ ghost use Rattle.jasmin_words.specs.Lexing.{views};
 ghost use Rattle.jasmin_text.specs.Forms.{form_at};
 ghost use Rattle.jasmin_reader.specs.File.{empty_reader};
 ghost use Rattle.jasmin_reader.specs.Listing.{behind_colon as behind_colon_of};
-ghost use Rattle.jasmin_reader.specs.Reading.{allowed as allowed_if, has_room_for, is_in_class, is_in_header, member_room, may_stand as may_stand_at, with_row, said_row, empty_body, open_at, end_line, directive_line, stray_by, statement_line, no_word as no_word_of, line_at};
+ghost use Rattle.jasmin_reader.specs.Reading.{is_in_class, is_in_header, member_room, may_stand as may_stand_at, with_row, said_row, empty_body, open_at, end_line, directive_line, stray_by, statement_line, no_word as no_word_of, line_at};
 
 use crate::body::{Body, behind_end};
 use crate::head::HeadWords;
 use crate::labels::Labels;
 use crate::listing::{Listing, behind_colon, unknown_word};
 use crate::member::MethodHead;
-use crate::place::{LineError, ended, first};
+use crate::place::{LineError, ended, first, wanted};
 use crate::said::{Said, said_behind};
 use crate::values::begins;
 use descriptors::ClassName;
@@ -43,26 +43,6 @@ pub(crate) struct Reader {
     pub methods: Sequence<Method>,
     /// The method whose `.end method` has not come.
     pub body: Option<Body>,
-}
-
-fn allowed(yes: bool) -> Result<(), LineError>
-    ensures { Gives (λ x. x) result (allowed_if yes) }
-{
-    if yes {
-        Ok(())
-    } else {
-        Err(Refusal::Fault(FaultKind::Misplaced))
-    }
-}
-
-fn has_room(yes: bool) -> Result<(), LineError>
-    ensures { Gives (λ x. x) result (has_room_for yes) }
-{
-    if yes {
-        Ok(())
-    } else {
-        Err(Refusal::Fault(FaultKind::LimitExceeded))
-    }
 }
 
 /// A method without lines.
@@ -144,18 +124,22 @@ impl Reader {
         ensures { Gives (λ x. x) result (may_stand_at self.now directive) }
     {
         match directive {
-            Directive::Class | Directive::Interface => allowed(self.class.is_none()),
+            Directive::Class | Directive::Interface => wanted(
+                self.class.is_none(),
+                FaultKind::Misplaced,
+            ),
             Directive::Super => {
-                allowed(self.in_header())?;
-                allowed(self.superclass.is_none())
+                let header = wanted(self.in_header(), FaultKind::Misplaced);
+                header.and(wanted(self.superclass.is_none(), FaultKind::Misplaced))
             }
             Directive::Implements => {
-                allowed(self.in_header())?;
-                has_room(self.interfaces.len() < MOST_INTERFACES)
+                let header = wanted(self.in_header(), FaultKind::Misplaced);
+                let room = self.interfaces.len() < MOST_INTERFACES;
+                header.and(wanted(room, FaultKind::LimitExceeded))
             }
             Directive::Field | Directive::Method => {
-                allowed(self.in_class())?;
-                has_room(self.takes_member())
+                let class = wanted(self.in_class(), FaultKind::Misplaced);
+                class.and(wanted(self.takes_member(), FaultKind::LimitExceeded))
             }
             Directive::Limit | Directive::Catch => self.in_method(),
             _ => Ok(()),
@@ -172,19 +156,9 @@ impl Reader {
             Said::Implements(name) => return self.interfaces.push(name),
             Said::Field(field) => return self.fields.push(field),
             Said::Method(head) => drop(self.body.replace(opened(alloc, head))),
-            Said::Stack(count) => {
+            Said::Setting(setting) => {
                 if let Some(body) = &mut self.body {
-                    body.stack = count;
-                }
-            }
-            Said::Locals(count) => {
-                if let Some(body) = &mut self.body {
-                    body.locals = count;
-                }
-            }
-            Said::Catch(row) => {
-                if let Some(body) = &mut self.body {
-                    return body.catches.push(row);
+                    return body.set(setting);
                 }
             }
         }

@@ -4,7 +4,7 @@ ghost use Rattle.sequence.specs.Gives.{Gives};
 ghost use Rattle.jasmin_words.specs.Lexing.{views};
 ghost use Rattle.jasmin_reader.specs.Reading.{said_in, said_row};
 
-use crate::body::{Catch, handler_row, limit_behind};
+use crate::body::{Setting, handler_row, limit_behind};
 use crate::head::{HeadWords, Place, class_head};
 use crate::member::{MethodHead, field, method_head};
 use crate::place::{LineError, last_operand};
@@ -28,12 +28,8 @@ pub(crate) enum Said {
     Field(Field),
     /// A method, whose lines follow.
     Method(MethodHead),
-    /// The limit of the stack.
-    Stack(u16),
-    /// The limit of the locals.
-    Locals(u16),
-    /// A row of the handler table.
-    Catch(Catch),
+    /// What is set in a method.
+    Setting(Setting),
 }
 
 /// What the line of an instruction says, or a line of a switch.
@@ -63,14 +59,14 @@ pub(crate) fn said_behind(
     ensures { Gives said_row result (said_in directive (views tokens.now)) }
 {
     match directive {
-        Directive::Class => Ok(Said::Class(class_head(alloc, Place::Class, tokens)?)),
-        Directive::Interface => Ok(Said::Class(class_head(alloc, Place::Interface, tokens)?)),
-        Directive::Super => Ok(Said::Super(last_operand::<ClassName>(alloc, tokens)?)),
-        Directive::Implements => Ok(Said::Implements(last_operand::<ClassName>(alloc, tokens)?)),
-        Directive::Field => Ok(Said::Field(field(alloc, tokens)?)),
-        Directive::Method => Ok(Said::Method(method_head(alloc, tokens)?)),
-        Directive::Limit => limit_behind(tokens),
-        Directive::Catch => Ok(Said::Catch(handler_row(alloc, tokens)?)),
+        Directive::Class => class_head(alloc, Place::Class, tokens).map(Said::Class),
+        Directive::Interface => class_head(alloc, Place::Interface, tokens).map(Said::Class),
+        Directive::Super => last_operand(alloc, tokens).map(Said::Super),
+        Directive::Implements => last_operand(alloc, tokens).map(Said::Implements),
+        Directive::Field => field(alloc, tokens).map(Said::Field),
+        Directive::Method => method_head(alloc, tokens).map(Said::Method),
+        Directive::Limit => limit_behind(alloc, tokens).map(Said::Setting),
+        Directive::Catch => handler_row(alloc, tokens).map(Said::Setting),
         _ => Err(Refusal::Fault(FaultKind::LeftOut)),
     }
 }

@@ -1,12 +1,11 @@
 //! The words that may stand before a class's name, and those of base types.
 
 ghost use Rattle.std.specs.Prelude.{◌≡◌};
-ghost use Rattle.jasmin_reader.specs.Heads.{class_word_at};
 ghost use Rattle.jasmin_reader.specs.Table.{base_at};
 ghost use Rattle.jasmin_text.specs.Tables.{find_row, rows};
 
 use descriptors::BaseType;
-use jasmin_text::table::{AccessWord, access_of};
+use jasmin_text::table::AccessWord;
 use jasmin_words::name::same;
 
 /// What stands beside the word in a table.
@@ -30,20 +29,6 @@ pub(crate) enum ClassWord {
     Interface,
     /// It is any other access word.
     Access(AccessWord),
-}
-
-/// What the word says behind `.class`, if it is an access word there.
-#[tactic(auto, unfolding(crate::specs::Heads::class_word_at))]
-pub(crate) fn class_word_of(word: &[u8]) -> Option<ClassWord>
-    ensures { result ≡ class_word_at word.now }
-{
-    if same(word, b"interface") {
-        return Some(ClassWord::Interface);
-    }
-    match access_of(word) {
-        Some(access) => Some(ClassWord::Access(access)),
-        None => None,
-    }
 }
 
 /// A word behind `newarray`.

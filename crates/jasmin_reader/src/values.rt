@@ -3,7 +3,7 @@
 ghost use Rattle.std.specs.Prelude.{◌≡◌, ◌≤◌, ◌<◌, length, IfOk, IfSome};
 ghost use Rattle.sequence.specs.Gives.{Gives};
 ghost use Rattle.jasmin_reader.specs.Places.{IsFaultOr, lowest_with};
-ghost use Rattle.jasmin_reader.specs.Operands.{integer_in, number_in, limit_in, refusal_of, signature_in, slash_in, name_len, typed_in, begins_with};
+ghost use Rattle.jasmin_reader.specs.Operands.{integer_in, number_in, refusal_of, signature_in, slash_in, name_len, typed_in, begins_with};
 
 use crate::place::{FromWord, LineError, bad_operand, lowest};
 use crate::table::{BaseWord, base_word_of};
@@ -16,6 +16,7 @@ use jasmin_words::integer::parse_integer;
 use jasmin_words::name::{MemberName, is_label};
 use sequence::{Refusal, Text};
 use std::alloc::Global;
+use std::marker::Model;
 
 /// An int.
 pub(crate) fn integer(word: &[u8]) -> Result<i32, LineError>
@@ -42,13 +43,6 @@ fn number(low: u16, high: u16, above: FaultKind, word: &[u8]) -> Result<u16, Lin
     } else {
         Err(Refusal::Fault(above))
     }
-}
-
-/// A limit of a method: at most 1,024.
-pub(crate) fn limit(word: &[u8]) -> Result<u16, LineError>
-    ensures { Gives (λ n. n) result (limit_in word.now) }
-{
-    number(0, 1024, FaultKind::LimitExceeded, word)
 }
 
 /// A large operand, in memory of its own.
@@ -114,6 +108,29 @@ impl FromWord for u16 {
 
     fn from_word(_alloc: Global, word: &[u8]) -> Result<u16, LineError> {
         number(0, 65_535, FaultKind::BadOperand, word)
+    }
+}
+
+/// A limit of a method: at most 1,024.
+#[derive(Drop)]
+pub(crate) struct Limit(pub u16);
+
+impl Model for Limit {
+    ghost use Rattle.std.specs.Prelude.{ℕ};
+
+    ghost Value = { ℕ };
+
+    ghost view = { λ l. l.0 };
+}
+
+impl FromWord for Limit {
+    ghost use Rattle.jasmin_reader.specs.Operands.{limit_in};
+
+    ghost read = { limit_in };
+
+    fn from_word(_alloc: Global, word: &[u8]) -> Result<Limit, LineError> {
+        let count = number(0, 1024, FaultKind::LimitExceeded, word)?;
+        Ok(Limit(count))
     }
 }
 
