@@ -26,7 +26,7 @@ class Edits:
 
     def __init__(self, rt, crate, kept, names, edits, harmless=None):
         self.rt, self.crate, self.kept = rt, crate, kept
-        self.found = {}
+        self.found, self.named = {}, set()
         groups, alone = plan(crate, names, [*edits, *([harmless] if harmless else [])])
         self.left = deque([*groups, *[[(it, None)] for it in alone]])
         self.harmless = harmless
@@ -42,9 +42,11 @@ class Edits:
         if any(edit == self.harmless for edit, _ in batch):
             self.others = 0 if self.harmless in refused else len(refused)
         for edit, function in batch:
+            label = f"must-fail {self.crate.name}/{os.path.basename(edit)}"
             if edit in refused:
-                label = f"must-fail {self.crate.name}/{os.path.basename(edit)}"
                 self.found[edit] = True, f"{label}: refused, as it must be: fn {function}: not proved"
+            elif edit in self.named:
+                self.found[edit] = False, f"{label}: NOT REFUSED for a goal: an answer or an invariant of {function} names what isn't there any more, and that is all"
             else:
                 self.found[edit] = self.alone(edit)
         return bool(self.left)
@@ -61,7 +63,8 @@ class Edits:
             said, left = self.judged(texts, [function for _, function in batch], f"{room}/kept")
         if left or self.rt.rtlib.STALE.search(said) or any(self.rt.unread(it, texts) for it in said.split("\n")):
             return {}
-        own = refused_by_own(said)
+        own, named = refused_by_own(said)
+        self.named.update(edit for edit, function in batch if function in named)
         return {edit: function for edit, function in batch if function in own}
 
     def judged(self, texts, functions, kept):
@@ -172,19 +175,18 @@ def plan(crate, names, edits):
 
 
 def refused_by_own(said):
-    """The functions that the prover refuses for a goal of their own. One of which it only says that its proof names what isn't there
-    any more is shown: another edit may tell more of its contract."""
+    """The functions that the prover refuses for a goal of their own, and those of which it only says that their answers or invariants name
+    what isn't there any more: that says nothing of their contracts."""
     errors = {}
     for line in said.split("\n"):
         found = re.match(r"(?:\./)?proofs/(\S+)/[^/ ]+\.antt:\d+:\d+: error: (.*)", line)
         if found and "was not admitted" not in found[2]:
             errors.setdefault(found[1], []).append(found[2])
-    own = set()
+    own, named = set(), set()
     for name, rest in re.findall(r"^fn (\S+): (?:not proved|no proof)(.*)$", said, re.M):
         told = errors.get("/".join(name.split("::")[1:]), [])
-        is_searched = "`search` did not prove" in rest
-        if is_searched or told:
+        if "`search` did not prove" in rest or not all(re.search(r"has no (field )?`", it) for it in told):
             own.add(name)
-        if told and not is_searched and all(re.search(r"has no (field )?`", it) for it in told):
-            say(f"the edit of {name} is refused for names alone")
-    return own
+        elif told:
+            named.add(name)
+    return own, named
