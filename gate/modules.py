@@ -10,7 +10,7 @@ import shutil
 import threading
 
 # How often they are looked for, in seconds: once all are written, a check takes some seconds for the library itself.
-OFTEN = 0.3
+OFTEN = 1
 
 
 @contextlib.contextmanager

@@ -16,12 +16,20 @@ pub enum ElementType {
 }
 
 /// The type of a field, a parameter or a result (JVMS SE 8 4.3.2).
-#[derive(Drop)]
 pub struct FieldType {
     /// How many dimensions an array has, at most 255 (JVMS SE 8 4.3.2). A type that is no array has 0.
     pub dimensions: u8,
     /// What stands behind the dimensions.
     pub element: ElementType,
+}
+
+impl Drop for FieldType {
+    fn drop(self) {
+        let Self {
+            dimensions: _,
+            element: _,
+        } = self;
+    }
 }
 
 impl Clone for ElementType {

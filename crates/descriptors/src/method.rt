@@ -11,10 +11,18 @@ use std::marker::Model;
 /// The type of a method (JVMS SE 8 4.3.3): at most 255 parameters, and a result or none, which is void.
 ///
 /// Contracts see it as a `Signature`: the list of the parameters and the optional result.
-#[derive(Drop)]
 pub struct MethodType {
     parameters: Sequence<FieldType>,
     result: Option<FieldType>,
+}
+
+impl Drop for MethodType {
+    fn drop(self) {
+        let Self {
+            parameters: _,
+            result: _,
+        } = self;
+    }
 }
 
 impl Model for MethodType {

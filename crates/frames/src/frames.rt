@@ -18,12 +18,22 @@ use std::marker::Model;
 ///
 /// Contracts see the list of them, the innermost first. A frame that was left is kept for the next call, so that no call takes
 /// memory at a depth that was reached before.
-#[derive(Drop)]
 pub struct Frames {
     innermost: Option<Slot>,
     below: Vec<Slot>,
     spare: Vec<Slot>,
     alloc: Global,
+}
+
+impl Drop for Frames {
+    fn drop(self) {
+        let Self {
+            innermost: _,
+            below: _,
+            spare: _,
+            alloc: _,
+        } = self;
+    }
 }
 
 impl Model for Frames {

@@ -30,10 +30,15 @@ use std::alloc::Global;
 use std::marker::Model;
 
 /// What was made while a program runs, in order; after the program's ready objects and quoted texts each has the next reference.
-#[derive(Drop)]
 pub struct Heap {
     made: Vec<HeapObject>,
     taken: usize,
+}
+
+impl Drop for Heap {
+    fn drop(self) {
+        let Self { made: _, taken: _ } = self;
+    }
 }
 
 impl Model for Heap {

@@ -35,11 +35,20 @@ pub enum Entry {
 }
 
 /// Who holds which monitor, and how often. Contracts see that alone; beside it is kept whether a monitor became free.
-#[derive(Drop)]
 pub struct Monitors {
     objects: Vec<Option<Holder>>,
     classes: Vec<Option<Holder>>,
     freed: bool,
+}
+
+impl Drop for Monitors {
+    fn drop(self) {
+        let Self {
+            objects: _,
+            classes: _,
+            freed: _,
+        } = self;
+    }
 }
 
 impl Model for Monitors {

@@ -21,13 +21,24 @@ use std::marker::Model;
 ///
 /// It keeps no events: whoever does adds each to its own list, and each call says of which history of the class this is
 /// what stands. No call's time grows with what came before.
-#[derive(Drop)]
 pub struct ClassState {
     class: ClassId,
     label: Label,
     failure: Option<ClassId>,
     bank: Bank,
     waiting: [bool; 16],
+}
+
+impl Drop for ClassState {
+    fn drop(self) {
+        let Self {
+            class: _,
+            label: _,
+            failure: _,
+            bank: _,
+            waiting: _,
+        } = self;
+    }
 }
 
 impl Model for ClassState {

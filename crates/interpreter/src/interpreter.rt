@@ -6,7 +6,6 @@ use frames::{Frames, Thrown};
 use heap::{Heap, Monitors};
 
 /// What runs the code of one thread: its frames, its heap and monitors, and how many instructions it may still begin.
-#[derive(Drop)]
 pub struct Interpreter {
     /// The frames of the bodies that run, one within the other.
     pub(crate) frames: Frames,
@@ -24,4 +23,19 @@ pub struct Interpreter {
     pub(crate) thrown: Option<Thrown>,
     /// How many instructions may still be begun.
     pub(crate) left: u64,
+}
+
+impl Drop for Interpreter {
+    fn drop(self) {
+        let Self {
+            frames: _,
+            heap: _,
+            monitors: _,
+            taken: _,
+            thread: _,
+            phase: _,
+            thrown: _,
+            left: _,
+        } = self;
+    }
 }

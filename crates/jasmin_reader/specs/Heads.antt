@@ -108,7 +108,7 @@ no_access_by other = Err fault.BadOperand
 unfoldable pub no_access_in : Place → List ℕ → Result (Unit {0}) FaultKind
 no_access_in p w = no_access_by (head_word_at p w)
 
--- the access words, the word in the name's place, and what follows it
+-- the access words, the word in the name's place, which is none of them, and what follows it
 unfoldable pub named_from : Place → HeadWords → List Item → Result (HeadWords × (List ℕ × List Item)) FaultKind
 named_from p words [] = Err fault.BadOperand
 named_from p words (t ∷ rest) = word_of t >>= λ w.

@@ -26,7 +26,6 @@ pub enum Constant {
 }
 
 /// A field.
-#[derive(Drop)]
 pub struct Field {
     /// Its access words.
     pub access: Access,
@@ -36,6 +35,17 @@ pub struct Field {
     pub field_type: FieldType,
     /// Its value, if it has one: an int for `I`, `Z`, `B`, `C` and `S`, a text for `Ljava/lang/String;`.
     pub value: Option<Constant>,
+}
+
+impl Drop for Field {
+    fn drop(self) {
+        let Self {
+            access: _,
+            name: _,
+            field_type: _,
+            value: _,
+        } = self;
+    }
 }
 
 /// A row of a handler table (JVMS SE 8 4.7.3). Rows stand in file order, and an empty range holds nothing.
@@ -66,7 +76,6 @@ pub struct Code {
 }
 
 /// A method.
-#[derive(Drop)]
 pub struct Method {
     /// Its access words.
     pub access: Access,
@@ -76,6 +85,17 @@ pub struct Method {
     pub method_type: MethodType,
     /// Its body, `None` exactly where it is abstract.
     pub code: Option<Code>,
+}
+
+impl Drop for Method {
+    fn drop(self) {
+        let Self {
+            access: _,
+            name: _,
+            method_type: _,
+            code: _,
+        } = self;
+    }
 }
 
 /// The parts of a class or interface. [`crate::ClassText`] holds those that a file can spell.

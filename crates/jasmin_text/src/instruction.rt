@@ -198,7 +198,6 @@ pub enum ReferenceType {
 }
 
 /// A field as an instruction names it (JVMS SE 8 5.4.3.2).
-#[derive(Drop)]
 pub struct FieldReference {
     /// The class or interface that is named.
     pub class: ClassName,
@@ -208,8 +207,17 @@ pub struct FieldReference {
     pub field_type: FieldType,
 }
 
+impl Drop for FieldReference {
+    fn drop(self) {
+        let Self {
+            class: _,
+            name: _,
+            field_type: _,
+        } = self;
+    }
+}
+
 /// A method as an instruction names it (JVMS SE 8 5.4.3.3, 5.4.3.4).
-#[derive(Drop)]
 pub struct MethodReference {
     /// The class or interface that is named.
     pub class: ClassName,
@@ -217,6 +225,16 @@ pub struct MethodReference {
     pub name: MemberName,
     /// The method's type.
     pub method_type: MethodType,
+}
+
+impl Drop for MethodReference {
+    fn drop(self) {
+        let Self {
+            class: _,
+            name: _,
+            method_type: _,
+        } = self;
+    }
 }
 
 /// An instruction whose targets are of type `L`: places, which are numbers of instructions, in a class text,

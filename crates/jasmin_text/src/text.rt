@@ -17,9 +17,14 @@ use std::marker::Model;
 /// of a `lookupswitch` that don't rise, a target behind the end, and what is beyond a limit: 255 direct
 /// superinterfaces, 1,024 members, 16,384 instructions with the labels and keys of switches, 1,024 operands
 /// and locals, words and strings of 65,535 bytes. Contracts see a class text as its parts.
-#[derive(Drop)]
 pub struct ClassText {
     parts: ClassParts,
+}
+
+impl Drop for ClassText {
+    fn drop(self) {
+        let Self { parts: _ } = self;
+    }
 }
 
 impl Model for ClassText {

@@ -24,9 +24,14 @@ use std::marker::Model;
 pub use writer::Writer;
 
 /// A list that owns its memory.
-#[derive(Drop)]
 pub struct Sequence<T> {
     items: Vec<T>,
+}
+
+impl<T: Drop> Drop for Sequence<T> {
+    fn drop(self) {
+        let Self { items: _ } = self;
+    }
 }
 
 impl<T> Model for Sequence<T> {

@@ -18,10 +18,15 @@ pub trait NameKind {
 }
 
 /// A text that is a name of the kind `K`. Contracts see a name as its bytes.
-#[derive(Drop)]
 pub struct Name<K: NameKind> {
     text: Text,
     kind: PhantomData<K>,
+}
+
+impl<K: NameKind> Drop for Name<K> {
+    fn drop(self) {
+        let Self { text: _, kind: _ } = self;
+    }
 }
 
 impl<K: NameKind> Model for Name<K> {

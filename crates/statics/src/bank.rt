@@ -13,10 +13,18 @@ use std::marker::Model;
 /// The static fields of a class in file order, with what each holds.
 ///
 /// A field is found by its place among the class's static fields, from 0.
-#[derive(Drop)]
 pub struct Bank {
     fields: Vec<StaticField>,
     values: Vec<Value>,
+}
+
+impl Drop for Bank {
+    fn drop(self) {
+        let Self {
+            fields: _,
+            values: _,
+        } = self;
+    }
 }
 
 impl Model for Bank {

@@ -17,12 +17,20 @@ use std::collections::BTreeMap;
 use std::marker::Model;
 
 /// Byte strings in the order in which they were noted, each once, found by their bytes.
-#[derive(Drop)]
 pub struct Texts {
     /// The place of each text.
     places: BTreeMap<Vec<u8>, usize>,
     /// The text at each place.
     texts: Vec<Vec<u8>>,
+}
+
+impl Drop for Texts {
+    fn drop(self) {
+        let Self {
+            places: _,
+            texts: _,
+        } = self;
+    }
 }
 
 impl Model for Texts {

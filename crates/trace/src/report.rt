@@ -45,7 +45,6 @@ impl Limits {
 }
 
 /// What a run was.
-#[derive(Drop)]
 pub struct Report {
     /// How each thread ended, by its number.
     pub outcomes: Sequence<ThreadOutcome>,
@@ -55,4 +54,15 @@ pub struct Report {
     pub labels: Sequence<Label>,
     /// What was printed.
     pub output: Text,
+}
+
+impl Drop for Report {
+    fn drop(self) {
+        let Self {
+            outcomes: _,
+            events: _,
+            labels: _,
+            output: _,
+        } = self;
+    }
 }
