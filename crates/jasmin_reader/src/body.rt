@@ -1,11 +1,11 @@
 //! A method that is not at its end.
 
-ghost use Rattle.std.specs.Prelude.{◌≡◌, ℕ, List, Option, is_some, None, OnOk, codes};
+ghost use Rattle.std.specs.Prelude.{◌≡◌, None, OnOk};
 ghost use Rattle.sequence.specs.Gives.{Gives};
 ghost use Rattle.jasmin_reader.specs.Places.{IsFaultOr};
 ghost use Rattle.jasmin_words.specs.Lexing.{views};
-ghost use Rattle.jasmin_text.specs.Grammar.{CatchRow, LabelRow, place_of};
-ghost use Rattle.jasmin_reader.specs.Bodies.{setting_row, with_setting, label_at, listed, end_from, no_directive, labelled_at, plain_by, statement_at, outside_switch, limit_from, label_behind, last_labels_from, row_from, catch_from};
+ghost use Rattle.jasmin_text.specs.Grammar.{LabelRow, place_of};
+ghost use Rattle.jasmin_reader.specs.Bodies.{setting_row, with_setting, label_at, listed, end_from, no_directive, labelled_at, plain_by, statement_at, limit_from, label_behind, last_labels_from, row_from, catch_from};
 ghost use Rattle.jasmin_reader.specs.Listing.{instruction_at, behind_colon as behind_colon_of};
 
 use crate::labels::Labels;
@@ -173,23 +173,6 @@ pub(crate) fn limit_behind(alloc: Global, tokens: &[Token<'_>]) -> Result<Settin
 }
 
 impl Body {
-    /// Whether the lines of a switch are still to come.
-    pub(crate) fn is_in_switch(&self) -> bool
-        ensures { result ≡ is_some self.now.listing.switch }
-    {
-        self.listing.is_in_switch()
-    }
-
-    /// No directive stands in a switch.
-    pub(crate) fn not_in_switch(&self) -> Result<(), LineError>
-        ensures { Gives (λ x. x) result (outside_switch self.now) }
-    {
-        if self.listing.is_in_switch() {
-            return Err(Refusal::Fault(FaultKind::Misplaced));
-        }
-        Ok(())
-    }
-
     /// The method with what a line sets.
     pub(crate) fn set(&mut self, setting: Setting) -> Result<(), AllocError>
         ensures { OnOk result (self.new ≡ with_setting self.old (setting_row setting)) }
@@ -215,14 +198,6 @@ impl Body {
             return Err(Refusal::Fault(FaultKind::RepeatedLabel));
         }
         within(word)
-    }
-
-    /// A label before the next instruction.
-    fn add_label(&mut self, alloc: Global, word: &[u8]) -> Result<(), AllocError>
-        requires { place_of self.old.labels word.now ≡ None }
-        ensures { OnOk result (self.new ≡ with_setting self.old (LabelRow word.now)) }
-    {
-        self.labels.add(alloc, word, self.listing.place())
     }
 
     /// What stands behind a label on its line.
@@ -268,7 +243,8 @@ impl Body {
         match behind_colon(rest) {
             Some(after) => {
                 self.may_label(word)?;
-                self.add_label(alloc, word)?;
+                let place = self.listing.place();
+                self.labels.add(alloc, word, place)?;
                 self.labelled(alloc, after)
             }
             None => self.instruction(alloc, word, rest),

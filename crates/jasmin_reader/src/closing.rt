@@ -4,7 +4,7 @@ ghost use Rattle.std.specs.Prelude.{◌≡◌, Result, List, ℕ};
 ghost use Rattle.jasmin_words.specs.declared.fault.FaultKind.{FaultKind};
 ghost use Rattle.sequence.specs.Gives.{Gives};
 ghost use Rattle.jasmin_text.specs.declared.instruction.Instruction.TheVariants as instructions;
-ghost use Rattle.jasmin_reader.specs.Bodies.{placed_label, placed, each, handler_of, placed_catch, body_of, method_with, closed};
+ghost use Rattle.jasmin_reader.specs.Bodies.{placed_label, placed, each, handler_of, placed_catch, method_with, closed};
 
 use crate::body::{Body, Catch};
 use crate::labels::Labels;
@@ -40,8 +40,6 @@ trait HasLabels: Drop {
 
 /// A label.
 impl HasLabels for Text {
-    ghost use Rattle.jasmin_reader.specs.Bodies.{placed_label};
-
     type Placed = u16;
 
     ghost placed = { placed_label };
@@ -130,8 +128,6 @@ fn lookup_with_places(
 }
 
 impl HasLabels for Instruction<Text> {
-    ghost use Rattle.jasmin_reader.specs.Bodies.{placed};
-
     type Placed = Instruction<u16>;
 
     ghost placed = { placed };
@@ -172,8 +168,6 @@ fn row_places(labels: &Labels, row: &Catch) -> Result<(u16, u16, u16), LineError
 }
 
 impl HasLabels for Catch {
-    ghost use Rattle.jasmin_reader.specs.Bodies.{placed_catch};
-
     type Placed = Handler;
 
     ghost placed = { placed_catch };

@@ -2,8 +2,8 @@
 
 use jasmin_words::FaultKind;
 
-/// What is wrong with a file, and on which line, counted from 1. Where the kind is want of memory the line
-/// is the one at which memory ran out.
+/// What is wrong with a file, and on which line, counted from 1. Where the kind is [`FaultKind::NoMemory`] the line is the one at
+/// which memory ran out, of which no contract says more.
 #[derive(Clone, Copy, PartialEq, Eq)]
 pub struct ReadFault {
     /// What is wrong.

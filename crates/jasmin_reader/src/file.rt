@@ -8,8 +8,7 @@ ghost use Rattle.sequence.specs.Gives.{Gives};
 ghost use Rattle.jasmin_words.specs.Lexing.{words_of};
 ghost use Rattle.jasmin_reader.specs.Reading.{line_at};
 ghost use Rattle.jasmin_text.specs.Lines.{line_len, lines_of};
-ghost use Rattle.jasmin_reader.specs.File.{Reads, class_at, empty_reader, parts_with, finished, fault_at, fault_of, object_name};
-ghost use Rattle.jasmin_words.specs.declared.fault.FaultKind.TheVariants as faults;
+ghost use Rattle.jasmin_reader.specs.File.{Reads, class_at, empty_reader, parts_with, finished, fault_of, object_name};
 
 use crate::fault::ReadFault;
 use crate::head::HeadWords;
@@ -84,12 +83,6 @@ fn or_object(alloc: Global, superclass: Option<ClassName>) -> Result<ClassName, 
     }
 }
 
-fn fault(kind: FaultKind, line: usize) -> ReadFault
-    ensures { result ≡ fault_at kind line }
-{
-    ReadFault { kind, line }
-}
-
 /// The parts of a class with this head and superclass. The others are taken out of the reader.
 fn assembled(
     alloc: Global,
@@ -117,14 +110,23 @@ fn parts(alloc: Global, reader: &mut Reader, last: usize) -> Result<ClassParts, 
     ensures { Reads result (finished reader.old last) }
 {
     let Some(head) = reader.class.take() else {
-        return Err(fault(FaultKind::Misplaced, 1));
+        return Err(ReadFault {
+            kind: FaultKind::Misplaced,
+            line: 1,
+        });
     };
     if reader.body.is_some() {
-        return Err(fault(FaultKind::Unfinished, last));
+        return Err(ReadFault {
+            kind: FaultKind::Unfinished,
+            line: last,
+        });
     }
     match or_object(alloc, reader.superclass.take()) {
         Ok(superclass) => Ok(assembled(alloc, reader, head, superclass)),
-        Err(_) => Err(fault(FaultKind::NoMemory, last)),
+        Err(_) => Err(ReadFault {
+            kind: FaultKind::NoMemory,
+            line: last,
+        }),
     }
 }
 
@@ -158,7 +160,7 @@ fn read_lines(alloc: Global, reader: &mut Reader, bytes: &[u8]) -> Result<ClassT
 /// The class that a Jasmin file spells, or the first fault and its line.
 ///
 /// The bytes may be anything: a file is read from the top, and each line from the left. Of several faults at one
-/// place the lowest kind is told. Want of memory is answered as [`FaultKind::NoMemory`].
+/// place the lowest kind is told. Out of memory is answered as [`FaultKind::NoMemory`].
 pub fn read_class(alloc: Global, bytes: &[u8]) -> Result<ClassText, ReadFault>
     // The class, or the first fault, is that of the reading function.
     ensures exact { Reads result (class_at bytes.now) }

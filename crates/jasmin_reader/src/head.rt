@@ -4,9 +4,9 @@ ghost use Rattle.std.specs.Prelude.{◌≡◌};
 ghost use Rattle.std.specs.Option.{option_map};
 ghost use Rattle.sequence.specs.Gives.{Gives};
 ghost use Rattle.jasmin_words.specs.Lexing.{view, views};
-ghost use Rattle.jasmin_reader.specs.Heads.{start, with_access, fits_place, head_word_at, with_class_word, with_word, is_word, has_word, begins_with_word, behind_signature as behind_signature_of, is_signature, begins_with_part, behind, is_before_name, named_from, no_access_by, no_access_in, class_from};
+ghost use Rattle.jasmin_reader.specs.Heads.{start, with_access, fits_place, head_word_at, with_word, is_word, has_word, begins_with_word, behind_signature as behind_signature_of, is_signature, begins_with_part, is_before_name, named_from, no_access_in, class_from};
 
-use crate::place::{FromWord, LineError, bad_operand, ended, placed_word, within};
+use crate::place::{FromWord, LineError, bad_operand, ended, first, within};
 use crate::table::ClassWord;
 use descriptors::ClassName;
 use jasmin_text::table::{AccessWord, access_of, member_access_of};
@@ -79,22 +79,6 @@ fn together(place: Place, access: Access) -> Result<Access, LineError>
     }
 }
 
-fn add_class_word(place: Place, words: HeadWords, word: ClassWord) -> Result<HeadWords, LineError>
-    ensures { Gives (λ x. x) result (with_class_word place words word) }
-{
-    let HeadWords { kind, access } = words;
-    match word {
-        ClassWord::Interface => Ok(HeadWords {
-            kind: ClassKind::Interface,
-            access,
-        }),
-        ClassWord::Access(more) => {
-            let access = together(place, add_access(access, more)?)?;
-            Ok(HeadWords { kind, access })
-        }
-    }
-}
-
 /// What the word says before a name, if it is an access word there.
 #[tactic(auto, unfolding(crate::specs::Heads::head_word_at))]
 fn head_word(place: Place, word: &[u8]) -> Option<ClassWord>
@@ -113,9 +97,17 @@ fn head_word(place: Place, word: &[u8]) -> Option<ClassWord>
 fn add_word(place: Place, words: HeadWords, word: &[u8]) -> Result<HeadWords, LineError>
     ensures { Gives (λ x. x) result (with_word place words word.now) }
 {
+    let HeadWords { kind, access } = words;
     match head_word(place, word) {
-        Some(known) => add_class_word(place, words, known),
         None => Err(bad_operand()),
+        Some(ClassWord::Interface) => Ok(HeadWords {
+            kind: ClassKind::Interface,
+            access,
+        }),
+        Some(ClassWord::Access(more)) => {
+            let access = together(place, add_access(access, more)?)?;
+            Ok(HeadWords { kind, access })
+        }
     }
 }
 
@@ -180,21 +172,15 @@ fn starts_with_part(tokens: &[Token<'_>]) -> bool
     starts_with_word(tokens) && !is_at_signature(tokens)
 }
 
-fn second_on<'a, 't>(tokens: &'t [Token<'a>]) -> &'t [Token<'a>]
-    ensures { views result.now ≡ behind (views tokens.now) }
-{
-    match tokens {
-        [] => tokens,
-        [_, rest @ ..] => rest,
-    }
-}
-
 /// Whether the name is still to come, behind the word before these.
 fn name_follows(place: Place, tokens: &[Token<'_>]) -> bool
     ensures { result ≡ is_before_name place (views tokens.now) }
 {
     match place {
-        Place::Field => starts_with_part(tokens) && starts_with_part(second_on(tokens)),
+        Place::Field => match tokens {
+            [] => false,
+            [_, second @ ..] => starts_with_part(tokens) && starts_with_part(second),
+        },
         _ => holds_word(tokens),
     }
 }
@@ -230,8 +216,8 @@ pub(crate) fn read_name<'a, 't>(
 {
     let mut words = words;
     let mut rest = tokens;
-    while let [first, after @ ..] = rest {
-        let name = placed_word(first)?;
+    while let [token, after @ ..] = rest {
+        let name = first(FaultKind::BadOperand, token)?;
         if !name_follows(place, after) {
             let named = Named {
                 words,

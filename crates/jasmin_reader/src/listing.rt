@@ -1,10 +1,10 @@
 //! The instructions of a method, as far as they are read.
 
-ghost use Rattle.std.specs.Prelude.{◌≡◌, length, is_some, None, OnOk};
+ghost use Rattle.std.specs.Prelude.{◌≡◌, length, is_some, OnOk};
 ghost use Rattle.sequence.specs.Gives.{Gives};
 ghost use Rattle.jasmin_words.specs.Lexing.{views};
 ghost use Rattle.std.specs.Option.{option_map};
-ghost use Rattle.jasmin_reader.specs.Listing.{empty_listing, with_switch, with_listed, listed_row, has_room, unknown_word as unknown_word_of, instruction_at, behind_colon as behind_colon_of, colon_from, is_default, takes_label as takes_label_of, is_full, key_in, target_at, table_end as table_end_of, table_by, case_at, lookup_end as lookup_end_of, switch_at};
+ghost use Rattle.jasmin_reader.specs.Listing.{empty_listing, with_switch, with_listed, listed_row, has_room, unknown_word as unknown_word_of, instruction_at, behind_colon as behind_colon_of, colon_from, takes_label as takes_label_of, is_full, key_in, target_at, table_end as table_end_of, table_by, case_at, lookup_end as lookup_end_of, switch_at};
 ghost use Rattle.jasmin_text.specs.Grammar.{InstructionRow, TargetRow, CaseRow, DefaultRow};
 
 use crate::operands::{begin, count_up_to};
@@ -79,12 +79,6 @@ fn colon<'a, 't>(tokens: &'t [Token<'a>]) -> Result<&'t [Token<'a>], LineError>
             _ => Err(Refusal::Fault(fault_at(first))),
         },
     }
-}
-
-fn is_default_word(word: &[u8]) -> bool
-    ensures { result ≡ is_default word.now }
-{
-    same(word, b"default")
 }
 
 /// Whether one label more may come in a `tableswitch`.
@@ -235,7 +229,7 @@ impl Listing {
         ensures { Gives listed_row result (table_by self.now.room table.now word.now (views rest.now) (behind_colon_of (views rest.now))) }
     {
         match behind_colon(rest) {
-            Some(after) if is_default_word(word) => table_end(alloc, table, after),
+            Some(after) if same(word, b"default") => table_end(alloc, table, after),
             _ => self.target(alloc, table, word, rest),
         }
     }
@@ -271,7 +265,7 @@ impl Listing {
     {
         match switch {
             Switch::Table(table) => self.table_line(alloc, table, word, rest),
-            Switch::Lookup(_) if is_default_word(word) => lookup_end(alloc, rest),
+            Switch::Lookup(_) if same(word, b"default") => lookup_end(alloc, rest),
             Switch::Lookup(cases) => self.case(alloc, cases, word, rest),
         }
     }

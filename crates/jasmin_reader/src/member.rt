@@ -4,10 +4,12 @@ ghost use Rattle.std.specs.Prelude.{◌≡◌};
 ghost use Rattle.sequence.specs.Gives.{Gives};
 ghost use Rattle.jasmin_words.specs.Lexing.{views};
 ghost use Rattle.jasmin_text.specs.Spellable.{is_int_type, is_string_type};
-ghost use Rattle.jasmin_reader.specs.Heads.{behind_signature as behind_signature_of, skipped_from, constant_for, value_at, value_from, described_from, field_named, field_from, may_initialize, fits_initializer, method_there, method_named, method_from};
+ghost use Rattle.jasmin_reader.specs.Heads.{behind_signature as behind_signature_of, skipped_from, constant_for, value_at, value_from, described_from, field_named, field_from, fits_initializer, method_there, method_named, method_from};
 
 use crate::head::{Place, behind_signature, is_at_signature, no_words, read_name};
-use crate::place::{FromWord, LineError, bad_operand, ended, fault_at, operand, string, within};
+use crate::place::{
+    FromWord, LineError, bad_operand, ended, fault_at, operand, string, wanted, within,
+};
 use crate::values::typed;
 use descriptors::{ElementType, FieldType, MethodType};
 use jasmin_text::{Access, Boxed, ClassKind, Constant, Field};
@@ -151,13 +153,7 @@ pub(crate) fn field(alloc: Global, tokens: &[Token<'_>]) -> Result<Field, LineEr
     field_behind(alloc, named.words.access, name, named.rest)
 }
 
-/// Whether such a method may be the initializer of a class (JVMS SE 8 2.9).
-fn is_fit(access: Access, method_type: &MethodType) -> bool
-    ensures { result ≡ may_initialize access method_type.now }
-{
-    access.is_static && method_type.parameters().is_empty() && method_type.result().is_none()
-}
-
+/// An initializer of a class is static, without parameters and without a result (JVMS SE 8 2.9).
 fn fit_initializer(
     access: Access,
     name: &MemberName,
@@ -165,10 +161,13 @@ fn fit_initializer(
 ) -> Result<(), LineError>
     ensures { Gives (λ x. x) result (fits_initializer access (name.now, method_type.now)) }
 {
-    if same(name.as_slice(), b"<clinit>") && !is_fit(access, method_type) {
-        return Err(Refusal::Fault(FaultKind::BadInitializer));
+    if !same(name.as_slice(), b"<clinit>") {
+        return Ok(());
     }
-    Ok(())
+    let is_fit = access.is_static
+        && method_type.parameters().is_empty()
+        && method_type.result().is_none();
+    wanted(is_fit, FaultKind::BadInitializer)
 }
 
 /// The access words, the name and the type behind `.method`.

@@ -1,11 +1,10 @@
 //! The operands of instructions.
 #![tactic(auto, unfolding(crate::specs::Operands::begun_at))]
 
-ghost use Rattle.std.specs.Prelude.{◌≡◌};
 ghost use Rattle.sequence.specs.Gives.{Gives};
 ghost use Rattle.jasmin_words.specs.Lexing.{views};
 ghost use Rattle.jasmin_text.specs.declared.form.Form.TheVariants as forms;
-ghost use Rattle.jasmin_reader.specs.Operands.{constant_from, count_at, labels_between, high_in, high_at, alone as alone_of, begun_at};
+ghost use Rattle.jasmin_reader.specs.Operands.{constant_from, count_at, labels_between, high_at, alone as alone_of, begun_at};
 ghost use Rattle.jasmin_reader.specs.Listing.{listed_row};
 
 use crate::place::{LineError, bad_operand, ended, last_operand, next, operand, within};
@@ -63,16 +62,8 @@ pub(crate) fn count_up_to(low: i32, high: i32) -> Result<u64, LineError>
     }
 }
 
-/// The last key of a `tableswitch`, by its word.
-#[tactic(auto, unfolding(crate::specs::Operands::high_in))]
-fn last_key(low: i32, word: &[u8]) -> Result<i32, LineError>
-    ensures { Gives (λ n. n) result (high_in low word.now) }
-{
-    let high = integer(word)?;
-    count_up_to(low, high).and(Ok(high))
-}
-
 /// The last key of a `tableswitch`, where it is given.
+#[tactic(auto, unfolding(crate::specs::Operands::high_in))]
 fn high(low: i32, tokens: &[Token<'_>]) -> Result<Option<i32>, LineError>
     ensures { Gives (λ n. n) result (high_at low (views tokens.now)) }
 {
@@ -80,7 +71,8 @@ fn high(low: i32, tokens: &[Token<'_>]) -> Result<Option<i32>, LineError>
         return Ok(None);
     }
     let (word, rest) = next(tokens)?;
-    let high = last_key(low, word)?;
+    let high = integer(word)?;
+    count_up_to(low, high)?;
     within(word)?;
     ended(rest).and(Ok(Some(high)))
 }

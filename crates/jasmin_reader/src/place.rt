@@ -6,7 +6,7 @@ ghost use Rattle.jasmin_words.specs.declared.fault.FaultKind.TheVariants as faul
 ghost use Rattle.sequence.specs.declared.refusal.Refusal.TheVariants as refusals;
 ghost use Rattle.sequence.specs.Gives.{Gives};
 ghost use Rattle.jasmin_words.specs.Lexing.{view, views};
-ghost use Rattle.jasmin_reader.specs.Places.{wanted_or, misplaced, word_of, within_limit, next_word, operand as operand_of, string_from, ended_at, first_word, lowest as lowest_of};
+ghost use Rattle.jasmin_reader.specs.Places.{wanted_or, misplaced, within_limit, next_word, operand as operand_of, string_from, ended_at, first_word};
 ghost use Rattle.jasmin_reader.specs.Operands.{last_operand as last_operand_of};
 
 use jasmin_words::token::MOST_BYTES;
@@ -31,16 +31,6 @@ pub(crate) fn fault_at(token: &Token<'_>) -> FaultKind
     match token {
         Token::BadWord | Token::BadText(FaultKind::BadByte) => FaultKind::BadByte,
         _ => FaultKind::BadOperand,
-    }
-}
-
-/// A word in a place where one is wanted.
-pub(crate) fn placed_word<'a>(token: &Token<'a>) -> Result<&'a [u8], LineError>
-    ensures { Gives (λ x. x.now) result (word_of (view token.now)) }
-{
-    match token {
-        Token::Word(word) => Ok(*word),
-        _ => Err(Refusal::Fault(fault_at(token))),
     }
 }
 
@@ -73,7 +63,7 @@ pub(crate) fn next<'a, 't>(
 {
     match tokens {
         [] => Err(bad_operand()),
-        [first, rest @ ..] => Ok((placed_word(first)?, rest)),
+        [token, rest @ ..] => Ok((first(FaultKind::BadOperand, token)?, rest)),
     }
 }
 
@@ -103,7 +93,7 @@ pub(crate) fn ended(tokens: &[Token<'_>]) -> Result<(), LineError>
     }
 }
 
-/// The word by which a line begins; `other` is the fault where none does.
+/// A word where one is wanted; `other` is the fault where another thing stands, unless that has a fault of its own.
 pub(crate) fn first<'a>(other: FaultKind, token: &Token<'a>) -> Result<&'a [u8], LineError>
     ensures { Gives (λ x. x.now) result (first_word other (view token.now)) }
 {
@@ -113,17 +103,6 @@ pub(crate) fn first<'a>(other: FaultKind, token: &Token<'a>) -> Result<&'a [u8],
             Err(Refusal::Fault(FaultKind::BadByte))
         }
         _ => Err(Refusal::Fault(other)),
-    }
-}
-
-/// The lower of two kinds.
-pub(crate) fn lowest(one: FaultKind, other: FaultKind) -> FaultKind
-    ensures { result ≡ lowest_of one other }
-{
-    if one.number() <= other.number() {
-        one
-    } else {
-        other
     }
 }
 

@@ -1,6 +1,6 @@
 //! A class, line by line. "Own choice" marks this project's own choice (docs/JASMIN.md).
 
-ghost use Rattle.std.specs.Prelude.{◌≡◌, Some, None, Err, OnOk, is_some, true};
+ghost use Rattle.std.specs.Prelude.{◌≡◌, OnOk, is_some, true};
 ghost use Rattle.sequence.specs.Gives.{Gives};
 ghost use Rattle.jasmin_words.specs.Lexing.{views};
 ghost use Rattle.jasmin_text.specs.Forms.{form_at};
@@ -171,8 +171,8 @@ impl Reader {
         ensures gives { Gives (λ x. x) result (open_at self.now.body) }
     {
         match &self.body {
-            None => Err(Refusal::Fault(FaultKind::Misplaced)),
-            Some(body) => body.not_in_switch(),
+            Some(body) if !body.listing.is_in_switch() => Ok(()),
+            _ => Err(Refusal::Fault(FaultKind::Misplaced)),
         }
     }
 
@@ -229,7 +229,7 @@ impl Reader {
         ensures { result ≡ no_word_of self.now.body }
     {
         match &self.body {
-            Some(body) if body.is_in_switch() => FaultKind::BadOperand,
+            Some(body) if body.listing.is_in_switch() => FaultKind::BadOperand,
             _ => FaultKind::UnknownInstruction,
         }
     }

@@ -1,6 +1,6 @@
 //! A switch that is not at its end.
 
-ghost use Rattle.std.specs.Prelude.{◌≡◌, [], OnOk, IfOk};
+ghost use Rattle.std.specs.Prelude.{◌≡◌, [], is_some, IfOk, OnOk};
 ghost use Rattle.jasmin_reader.specs.Listing.{case_of, with_key, end_of};
 
 use jasmin_text::{Boxed, Instruction};
@@ -46,7 +46,7 @@ impl Cases {
 
     /// Whether the key stands there already. Takes no memory.
     pub(crate) fn has(&self, key: i32) -> bool
-        ensures { result ≡ Rattle.std.specs.Prelude.is_some (case_of self.now key) }
+        ensures { result ≡ is_some (case_of self.now key) }
     {
         self.labels.contains_key(&key)
     }
@@ -61,7 +61,7 @@ impl Cases {
 
     /// The keys and their labels, by rising key.
     pub(crate) fn into_sequence(self, alloc: Global) -> Result<Sequence<(i32, Text)>, AllocError>
-        ensures { Rattle.std.specs.Prelude.IfOk result (λ cases. cases ≡ self) }
+        ensures { IfOk result (λ cases. cases ≡ self) }
     {
         let cases: Vec<(i32, Text)> = self.labels.into_iter().collect(alloc)?;
         Ok(Sequence::from_vec(cases))

@@ -5,7 +5,7 @@ ghost use Rattle.sequence.specs.Gives.{Gives};
 ghost use Rattle.jasmin_reader.specs.Places.{IsFaultOr, lowest_with};
 ghost use Rattle.jasmin_reader.specs.Operands.{integer_in, number_in, refusal_of, signature_in, slash_in, name_len, typed_in, begins_with};
 
-use crate::place::{FromWord, LineError, bad_operand, lowest};
+use crate::place::{FromWord, LineError, bad_operand};
 use crate::table::{BaseWord, base_word_of};
 use descriptors::{
     BaseType, ClassName, DescriptorFault, FieldType, MethodType, parse_field, parse_method,
@@ -28,7 +28,7 @@ pub(crate) fn integer(word: &[u8]) -> Result<i32, LineError>
     }
 }
 
-/// A number of a range; above it is the fault that is handed in.
+/// A number from `low` to `high`; `above` is the fault of a greater one, `BadOperand` that of a smaller one.
 #[tactic(auto, unfolding(crate::specs::Operands::number_in))]
 fn number(low: u16, high: u16, above: FaultKind, word: &[u8]) -> Result<u16, LineError>
     ensures within { IfOk result (λ n. n ≤ high) }
@@ -56,8 +56,6 @@ impl<T: FromWord> FromWord for Boxed<T> {
 }
 
 impl FromWord for i32 {
-    ghost use Rattle.jasmin_reader.specs.Operands.{integer_in};
-
     ghost read = { integer_in };
 
     fn from_word(_alloc: Global, word: &[u8]) -> Result<i32, LineError> {
@@ -280,7 +278,8 @@ fn fault_with(alloc: Global, kind: FaultKind, descriptor: &[u8]) -> LineError
 {
     match signature(alloc, descriptor) {
         Ok(_) => Refusal::Fault(kind),
-        Err(Refusal::Fault(other)) => Refusal::Fault(lowest(kind, other)),
+        Err(Refusal::Fault(other)) if other.number() < kind.number() => Refusal::Fault(other),
+        Err(Refusal::Fault(_)) => Refusal::Fault(kind),
         Err(Refusal::Memory) => Refusal::Memory,
     }
 }
