@@ -128,15 +128,13 @@ fn last_labels(alloc: Global, tokens: &[Token<'_>]) -> Result<(Text, Text), Line
     ended(rest).and(Ok((to, handler)))
 }
 
-/// The row of the handler table that catches these, by the labels that follow.
-fn row_behind(
-    alloc: Global,
-    class: Option<ClassName>,
-    tokens: &[Token<'_>],
-) -> Result<Setting, LineError>
-    ensures { Gives setting_row result (row_from class (views tokens.now)) }
+/// The row of the handler table behind `.catch`.
+#[tactic(auto, unfolding(crate::specs::Bodies::catch_from))]
+pub(crate) fn handler_row(alloc: Global, tokens: &[Token<'_>]) -> Result<Setting, LineError>
+    ensures { Gives setting_row result (catch_from (views tokens.now)) }
 {
-    let (from, rest) = label_after(alloc, b"from", tokens)?;
+    let (class, rest) = operand::<Option<ClassName>>(alloc, tokens)?;
+    let (from, rest) = label_after(alloc, b"from", rest)?;
     let (to, handler) = last_labels(alloc, rest)?;
     Ok(Setting::Catch(Catch {
         class,
@@ -144,15 +142,6 @@ fn row_behind(
         to,
         handler,
     }))
-}
-
-/// The row of the handler table behind `.catch`.
-#[tactic(auto, unfolding(crate::specs::Bodies::catch_from))]
-pub(crate) fn handler_row(alloc: Global, tokens: &[Token<'_>]) -> Result<Setting, LineError>
-    ensures { Gives setting_row result (catch_from (views tokens.now)) }
-{
-    let (class, rest) = operand::<Option<ClassName>>(alloc, tokens)?;
-    row_behind(alloc, class, rest)
 }
 
 /// The limit behind `.limit`.

@@ -4,7 +4,7 @@ ghost use Rattle.std.specs.Prelude.{◌≡◌};
 ghost use Rattle.sequence.specs.Gives.{Gives};
 ghost use Rattle.jasmin_words.specs.Lexing.{views};
 ghost use Rattle.jasmin_text.specs.Spellable.{is_int_type, is_string_type};
-ghost use Rattle.jasmin_reader.specs.Heads.{behind_signature as behind_signature_of, skipped_from, constant_for, value_at, value_from, described_from, field_named, field_from, fits_initializer, method_there, method_named, method_from};
+ghost use Rattle.jasmin_reader.specs.Heads.{behind_signature as behind_signature_of, skipped_from, constant_for, value_at, field_named, field_from, method_there, method_named, method_from};
 
 use crate::head::{Place, behind_signature, is_at_signature, no_words, read_name};
 use crate::place::{
@@ -97,33 +97,9 @@ fn value_behind(
     }
 }
 
-/// What stands behind a field's descriptor.
-#[tactic(auto, unfolding(crate::specs::Heads::value_from))]
-fn value(
-    alloc: Global,
-    field_type: &FieldType,
-    tokens: &[Token<'_>],
-) -> Result<Option<Constant>, LineError>
-    ensures { Gives (λ x. x) result (value_from field_type.now (views tokens.now)) }
-{
-    let rest = skip_signature(tokens)?;
-    value_behind(alloc, field_type, rest)
-}
-
-/// The descriptor of a field, which is missing where a signature stands in its place.
-fn descriptor<'a, 't>(
-    alloc: Global,
-    tokens: &'t [Token<'a>],
-) -> Result<(FieldType, &'t [Token<'a>]), LineError>
-    ensures { Gives (λ x. (x.0, views x.1.now)) result (described_from (views tokens.now)) }
-{
-    if is_at_signature(tokens) {
-        return Err(bad_operand());
-    }
-    operand::<FieldType>(alloc, tokens)
-}
-
-/// The field with these access words and this name, whose descriptor and value follow.
+/// The field with these access words and this name, whose descriptor and value follow. A descriptor is missing where a signature stands
+/// in its place.
+#[tactic(auto, unfolding(crate::specs::Heads::described_from, crate::specs::Heads::value_from))]
 fn field_behind(
     alloc: Global,
     access: Access,
@@ -132,8 +108,12 @@ fn field_behind(
 ) -> Result<Field, LineError>
     ensures { Gives (λ x. x) result (field_named access name (views tokens.now)) }
 {
-    let (field_type, rest) = descriptor(alloc, tokens)?;
-    let value = value(alloc, &field_type, rest)?;
+    if is_at_signature(tokens) {
+        return Err(bad_operand());
+    }
+    let (field_type, rest) = operand::<FieldType>(alloc, tokens)?;
+    let rest = skip_signature(rest)?;
+    let value = value_behind(alloc, &field_type, rest)?;
     Ok(Field {
         access,
         name,
@@ -153,23 +133,6 @@ pub(crate) fn field(alloc: Global, tokens: &[Token<'_>]) -> Result<Field, LineEr
     field_behind(alloc, named.words.access, name, named.rest)
 }
 
-/// An initializer of a class is static, without parameters and without a result (JVMS SE 8 2.9).
-fn fit_initializer(
-    access: Access,
-    name: &MemberName,
-    method_type: &MethodType,
-) -> Result<(), LineError>
-    ensures { Gives (λ x. x) result (fits_initializer access (name.now, method_type.now)) }
-{
-    if !same(name.as_slice(), b"<clinit>") {
-        return Ok(());
-    }
-    let is_fit = access.is_static
-        && method_type.parameters().is_empty()
-        && method_type.result().is_none();
-    wanted(is_fit, FaultKind::BadInitializer)
-}
-
 /// The access words, the name and the type behind `.method`.
 #[derive(Drop)]
 pub(crate) struct MethodHead {
@@ -178,12 +141,21 @@ pub(crate) struct MethodHead {
     pub method_type: MethodType,
 }
 
-/// Whether the head may stand so: its word isn't too long, an initializer is one, and nothing follows.
+/// Whether the head may stand so: its word isn't too long, an initializer of a class is static, without parameters and without a result
+/// (JVMS SE 8 2.9), and nothing follows.
+#[tactic(auto, unfolding(crate::specs::Heads::method_there))]
 fn may_stand(head: &MethodHead, word: &[u8], rest: &[Token<'_>]) -> Result<(), LineError>
     ensures { Gives (λ _. (head.now.access, (head.now.name, head.now.method_type))) result (method_there head.now.access (head.now.name, head.now.method_type) word.now (views rest.now)) }
 {
     within(word)?;
-    fit_initializer(head.access, &head.name, &head.method_type).and(ended(rest))
+    if same(head.name.as_slice(), b"<clinit>") {
+        let method_type = &head.method_type;
+        let is_fit = head.access.is_static
+            && method_type.parameters().is_empty()
+            && method_type.result().is_none();
+        wanted(is_fit, FaultKind::BadInitializer)?;
+    }
+    ended(rest)
 }
 
 /// The head of a method with these access words, by the word in the name's place and what follows it.
