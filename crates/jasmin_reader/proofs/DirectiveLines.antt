@@ -19,11 +19,13 @@ use Rattle.jasmin_text.specs.declared.class_text.ClassKind.{ClassKind}
 use Rattle.jasmin_text.specs.declared.class_text.ClassKind.TheVariants as kind
 use Rattle.jasmin_text.specs.declared.form.Directive.{Directive}
 use Rattle.jasmin_text.specs.declared.form.Directive.TheVariants as directive
+use Rattle.jasmin_text.proofs.MemberWords.{checked_ok}
 use Rattle.jasmin_reader.specs.declared.body.Body.{Body}
 use Rattle.jasmin_reader.specs.declared.head.Place.TheVariants as place
 use Rattle.jasmin_reader.specs.declared.reader.Reader.{Reader}
 use Rattle.jasmin_reader.specs.Places.{word_of, next_word, operand, ended_at, first_word}
-use Rattle.jasmin_reader.specs.Operands.{label_in, class_name_in, limit_in, last_operand}
+use Rattle.jasmin_reader.specs.Operands.{label_in, limit_in, last_operand}
+use Rattle.jasmin_text.specs.MemberWords.{class_name_in}
 use Rattle.jasmin_reader.specs.Heads.{class_from, field_from, method_from}
 use Rattle.jasmin_reader.specs.Bodies.{outside_switch, limit_by, limit_from, caught_in, keyword_in, label_behind, last_labels_from, catch_from, end_from, closed}
 use Rattle.jasmin_reader.specs.Reading.{may_stand, said_in, with_row, ended_by, end_line, directive_line}
@@ -32,7 +34,7 @@ use Rattle.jasmin_reader.proofs.GoodRows.{is_headed}
 use Rattle.jasmin_reader.proofs.Heads.{IsHeadedRow, neither, class_taken, interface_taken, field_taken, method_taken}
 use Rattle.jasmin_reader.proofs.OperandForms.{ended_ok, operand_ok, last_ok, checked_last}
 use Rattle.jasmin_reader.proofs.RowSteps.{body_row, body_rows, is_body_row, row_at, rows_at}
-use Rattle.jasmin_reader.proofs.Words.{checked_ok, number_ok, AllRows, find_ok}
+use Rattle.jasmin_reader.proofs.Words.{number_ok, AllRows, find_ok}
 
 -- ---- what a line says
 

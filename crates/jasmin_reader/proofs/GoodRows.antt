@@ -1,18 +1,20 @@
 -- What a row keeps so that what it leads to can be spelled; the words of a line give such rows.
-use Rattle.std.proofs.Common.{◌≡◌, ℕ, ◌+◌, inl, inr, Bool, true, not, ◌&&◌, eqb, nat_le, List, [], ◌∷◌, ◌++◌, length, Option, Some, None, ℤ, refl, ap, sym, subst, ◌∙◌, arith, codes}
+use Rattle.std.proofs.Common.{◌≡◌, ℕ, ◌+◌, inl, inr, Bool, true, not, ◌&&◌, eqb, nat_le, List, [], ◌∷◌, ◌++◌, length, Option, Some, None, Ok, ℤ, refl, ap, sym, subst, ◌∙◌, arith, codes}
 use Rattle.std.specs.Prelude.{int_lt}
 use Rattle.std.specs.List.{list_all}
 use Rattle.std.proofs.lemmas.Bool.{and_from, and_parts, cases_Bool}
 use Rattle.std.specs.Str.{bytes_eq}
 use Rattle.descriptors.specs.Signature.{Signature}
 use Rattle.descriptors.specs.Spelling.{method_spelling}
+use Rattle.descriptors.specs.Reading.{field_of_text}
 use Rattle.descriptors.specs.declared.field.FieldType.{FieldType}
 use Rattle.jasmin_words.specs.Lexing.{Item, Word, fits}
 use Rattle.jasmin_words.specs.Names.{is_member_name}
 use Rattle.jasmin_words.specs.Spelling.{AreWords, AreLexed}
 use Rattle.jasmin_text.specs.Forms.{forms, form_at}
-use Rattle.jasmin_text.specs.Grammar.{IsMemberWord, IsMethodWord, IsDescriptor, IsOperands, number, byte, short, int, text, local, local_at, increment, field, call, interface, counted, new, class, array, IsInstructionLine, simple, table, table_to, lookup, IsValue, none, signature, IsCaught, all, IsRow, AreRowsOf, skipped, of_words, super, implements, method, stack, locals, catch, labelled, operation, case, Row, ClassRow, SuperRow, ImplementsRow, FieldRow, MethodRow, StackRow, LocalsRow, CatchRow, InstructionRow, TableRow, CaseRow, Cases}
-use Rattle.jasmin_text.specs.Spellable.{is_constant, is_int, is_local, is_short, is_string, is_int_type, is_string_type, is_value_of, is_class_word, is_taken, is_field, is_field_type, is_method_type, is_field_reference, is_method_reference, is_reference_type, is_caught}
+use Rattle.jasmin_text.specs.Grammar.{IsMethodWord, IsOperands, number, byte, short, int, text, local, local_at, increment, field, call, interface, counted, new, class, array, IsInstructionLine, simple, table, table_to, lookup, IsValue, none, signature, IsCaught, all, IsRow, AreRowsOf, skipped, of_words, super, implements, method, stack, locals, catch, labelled, operation, case, Row, ClassRow, SuperRow, ImplementsRow, FieldRow, MethodRow, StackRow, LocalsRow, CatchRow, InstructionRow, TableRow, CaseRow, Cases}
+use Rattle.jasmin_text.specs.MemberWords.{member_in, before_type}
+use Rattle.jasmin_text.specs.Spellable.{may_initialize, is_constant, is_int, is_local, is_short, is_string, is_int_type, is_string_type, is_value_of, is_class_word, is_taken, is_field, is_field_type, is_method_type, is_field_reference, is_method_reference, is_reference_type, is_caught}
 use Rattle.jasmin_text.specs.Tables.{find_row, is_member_word}
 use Rattle.jasmin_text.specs.declared.access.Access.{Access}
 use Rattle.jasmin_text.specs.declared.class_text.Constant.{Constant}
@@ -22,11 +24,11 @@ use Rattle.jasmin_text.specs.declared.form.Form.{Form}
 use Rattle.jasmin_text.specs.declared.form.Form.TheVariants as form
 use Rattle.jasmin_text.specs.declared.instruction.Instruction.{Instruction}
 use Rattle.jasmin_text.specs.declared.instruction.Instruction.TheVariants as instruction
-use Rattle.jasmin_text.proofs.Conditions.{five}
-use Rattle.jasmin_reader.specs.Heads.{may_initialize}
+use Rattle.jasmin_text.proofs.Conditions.{five, all_weaker}
+use Rattle.jasmin_text.proofs.MemberWords.{member_found, signature_found}
 use Rattle.jasmin_reader.proofs.AccessWords.{words_behind}
 use Rattle.jasmin_reader.proofs.RowSteps.{is_body_row}
-use Rattle.jasmin_reader.proofs.Words.{all_weaker, integer_int, short_within, descriptor_good, signature_good}
+use Rattle.jasmin_reader.proofs.Words.{integer_int, short_within, descriptor_good, signature_good}
 
 -- ---- instructions, with labels as targets
 
@@ -117,14 +119,20 @@ find_good p w (r ∷ rs) x h e =
     let parts = and_parts (p r.1) (list_all (λ r. p r.1) rs) h in
     elim (cases_Bool (bytes_eq w r.0)) [ inl y ↦ cc (rw y at e, parts.0) | inr y ↦ find_good p w rs x parts.1 (rw y at e) ]
 
-field_word_good : (v w owner name : List ℕ) (type : FieldType) → IsMemberWord v owner name → IsDescriptor w type → fits v ≡ true → fits w ≡ true
+field_word_good : (v w owner name : List ℕ) (type : FieldType) → member_in v ≡ Ok (owner, name) → field_of_text w ≡ Ok type → fits v ≡ true → fits w ≡ true
     → is_field_reference (record { class = owner; name = name; field_type = type }) ≡ true
 unfolding is_field_reference
-field_word_good v w owner name type m d p q = and_also (and_also (and_also m.class_name m.member_name) (ap fits (sym m.parts) ∙ p)) (descriptor_good w type d q)
+field_word_good v w owner name type m d p q =
+    let s = member_found v owner name m in
+    and_also (and_also (and_also s.class_name s.member_name) (ap fits (sym s.parts) ∙ p)) (descriptor_good w type d q)
 
 method_word_good : (w owner name : List ℕ) (type : Signature) → IsMethodWord w owner name type → fits w ≡ true → is_method_reference (record { class = owner; name = name; method_type = type }) ≡ true
 unfolding is_method_reference
-method_word_good w owner name type m p = and_also (and_also (and_also m.class_name m.member_name) (signature_good type m.method_type)) (ap fits (sym m.parts) ∙ p)
+method_word_good w owner name type m p =
+    let s = member_found (before_type w) owner name m.member in
+    let t = signature_found w type m.method_type in
+    let parts : w ≡ owner ++ 47 ∷ name ++ method_spelling type = cc (t.0, s.parts) in
+    and_also (and_also (and_also s.class_name s.member_name) (signature_good type t.1)) (ap fits (sym parts) ∙ p)
 
 -- an instruction that takes one place
 abbrev IsOne : Instruction (List ℕ) → Type 0
@@ -174,7 +182,7 @@ is_headed other = true
 
 -- a row of a method is no head
 pub rows_headed : (rows : List Row) → list_all is_body_row rows ≡ true → list_all is_headed rows ≡ true
-rows_headed rows h = all_weaker is_body_row is_headed one rows h
+rows_headed rows h = all_weaker is_body_row is_headed rows one h
   where
     one : (row : Row) → is_body_row row ≡ true → is_headed row ≡ true
     one (StackRow n) h = refl
@@ -217,9 +225,11 @@ row_good items rows (field {items = words} {a} {name} {type} {value} access rest
     let tests = and_parts (not (is_member_word name)) (is_typed type value) (and_parts _ true h).0 in
     let field_type = descriptor_good w type d short.1.0 in
     and_also (and_also (and_also (and_also (and_also c short.0) tests.0) field_type) (value_good type rest value v behind.1.1 tests.1)) refl
-row_good items rows (method {items = words} {a} {name} {type} access w e spelled is c m) fit lexed h =
+row_good items rows (method {items = words} {a} {name} {type} access w e at is c m) fit lexed h =
+    let s = signature_found w type m in
+    let spelled : w ≡ name ++ method_spelling type = cc (s.0, at) in
     let word = (words_behind access (Word w ∷ []) (subst AreWords e fit.1)).0 in
-    and_also (and_also (and_also (and_also c (signature_good type m)) (ap fits (sym spelled) ∙ word)) (and_parts (fits_head a name type) true h).0) refl
+    and_also (and_also (and_also (and_also c (signature_good type s.1)) (ap fits (sym spelled) ∙ word)) (and_parts (fits_head a name type) true h).0) refl
 row_good items rows (stack n) fit lexed h = and_also n.to refl
 row_good items rows (locals n) fit lexed h = and_also n.to refl
 row_good items rows (catch {w} {class = caught} c i j k) fit lexed h = and_also (caught_good w caught c fit.1.0) refl

@@ -5,9 +5,9 @@ use Rattle.std.proofs.lemmas.List.Folds.{list_all-append}
 use Rattle.std.proofs.lemmas.Slice.Eq.{bytes_eq-Decides}
 use Rattle.std.specs.Str.{bytes_eq}
 use Rattle.descriptors.specs.ClassName.{is_class_name, IsClassName}
-use Rattle.descriptors.specs.Reading.{field_of_text, array_at, element_at}
+use Rattle.descriptors.specs.Reading.{field_of_text, array_at, element_at, method_of_text}
 use Rattle.descriptors.specs.Signature.{Signature}
-use Rattle.descriptors.specs.Spelling.{method_spelling, IsMethodType}
+use Rattle.descriptors.specs.Spelling.{method_spelling}
 use Rattle.descriptors.specs.declared.field.ElementType.TheVariants as element
 use Rattle.descriptors.specs.declared.field.FieldType.{FieldType}
 use Rattle.jasmin_words.specs.declared.fault.FaultKind.TheVariants as fault
@@ -17,24 +17,26 @@ use Rattle.jasmin_words.specs.Lexing.{Item, Word, Equals, Text, fits}
 use Rattle.jasmin_words.specs.Spelling.{AreWords}
 use Rattle.jasmin_words.specs.Names.{is_member_name, IsMemberName}
 use Rattle.jasmin_text.specs.Tables.{access_of, member_access_of, is_member_word, is_access_word}
-use Rattle.jasmin_text.specs.Spellable.{is_int_type, is_string_type, is_taken}
-use Rattle.jasmin_text.specs.Grammar.{no_access, IsAccess, IsMemberAccess, IsClassAccess, IsDescriptor, IsValue, begins_with_word as grammar_word, none, int, text, signature, class, interface, field, method, AreRowsOf, of_words, Row, ClassRow, FieldRow, MethodRow}
+use Rattle.jasmin_text.specs.Spellable.{is_int_type, is_string_type, may_initialize, is_taken}
+use Rattle.jasmin_text.specs.Grammar.{no_access, IsAccess, IsMemberAccess, IsClassAccess, IsValue, begins_with_word as grammar_word, none, int, text, signature, class, interface, field, method, AreRowsOf, of_words, Row, ClassRow, FieldRow, MethodRow}
+use Rattle.jasmin_text.specs.MemberWords.{before_type, type_part, class_name_in, member_name_in}
 use Rattle.jasmin_text.specs.declared.access.Access.{Access}
 use Rattle.jasmin_text.specs.declared.class_text.ClassKind.{ClassKind}
 use Rattle.jasmin_text.specs.declared.class_text.ClassKind.TheVariants as kind
 use Rattle.jasmin_text.specs.declared.class_text.Constant.{Constant}
 use Rattle.jasmin_text.specs.declared.class_text.Constant.TheVariants as constant
 use Rattle.jasmin_text.specs.declared.class_text.Field.{Field}
+use Rattle.jasmin_text.proofs.MemberWords.{checked_ok, lacks, member_lacks, signature_found}
 use Rattle.jasmin_reader.specs.declared.head.Place.{Place}
 use Rattle.jasmin_reader.specs.declared.head.Place.TheVariants as place
 use Rattle.jasmin_reader.specs.declared.head.HeadWords.{HeadWords}
 use Rattle.jasmin_reader.specs.Places.{within_limit, operand, string_from, ended_at}
-use Rattle.jasmin_reader.specs.Operands.{class_name_in, member_name_in, integer_in, type_in, typed_in}
-use Rattle.jasmin_reader.specs.Heads.{start, named_from, begins_with_part, is_before_name, kind_at, class_from, constant_for, value_at, value_from, is_signature, described_from, field_from, may_initialize, fits_initializer, method_from}
+use Rattle.jasmin_reader.specs.Operands.{integer_in, type_in, typed_in}
+use Rattle.jasmin_reader.specs.Heads.{start, named_from, begins_with_part, is_before_name, kind_at, class_from, constant_for, value_at, value_from, is_signature, described_from, field_from, fits_initializer, method_from}
 use Rattle.jasmin_reader.proofs.AccessWords.{within_ok, words_behind, knows, is_access_at, Words, class_access, class_words, simple_access, simple_words, named_ok, named_read, word_behind}
 use Rattle.jasmin_reader.proofs.GoodRows.{fits_head, is_typed, is_headed}
 use Rattle.jasmin_reader.proofs.OperandForms.{ended_ok, operand_ok}
-use Rattle.jasmin_reader.proofs.Words.{access_lacks, lacks, type_read, typed_read, member_lacks, checked_ok, integer_ok, type_ok, typed_ok}
+use Rattle.jasmin_reader.proofs.Words.{access_lacks, type_read, typed_read, integer_ok, type_ok, typed_ok}
 
 -- a row of the grammar, with what its words don't say by themselves
 abbrev pub IsHeadedRow : List Item → Row → Type 0
@@ -179,7 +181,7 @@ field_taken items f e =
     given (λ g. IsHeadedRow (Word (codes ".field") ∷ items) (FieldRow g)) four.2
     (of_words (refl, fit) (field (map Word n.0) three.0.1 t.word parts are c.0 (type_ok t.word three.0.0 t.value) v.0), and_from _ _ (not_from_false _ free) v.1)
 
-descriptor_no_signature : (w : List ℕ) (t : FieldType) → IsDescriptor w t → bytes_eq w (codes "signature") ≡ false
+descriptor_no_signature : (w : List ℕ) (t : FieldType) → field_of_text w ≡ Ok t → bytes_eq w (codes "signature") ≡ false
 unfolding type_in field_of_text array_at element_at
 descriptor_no_signature w t d = false_from_ne_true _ (λ e.
     let read : type_in (codes "signature") ≡ Ok t = ap type_in (sym ((bytes_eq-Decides w (codes "signature")).0 e)) ∙ type_read w t d in
@@ -197,7 +199,7 @@ field_before name w rest last (u ∷ v ∷ []) = rw (part u v (Word name ∷ Wor
 field_before name w rest last (u ∷ v ∷ x ∷ ws) = rw (part u v (map Word (x ∷ ws) ++ Word name ∷ Word w ∷ rest)) (part v x (map Word ws ++ Word name ∷ Word w ∷ rest))
 
 pub field_head : (items before rest : List Item) (a : Access) (name w : List ℕ) (type : FieldType) (value : Option Constant) → items ≡ before ++ Word name ∷ Word w ∷ rest
-    → IsMemberAccess before a → IsMemberName name → IsDescriptor w type → IsValue rest value → not (is_member_word name) ≡ true → is_typed type value ≡ true → AreWords items
+    → IsMemberAccess before a → IsMemberName name → field_of_text w ≡ Ok type → IsValue rest value → not (is_member_word name) ≡ true → is_typed type value ≡ true → AreWords items
     → field_from items ≡ Ok (record { access = a; name = name; field_type = type; value = value })
 unfolding field_from
 field_head items before rest a name w type value e is h d v free ok good =
@@ -223,23 +225,23 @@ method_taken items r e =
     let three = bind_ok (fits_initializer x.0.access one.0) _ r two.2 in
     let four = bind_ok (ended_at x.1.1) _ r three.2 in
     let t = typed_ok member_name_in x.1.0 one.0 one.1 in
-    let c = checked_ok is_member_name t.front one.0.0 t.value in
+    let c = checked_ok is_member_name (before_type x.1.0) one.0.0 t.0 in
     let parts : items ≡ map Word n.0 ++ Word x.1.0 ∷ [] = cc (n.2, ended_ok x.1.1 four.0 four.1) in
     let fit = n.3 (within_ok x.1.0 two.0 two.1, rw (ended_ok x.1.1 four.0 four.1) tt) in
-    let spelled : x.1.0 ≡ one.0.0 ++ method_spelling one.0.1 = cc (t.parts, c.1) in
     let starts = not_refused (bytes_eq one.0.0 (codes "<clinit>") && not (may_initialize x.0.access one.0.1)) fault.BadInitializer (Ok tt) three.0 three.1 in
     let are = simple_access place.Method member_access_of knows.2 n.1 in
     let head : fits_head x.0.access one.0.0 one.0.1 ≡ true = and_from _ _ (are.2 refl) (not_from_false _ starts.0) in
-    given (λ m. IsHeadedRow (Word (codes ".method") ∷ items) (MethodRow m.0 m.1.0 m.1.1)) four.2 (of_words (refl, fit) (method (map Word n.0) x.1.0 parts spelled are.0 c.0 t.type), head)
+    given (λ m. IsHeadedRow (Word (codes ".method") ∷ items) (MethodRow m.0 m.1.0 m.1.1)) four.2 (of_words (refl, fit) (method (map Word n.0) x.1.0 parts c.1 are.0 c.0 t.1), head)
 
-pub method_head : (items before : List Item) (w : List ℕ) (a : Access) (name : List ℕ) (type : Signature) → items ≡ before ++ Word w ∷ [] → w ≡ name ++ method_spelling type
-    → IsMemberAccess before a → IsMemberName name → IsMethodType type → fits_head a name type ≡ true → AreWords items → method_from items ≡ Ok (a, (name, type))
+pub method_head : (items before : List Item) (w : List ℕ) (a : Access) (name : List ℕ) (type : Signature) → items ≡ before ++ Word w ∷ [] → before_type w ≡ name
+    → IsMemberAccess before a → IsMemberName name → method_of_text (type_part w) ≡ Ok type → fits_head a name type ≡ true → AreWords items → method_from items ≡ Ok (a, (name, type))
 unfolding method_from
-method_head items before w a name type e spelled is h m fits_all good =
+method_head items before w a name type e at is h m fits_all good =
     let p = and_parts (not (a.is_abstract && a.is_static)) (not (bytes_eq name (codes "<clinit>") && not (may_initialize a type))) fits_all in
     let bare = member_lacks 40 refl refl refl name h in
-    let name_read : member_name_in name ≡ Ok name = rw h refl in
-    let typed : typed_in member_name_in w ≡ Ok (name, type) = rw spelled (typed_read member_name_in name type name bare name_read m) in
+    let name_read : member_name_in (before_type w) ≡ Ok name = rw (at, h) refl in
+    let typed = typed_read member_name_in w name type name_read m in
+    let spelled : w ≡ name ++ method_spelling type = cc ((signature_found w type m).0, at) in
     let parenthesis : lacks 40 w ≡ false = ap (lacks 40) spelled ∙ list_all-append _ name (method_spelling type) ∙ rw bare refl in
     let no_word : is_member_word w ≡ false = rw (access_lacks w parenthesis) refl in
     let (ws, parts, (words, none_wrong)) = simple_words place.Method member_access_of knows.2 kind.Class is p.0 in

@@ -9,20 +9,18 @@ use Rattle.sequence.proofs.Results.{bind_ok, done, given, some_ok}
 use Rattle.jasmin_words.specs.declared.fault.FaultKind.{FaultKind}
 use Rattle.jasmin_words.specs.declared.fault.FaultKind.TheVariants as fault
 use Rattle.jasmin_text.specs.Grammar.{Row, TargetRow, DefaultRow, case_row, Cases, Catch, with_case, with_instruction as and_instruction, AreSorted, IsBody, stack, locals, catch, label, operation, Body as Added, Each, none, more, place_of, IsPlaceOf, IsPlacedCase, IsPlaced, plain, pushes, local, increment, jump, table, lookup, field, call, interface, new, new_array, type_use, IsPlacedRow, IsCodeOf, IsNoBody, IsCodeOrNone}
-use Rattle.jasmin_text.specs.Spellable.{is_int, is_caught, is_instruction, instruction_size, have_room, is_handler, is_code, is_optional_code, is_initializer, is_method}
+use Rattle.jasmin_text.specs.Spellable.{is_int, is_caught, is_instruction, instruction_size, have_room, is_handler, is_code, is_optional_code, may_initialize, is_method}
 use Rattle.jasmin_text.specs.declared.class_text.Code.{Code}
 use Rattle.jasmin_text.specs.declared.class_text.Handler.{Handler}
 use Rattle.jasmin_text.specs.declared.class_text.Method.{Method}
 use Rattle.jasmin_text.specs.declared.instruction.Instruction.{Instruction}
 use Rattle.jasmin_text.specs.declared.instruction.Instruction.TheVariants as instruction
-use Rattle.jasmin_text.proofs.Conditions.{three, four, six}
+use Rattle.jasmin_text.proofs.Conditions.{three, four, six, all_weaker}
 use Rattle.jasmin_reader.specs.declared.body.Body.{Body}
 use Rattle.jasmin_reader.specs.declared.body.Catch.{Catch as ReadCatch}
-use Rattle.jasmin_reader.specs.Heads.{may_initialize}
 use Rattle.jasmin_reader.specs.Bodies.{each, placed_label, placed_labels, placed_case, placed_cases, placed, all_placed, placed_catch, placed_catches, has_nothing, body_of, method_with, closed}
 use Rattle.jasmin_reader.proofs.BodyRows.{added, caught, read_catch, holding}
 use Rattle.jasmin_reader.proofs.GoodRows.{keys_rise, are_keys, is_listed, listed_size, sizes, fits_head, is_head, is_good_row, find_good}
-use Rattle.jasmin_reader.proofs.Words.{all_weaker}
 use Rattle.jasmin_reader.proofs.SortedCases.{with_case_all, with_case_rises, same_rise}
 
 -- ---- lists
@@ -160,8 +158,8 @@ pub method_facts : (m : Method) → is_method m ≡ true → (fits_head m.access
 unfolding is_method
 method_facts m h =
     let begins = bytes_eq m.name (codes "<clinit>") in
-    let p = four _ (not (m.access.is_abstract && m.access.is_static)) (cond begins (is_initializer m) true) (is_optional_code m.access.is_abstract m.code) h in
-    (rw (p.1, starts begins (is_initializer m), p.2) refl, p.3)
+    let p = four _ (not (m.access.is_abstract && m.access.is_static)) (cond begins (may_initialize m.access m.method_type) true) (is_optional_code m.access.is_abstract m.code) h in
+    (rw (p.1, starts begins (may_initialize m.access m.method_type), p.2) refl, p.3)
 
 pub placed_size : (labels : List (List ℕ × ℕ)) (i : Instruction (List ℕ)) (j : Instruction ℕ) → IsPlaced labels i j → instruction_size j ≡ listed_size i
 placed_size labels i j (table {ls} {places} is e) = ap (λ (n : ℕ). n + 1) (each_length (IsPlaceOf labels) ls places is)
@@ -220,7 +218,7 @@ abbrev Within : ℕ → List (List ℕ × ℕ) → Type 0
 Within count labels = list_all (λ (l : List ℕ × ℕ). nat_le l.1 count) labels ≡ true
 
 labels_stay : (m n : ℕ) (labels : List (List ℕ × ℕ)) → m ≤ n → Within m labels → Within n labels
-labels_stay m n labels less h = all_weaker _ _ (λ l within. let place = leb-true l.1 m within in le-leb l.1 n (omega arith)) labels h
+labels_stay m n labels less h = all_weaker _ _ labels (λ l within. let place = leb-true l.1 m within in le-leb l.1 n (omega arith)) h
 
 -- what stands in a method can be spelled
 pub record IsGoodBody (g : Added) : Type 0 where

@@ -4,6 +4,7 @@ use Rattle.std.proofs.lemmas.Bool.{cases_Bool, not_from_false, and_parts, not-tr
 use Rattle.std.proofs.lemmas.Int.{ints}
 use Rattle.descriptors.specs.ClassName.{is_class_name}
 use Rattle.descriptors.specs.Spelling.{field_spelling, element_spelling}
+use Rattle.descriptors.proofs.FieldLaws.{field_found}
 use Rattle.descriptors.specs.declared.base.BaseType.{BaseType}
 use Rattle.descriptors.specs.declared.base.BaseType.TheVariants as base
 use Rattle.descriptors.specs.declared.field.ElementType.{ElementType}
@@ -20,6 +21,7 @@ use Rattle.jasmin_words.specs.Spelling.{AreWords}
 use Rattle.jasmin_text.specs.Forms.{form_at}
 use Rattle.jasmin_text.specs.BaseWords.{base_word}
 use Rattle.jasmin_text.specs.Grammar.{IsMethodWord, IsOperands, plain, number, byte, short, int, text, local, local_at, increment, jump, field, call, interface, counted, new, new_array, class as class_use, array, IsInstructionLine, simple, table, table_to, lookup, Row, InstructionRow, TableRow, byte_low, short_low}
+use Rattle.jasmin_text.specs.MemberWords.{checked, class_name_in, member_in}
 use Rattle.jasmin_text.specs.declared.class_text.Constant.{Constant}
 use Rattle.jasmin_text.specs.declared.class_text.Constant.TheVariants as constant
 use Rattle.jasmin_text.specs.declared.form.Form.{Form}
@@ -29,15 +31,16 @@ use Rattle.jasmin_text.specs.declared.instruction.Instruction.TheVariants as ins
 use Rattle.jasmin_text.specs.declared.instruction.ReferenceType.{ReferenceType}
 use Rattle.jasmin_text.specs.declared.instruction.ReferenceType.TheVariants as reference
 use Rattle.jasmin_text.specs.declared.instruction.MethodReference.{MethodReference}
+use Rattle.jasmin_text.proofs.MemberWords.{checked_ok, lacks, class_lacks}
 use Rattle.jasmin_reader.specs.declared.table.BaseWord.{BaseWord}
 use Rattle.jasmin_reader.specs.declared.table.BaseWord.TheVariants as word
 use Rattle.jasmin_reader.specs.Places.{within_limit, operand, ended_at}
-use Rattle.jasmin_reader.specs.Operands.{checked, label_in, class_name_in, integer_in, int_in, local_in, count_in, type_in, member_in, method_in, base_of, base_in, begins_with, reference_in, last_operand, count_at, labels_between, high_in, high_at, raw, begun_at}
+use Rattle.jasmin_reader.specs.Operands.{label_in, integer_in, int_in, local_in, count_in, type_in, method_in, base_of, base_in, begins_with, reference_in, last_operand, count_at, labels_between, high_in, high_at, raw, begun_at}
 use Rattle.jasmin_reader.specs.Table.{base_at, base_words}
 use Rattle.jasmin_reader.specs.Listing.{has_room}
 use Rattle.jasmin_reader.proofs.AccessWords.{within_ok}
 use Rattle.jasmin_reader.proofs.RowSteps.{may_list}
-use Rattle.jasmin_reader.proofs.Words.{checked_ok, integer_ok, int_ok, int_read, number_ok, number_read, type_ok, type_read, lacks, class_lacks, member_ok, member_read, method_ok, method_read, find_ok}
+use Rattle.jasmin_reader.proofs.Words.{integer_ok, int_ok, int_read, number_ok, number_read, type_ok, type_read, method_ok, method_read, find_ok}
 
 -- ---- places
 
@@ -111,7 +114,7 @@ reference_ok t w r e = elim (cases_Bool (begins_with 91 w)) [
   | inl y ↦
       let one = bind_ok (type_in w) _ r (rw y at e) in
       let is = type_ok w one.0 one.1 in
-      given Says one.2 (array is (not-true (eqb one.0.dimensions 0) (cc (bracket one.0, is.spelling, y))))
+      given Says one.2 (array is (not-true (eqb one.0.dimensions 0) (cc (bracket one.0, (field_found w one.0 is).0, y))))
   | inr y ↦
       let one = bind_ok (class_name_in w) _ r (rw y at e) in
       let is = checked_ok is_class_name w one.0 one.1 in
@@ -221,7 +224,7 @@ begun_ok form.Increment items b e =
 begun_ok (form.Jump j) items b e = last _ items label_in _ b (λ w x h. let is = checked_ok is_label w x h in rw is.1 (jump is.0)) e
 begun_ok form.TableSwitch items b e = table_ok items b e
 begun_ok form.LookupSwitch items b e = nothing items _ b (record { words = tt; line = λ w at. lookup at; may = λ room h. h }) e
-begun_ok (form.Field f) items b e = two _ items member_in type_in _ b (λ v m h w t k. field (member_ok v m h) (type_ok w t k)) e
+begun_ok (form.Field f) items b e = two _ items member_in type_in _ b (λ v m h w t k. field h (type_ok w t k)) e
 begun_ok (form.Call c) items b e = last _ items method_in _ b (λ w m h. call (method_ok w m h)) e
 begun_ok form.CallInterface items b e =
     let one = bind_ok (operand method_in items) _ b e in
@@ -250,12 +253,12 @@ operands_read f items i (int h) words = rw (h, words.0) refl
 operands_read f items i (local {w} {n} h) words = rw (number_read 0 65535 fault.BadOperand w n h, words.0) refl
 operands_read f items i (increment {v} {w} {n} {by} h k) words = rw (number_read 0 65535 fault.BadOperand v n h, words.0, int_read _ _ w by k, words.1.0) refl
 operands_read f items i (jump h) words = rw (h, words.0) refl
-operands_read f items i (field {v} {w} {class} {name} {type} m d) words = rw (member_read v class name m, words.0, type_read w type d, words.1.0) refl
+operands_read f items i (field {w} {type} m d) words = rw (m, words.0, type_read w type d, words.1.0) refl
 operands_read f items i (call {w} {class} {name} {type} m) words = rw (method_read w class name type m, words.0) refl
 operands_read f items i (interface {w} {class} {name} {type} m) words = rw (method_read w class name type m, words.0) refl
 operands_read f items i (counted {w} {v} {class} {name} {type} {n} m h) words = rw (method_read w class name type m, words.0, number_read 1 255 fault.BadOperand v n h, words.1.0) refl
 operands_read f items i (new h) words = rw (h, words.0) refl
 operands_read f items i (new_array {b}) words = rw (base_read b, words.0) refl
 operands_read f items i (class_use {name} h) words = rw (no_bracket name (class_lacks 91 refl refl name h), h, words.0) refl
-operands_read f items i (array {w} {type} d h) words = rw (ap (begins_with 91) d.spelling ∙ bracket type ∙ not_from_false _ h, type_read w type d, words.0) refl
+operands_read f items i (array {w} {type} d h) words = rw (ap (begins_with 91) (field_found w type d).0 ∙ bracket type ∙ not_from_false _ h, type_read w type d, words.0) refl
 operands_read f items i is words = refl

@@ -18,6 +18,7 @@ use Rattle.jasmin_text.specs.declared.form.Directive.{Directive}
 use Rattle.jasmin_text.specs.declared.form.Form.{Form}
 use Rattle.jasmin_text.specs.declared.form.Form.TheVariants as form
 use Rattle.jasmin_text.specs.declared.instruction.Instruction.{Instruction}
+use Rattle.jasmin_text.proofs.MemberWords.{checked_ok}
 use Rattle.jasmin_reader.specs.declared.body.Body.{Body}
 use Rattle.jasmin_reader.specs.declared.reader.Reader.{Reader}
 use Rattle.jasmin_reader.specs.declared.switch.Switch.{Switch}
@@ -33,7 +34,7 @@ use Rattle.jasmin_reader.proofs.BodyRows.{outside_ok}
 use Rattle.jasmin_reader.proofs.DirectiveLines.{BodySays, one_said, single_row}
 use Rattle.jasmin_reader.proofs.OperandForms.{begun_ok, operands_read, ended_ok, checked_last}
 use Rattle.jasmin_reader.proofs.RowSteps.{may_list, may_set, may_set_in, body_row, is_body_row, row_at}
-use Rattle.jasmin_reader.proofs.Words.{checked_ok, integer_ok, no_directive_at, form_has_no_dot, label_has_no_dot, integer_has_no_dot, integer_not_default}
+use Rattle.jasmin_reader.proofs.Words.{integer_ok, no_directive_at, form_has_no_dot, label_has_no_dot, integer_has_no_dot, integer_not_default}
 
 -- ---- lines that are taken
 

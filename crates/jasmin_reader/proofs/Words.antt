@@ -1,43 +1,36 @@
 -- What single words stand for, both ways: integers, descriptors, members, words of tables.
-use Rattle.std.proofs.Common.{◌≡◌, ℕ, zero, suc, ◌+◌, ◌^◌, ◌<◌, ◌≤◌, inl, inr, ℤ, pos, negsuc, neg_ℤ, int_le, Bool, true, false, not, cond, eqb, nat_le, List, [], ◌∷◌, ◌++◌, length, take, drop, Option, Some, None, IfSome, Result, Ok, Err, refl, sym, ap, ◌∙◌, arith, codes, add-one, one-add, eqb-true, lt-ltb, leb-true, le-leb, take-append-drop, take_at, drop_at}
+use Rattle.std.proofs.Common.{◌≡◌, ℕ, zero, suc, ◌^◌, ◌<◌, ◌≤◌, inl, inr, ℤ, pos, negsuc, neg_ℤ, int_le, Bool, true, false, not, eqb, nat_le, List, [], ◌∷◌, length, Option, Some, None, IfSome, Result, Ok, Err, refl, sym, ap, ◌∙◌, arith, codes, eqb-true, lt-ltb, leb-true, le-leb}
 use Rattle.std.specs.List.{list_all, AllByRecursion}
 use Rattle.std.specs.Str.Parse.{digits_value}
-use Rattle.std.proofs.lemmas.Bool.{and_from, cases_Bool, not_from_false, not-false, false_from_ne_true, and_parts, not-true, cond-false}
+use Rattle.std.proofs.lemmas.Bool.{and_from, cases_Bool, not-false, false_from_ne_true, and_parts, not-true, cond-false}
 use Rattle.std.proofs.lemmas.Int.Digits.{digits_value-lt}
-use Rattle.std.proofs.lemmas.Option.{cond_some}
-use Rattle.std.proofs.Math.Seq.{drop-append-add}
 use Rattle.std.proofs.Math.Nat.{pow-le-pow_right}
-use Rattle.std.proofs.lemmas.List.Folds.{list_all-append}
 use Rattle.std.proofs.lemmas.Slice.Eq.{bytes_eq-Decides}
 use Rattle.std.specs.Str.{bytes_eq}
-use Rattle.descriptors.specs.ClassName.{is_name_byte, segments, is_class_name, IsClassName}
 use Rattle.descriptors.specs.Signature.{Signature}
-use Rattle.descriptors.specs.Spelling.{method_spelling, IsElementType, IsFieldType, IsMethodType}
+use Rattle.descriptors.specs.Spelling.{IsElementType, IsFieldType, IsMethodType}
 use Rattle.descriptors.specs.Reading.{field_of_text, method_of_text}
 use Rattle.descriptors.specs.declared.field.ElementType.{ElementType}
 use Rattle.descriptors.specs.declared.field.ElementType.TheVariants as element
 use Rattle.descriptors.specs.declared.field.FieldType.{FieldType}
-use Rattle.descriptors.proofs.FieldLaws.{field_found, field_only}
-use Rattle.descriptors.proofs.MethodLaws.{method_found, method_only}
+use Rattle.descriptors.proofs.FieldLaws.{field_found}
 use Rattle.jasmin_words.specs.declared.fault.FaultKind.{FaultKind}
 use Rattle.jasmin_words.specs.declared.fault.FaultKind.TheVariants as fault
 use Rattle.jasmin_words.specs.Integers.{magnitude_of, of_bits, integer_of, IsInteger, decimal, minus, bits}
 use Rattle.jasmin_words.specs.Lexing.{fits}
-use Rattle.jasmin_words.specs.Names.{is_name_byte as is_member_byte, is_member_name, IsMemberName, is_label}
+use Rattle.jasmin_words.specs.Names.{is_label}
 use Rattle.jasmin_words.proofs.Numbers.{integer_is}
 use Rattle.sequence.proofs.Results.{in_at, bind_ok, some_ok, given, test_passed, not_refused}
 use Rattle.jasmin_text.specs.Forms.{form_at, forms, directive_at, directives}
-use Rattle.jasmin_text.specs.Grammar.{IsIntIn, IsNumberIn, IsDescriptor, IsMemberWord, IsMethodWord, short_low}
+use Rattle.jasmin_text.specs.Grammar.{IsIntIn, IsNumberIn, IsMethodWord, short_low}
+use Rattle.jasmin_text.specs.MemberWords.{member_in, before_type, type_part}
 use Rattle.jasmin_text.specs.Spellable.{is_int, is_short, is_type, is_element_type, is_result_type, is_field_type, is_method_type}
 use Rattle.jasmin_text.specs.Tables.{find_row, access_of, access_words, member_access_of}
 use Rattle.jasmin_text.specs.declared.form.Form.{Form}
 use Rattle.jasmin_text.specs.declared.instruction.MethodReference.{MethodReference}
-use Rattle.jasmin_text.proofs.WordBytes.{in_segments, split_byte, one_of}
+use Rattle.jasmin_text.proofs.MemberWords.{lacks}
 use Rattle.jasmin_reader.specs.Places.{both}
-use Rattle.jasmin_reader.specs.Operands.{checked, class_name_in, member_name_in, integer_in, int_in, number_between, number_in, by_descriptor, type_in, signature_in, slash_in, member_at, member_in, name_len, typed_in, method_in, begins_with}
-
-pub checked_ok : (test : List ℕ → Bool) (w x : List ℕ) → checked (test w) w ≡ Ok x → (test x ≡ true) × (w ≡ x)
-checked_ok test w x e = let p = test_passed (test w) w fault.BadOperand x e in (rw (← p.1) p.0, p.1)
+use Rattle.jasmin_reader.specs.Operands.{integer_in, int_in, number_between, number_in, by_descriptor, type_in, signature_in, typed_in, method_in, begins_with}
 
 -- ---- integers
 
@@ -103,13 +96,13 @@ described : {A : Type 0} (r : Result A _) (x : A) → by_descriptor r ≡ Ok x �
 described (Ok y) x e = cc
 described (Err f) x e = absurd cc
 
-pub type_ok : (w : List ℕ) (t : FieldType) → type_in w ≡ Ok t → IsDescriptor w t
+pub type_ok : (w : List ℕ) (t : FieldType) → type_in w ≡ Ok t → field_of_text w ≡ Ok t
 unfolding type_in
-type_ok w t e = let found = field_found w t (described (field_of_text w) t e) in record { spelling = found.0; field_type = found.1 }
+type_ok w t e = described (field_of_text w) t e
 
-pub type_read : (w : List ℕ) (t : FieldType) → IsDescriptor w t → type_in w ≡ Ok t
+pub type_read : (w : List ℕ) (t : FieldType) → field_of_text w ≡ Ok t → type_in w ≡ Ok t
 unfolding type_in
-type_read w t d = rw d.spelling (rw (field_only t d.field_type) refl)
+type_read w t d = rw d refl
 
 element_good : (e : ElementType) → IsElementType e → is_element_type e ≡ true
 element_good (element.Base b) h = refl
@@ -126,129 +119,37 @@ result_good : (o : Option FieldType) → IfSome o IsFieldType → is_result_type
 result_good None h = refl
 result_good (Some t) h = type_good t h
 
-pub descriptor_good : (w : List ℕ) (t : FieldType) → IsDescriptor w t → fits w ≡ true → is_field_type t ≡ true
+pub descriptor_good : (w : List ℕ) (t : FieldType) → field_of_text w ≡ Ok t → fits w ≡ true → is_field_type t ≡ true
 unfolding is_field_type
-descriptor_good w t d short = and_from _ _ (type_good t d.field_type) (ap fits (sym d.spelling) ∙ short)
+descriptor_good w t d short = let found = field_found w t d in and_from _ _ (type_good t found.1) (ap fits (sym found.0) ∙ short)
 
 pub signature_good : (m : Signature) → IsMethodType m → is_method_type m ≡ true
 unfolding is_method_type
 signature_good m h = and_from _ _ (and_from _ _ (le-leb (length m.parameters) 255 h.limit) (types_good m.parameters h.parameters)) (result_good m.result h.result)
 
--- ---- bytes that names lack
-
--- no byte is c
-abbrev pub lacks : ℕ → List ℕ → Bool
-lacks c = list_all (λ b. not (eqb b c))
-
-is_other : (c : ℕ) (test : ℕ → Bool) → test c ≡ false → (b : ℕ) → test b ≡ true → not (eqb b c) ≡ true
-is_other c test none_here b h = not_from_false (eqb b c) (false_from_ne_true (eqb b c) (λ e. cc (ap test (eqb-true b c e), none_here, h)))
-
--- each element that passes one test passes the other
-pub all_weaker : {A : Type 0} (p q : A → Bool) → ((x : A) → p x ≡ true → q x ≡ true) → (xs : List A) → list_all p xs ≡ true → list_all q xs ≡ true
-all_weaker p q f [] h = refl
-all_weaker p q f (x ∷ xs) h = let t = and_parts (p x) _ h in and_from _ _ (f x t.0) (all_weaker p q f xs t.1)
-
-segments_lack : (c : ℕ) → eqb 47 c ≡ false → is_name_byte c ≡ false → (name : List ℕ) → list_all (list_all is_name_byte) (segments name) ≡ true → lacks c name ≡ true
-segments_lack c slash none_here [] h = refl
-segments_lack c slash none_here (b ∷ bs) h = elim (cases_Bool (eqb b 47)) [
-  | inl y ↦ and_from _ _ (not_from_false (eqb b c) (ap (λ (z : ℕ). eqb z c) (eqb-true b 47 y) ∙ slash)) (segments_lack c slash none_here bs (rw y at h))
-  | inr y ↦ let p = split_byte b (segments bs) (rw y at h) in and_from _ _ (is_other c is_name_byte none_here b p.0) (segments_lack c slash none_here bs p.1)
-]
-
-pub class_lacks : (c : ℕ) → eqb 47 c ≡ false → is_name_byte c ≡ false → (name : List ℕ) → IsClassName name → lacks c name ≡ true
-unfolding is_class_name
-class_lacks c slash none_here name h = segments_lack c slash none_here name (in_segments (segments name) h)
-
-pub member_lacks : (c : ℕ) → lacks c (codes "<init>") ≡ true → lacks c (codes "<clinit>") ≡ true → is_member_byte c ≡ false → (name : List ℕ) → IsMemberName name → lacks c name ≡ true
-unfolding is_member_name
-member_lacks c i j none_here name h =
-    one_of (bytes_eq name (codes "<init>")) (bytes_eq name (codes "<clinit>")) _ (lacks c name ≡ true) h
-    (λ e. ap (lacks c) ((bytes_eq-Decides name (codes "<init>")).0 e) ∙ i) (λ e. ap (lacks c) ((bytes_eq-Decides name (codes "<clinit>")).0 e) ∙ j) (λ e. all_weaker is_member_byte _ (is_other c is_member_byte none_here) name (and_parts _ _ e).1)
-
--- ---- members: the last slash
-
-slash_parts : (w : List ℕ) (n : ℕ) → slash_in w ≡ Some n → w ≡ take n w ++ 47 ∷ drop (suc n) w
-slash_parts [] n e = absurd cc
-slash_parts (b ∷ bs) n e = by (slash_in bs) (slash_parts bs) e
-  where
-    by : (o : Option ℕ) → ((m : ℕ) → o ≡ Some m → bs ≡ take m bs ++ 47 ∷ drop (suc m) bs)
-        → elim o as (λ o. Option ℕ) [ Some m ↦ Some (m + 1) | None ↦ cond (eqb b 47) (Some 0) None ] ≡ Some n → b ∷ bs ≡ take n (b ∷ bs) ++ 47 ∷ drop (suc n) (b ∷ bs)
-    by None rest h = let p = cond_some (eqb b 47) 0 n h in rw (← p.1) (ap (λ (c : ℕ). c ∷ bs) (eqb-true b 47 p.0))
-    by (Some m) rest h =
-        let same : suc m ≡ n = (let k : m + 1 ≡ n = cc in sym (add-one m) ∙ k) in
-        rw (← same) (ap (λ (l : List ℕ). b ∷ l) (rest m refl))
-
-slash_none : (name : List ℕ) → lacks 47 name ≡ true → slash_in name ≡ None
-slash_none [] h = refl
-slash_none (b ∷ bs) h = let p = and_parts (not (eqb b 47)) (lacks 47 bs) h in rw (slash_none bs p.1, not-true (eqb b 47) p.0) refl
-
-slash_is : (class name : List ℕ) → lacks 47 name ≡ true → slash_in (class ++ 47 ∷ name) ≡ Some (length class)
-slash_is [] name h = rw (slash_none name h) refl
-slash_is (b ∷ bs) name h = rw (slash_is bs name h, add-one (length bs)) refl
-
-pub member_ok : (w : List ℕ) (x : List ℕ × List ℕ) → member_in w ≡ Ok x → IsMemberWord w x.0 x.1
-unfolding member_in
-member_ok w x e = by (slash_in w) refl e
-  where
-    by : (o : Option ℕ) → slash_in w ≡ o → member_at w o ≡ Ok x → IsMemberWord w x.0 x.1
-    by None p h = absurd cc
-    by (Some n) p h =
-        let one = bind_ok (class_name_in (take n w)) _ x h in
-        let two = bind_ok (member_name_in (drop (n + 1) w)) _ x one.2 in
-        let a = checked_ok is_class_name (take n w) one.0 one.1 in
-        let b = checked_ok is_member_name (drop (n + 1) w) two.0 two.1 in
-        given (λ (x : List ℕ × List ℕ). IsMemberWord w x.0 x.1) two.2 (record { parts = cc (slash_parts w n p, add-one n, a.1, b.1); class_name = a.0; member_name = b.0 })
-
-pub member_read : (w class name : List ℕ) → IsMemberWord w class name → member_in w ≡ Ok (class, name)
-unfolding member_in
-member_read w class name m =
-    let slash = slash_is class name (member_lacks 47 refl refl refl name m.member_name) in
-    rw m.parts (rw (slash, take_at class (47 ∷ name) (length class) refl, drop-append-add class (47 ∷ name) 1, m.class_name, m.member_name) refl)
-
--- ---- members: the first (
+-- ---- members
 
 both_ok : {A B : Type 0} (x : Result A FaultKind) (y : Result B FaultKind) (z : A × B) → both x y ≡ Ok z → (x ≡ Ok z.0) × (y ≡ Ok z.1)
 both_ok (Ok a) (Ok b) z e = (cc, cc)
 both_ok (Err j) (Err k) z e = absurd cc
 both_ok x y z e = absurd cc
 
-name_len_is : (front : List ℕ) (m : Signature) → lacks 40 front ≡ true → name_len (front ++ method_spelling m) ≡ length front
-name_len_is [] m h = refl
-name_len_is (b ∷ bs) m h = let p = and_parts (not (eqb b 40)) (lacks 40 bs) h in rw (not-true (eqb b 40) p.0) (one-add _ ∙ ap suc (name_len_is bs m p.1))
-
--- what stands before the descriptor, and the descriptor
-pub record Typed {A : Type 0} (read : List ℕ → Result A FaultKind) (w : List ℕ) (x : A × Signature) : Type 0 where
-  pub front : List ℕ
-  pub parts : w ≡ front ++ method_spelling x.1
-  pub value : read front ≡ Ok x.0
-  pub type : IsMethodType x.1
-
-pub typed_ok : {A : Type 0} (read : List ℕ → Result A FaultKind) (w : List ℕ) (x : A × Signature) → typed_in read w ≡ Ok x → Typed read w x
+pub typed_ok : {A : Type 0} (read : List ℕ → Result A FaultKind) (w : List ℕ) (x : A × Signature) → typed_in read w ≡ Ok x → (read (before_type w) ≡ Ok x.0) × (method_of_text (type_part w) ≡ Ok x.1)
 unfolding typed_in signature_in
-typed_ok read w x e =
-    let one = both_ok (read (take (name_len w) w)) (signature_in (drop (name_len w) w)) x e in
-    let two = method_found _ x.1 (described (method_of_text (drop (name_len w) w)) x.1 one.1) in
-    record { front = take (name_len w) w; parts = cc (take-append-drop (name_len w) w, two.0); value = one.0; type = two.1 }
+typed_ok read w x e = let one = both_ok (read (before_type w)) (signature_in (type_part w)) x e in (one.0, described (method_of_text (type_part w)) x.1 one.1)
 
-pub typed_read : {A : Type 0} (read : List ℕ → Result A FaultKind) (front : List ℕ) (m : Signature) (x : A)
-    → lacks 40 front ≡ true → read front ≡ Ok x → IsMethodType m → typed_in read (front ++ method_spelling m) ≡ Ok (x, m)
+pub typed_read : {A : Type 0} (read : List ℕ → Result A FaultKind) (w : List ℕ) (x : A) (m : Signature) → read (before_type w) ≡ Ok x → method_of_text (type_part w) ≡ Ok m → typed_in read w ≡ Ok (x, m)
 unfolding typed_in signature_in
-typed_read read front m x bare h k =
-    rw (name_len_is front m bare, take_at front (method_spelling m) (length front) refl, drop_at front (method_spelling m) (length front) refl, h, method_only m k) refl
+typed_read read w x m h k = rw (h, k) refl
 
 pub method_ok : (w : List ℕ) (r : MethodReference) → method_in w ≡ Ok r → IsMethodWord w r.class r.name r.method_type
 method_ok w r e =
     let one = bind_ok (typed_in member_in w) _ r e in
     let t = typed_ok member_in w one.0 one.1 in
-    let m = member_ok t.front one.0.0 t.value in
-    given (λ (r : MethodReference). IsMethodWord w r.class r.name r.method_type) one.2 (record { parts = cc (t.parts, m.parts); class_name = m.class_name; member_name = m.member_name; method_type = t.type })
+    given (λ (r : MethodReference). IsMethodWord w r.class r.name r.method_type) one.2 (record { member = t.0; method_type = t.1 })
 
 pub method_read : (w class name : List ℕ) (type : Signature) → IsMethodWord w class name type → method_in w ≡ Ok (record { class = class; name = name; method_type = type })
-method_read w class name type m =
-    let front = class ++ 47 ∷ name in
-    let read = member_read front class name (record { parts = refl; class_name = m.class_name; member_name = m.member_name }) in
-    let bare = list_all-append _ class (47 ∷ name) ∙ and_from _ _ (class_lacks 40 refl refl class m.class_name) (member_lacks 40 refl refl refl name m.member_name) in
-    rw (m.parts, typed_read member_in front type (class, name) bare read m.method_type) refl
+method_read w class name type m = rw (typed_read member_in w (class, name) type m.member m.method_type) refl
 
 -- ---- words of tables
 

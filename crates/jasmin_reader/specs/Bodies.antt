@@ -22,7 +22,8 @@ use Rattle.jasmin_reader.specs.declared.body.Setting.{Setting}
 use Rattle.jasmin_reader.specs.declared.body.Setting.TheVariants as setting
 use Rattle.jasmin_reader.specs.declared.switch.Switch.{Switch}
 use Rattle.jasmin_reader.specs.Places.{within_limit, next_word, operand, ended_at, first_word}
-use Rattle.jasmin_reader.specs.Operands.{label_in, class_name_in, limit_in, last_operand, begins_with}
+use Rattle.jasmin_reader.specs.Operands.{label_in, limit_in, last_operand, begins_with}
+use Rattle.jasmin_text.specs.MemberWords.{class_name_in}
 use Rattle.jasmin_reader.specs.Listing.{with_listed, instruction_at, switch_at, behind_colon}
 
 -- ---- what a row adds

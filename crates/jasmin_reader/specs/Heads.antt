@@ -1,5 +1,5 @@
 -- The lines that name a class, a field or a method: access words, then the name.
-use Rattle.std.specs.Prelude.{ℕ, Bool, true, false, not, ◌&&◌, List, [], ◌∷◌, Option, Some, None, is_some, Result, Ok, Err, ◌==◌, if◌then◌else◌, length, codes}
+use Rattle.std.specs.Prelude.{ℕ, Bool, true, false, not, ◌&&◌, List, [], ◌∷◌, Option, Some, None, Result, Ok, Err, if◌then◌else◌, codes}
 use Rattle.std.specs.List.{list_any}
 use Rattle.std.specs.Option.{option_map, ok_or}
 use Rattle.std.specs.Str.{bytes_eq}
@@ -9,7 +9,7 @@ use Rattle.jasmin_words.specs.declared.fault.FaultKind.{FaultKind}
 use Rattle.jasmin_words.specs.declared.fault.FaultKind.TheVariants as fault
 use Rattle.sequence.specs.Gives.{◌>>=◌}
 use Rattle.jasmin_words.specs.Lexing.{Item, Word, BadWord, Equals}
-use Rattle.jasmin_text.specs.Spellable.{is_int_type, is_string_type}
+use Rattle.jasmin_text.specs.Spellable.{is_int_type, is_string_type, may_initialize}
 use Rattle.jasmin_text.specs.Tables.{access_of, member_access_of}
 use Rattle.jasmin_text.specs.Grammar.{no_access, with_word as more_access, is_taken_in}
 use Rattle.jasmin_text.specs.declared.access.Access.{Access}
@@ -26,7 +26,8 @@ use Rattle.jasmin_reader.specs.declared.head.HeadWords.{HeadWords}
 use Rattle.jasmin_reader.specs.declared.table.ClassWord.{ClassWord}
 use Rattle.jasmin_reader.specs.declared.table.ClassWord.TheVariants as class_word
 use Rattle.jasmin_reader.specs.Places.{misplaced, word_of, within_limit, operand, string_from, ended_at}
-use Rattle.jasmin_reader.specs.Operands.{class_name_in, member_name_in, integer_in, type_in, typed_in}
+use Rattle.jasmin_reader.specs.Operands.{integer_in, type_in, typed_in}
+use Rattle.jasmin_text.specs.MemberWords.{class_name_in, member_name_in}
 
 -- ---- access words
 
@@ -164,10 +165,6 @@ field_from items = named_from place.Field (start Class) items >>= λ n.
     field_named n.0.access name n.1.1
 
 -- ---- methods
-
--- JVMS SE 8 2.9: an initializer of a class is static, without parameters and without a result
-abbrev pub may_initialize : Access → Signature → Bool
-may_initialize a m = a.is_static && length m.parameters == 0 && not (is_some m.result)
 
 abbrev pub fits_initializer : Access → List ℕ × Signature → Result (Unit {0}) FaultKind
 fits_initializer a m = if bytes_eq m.0 (codes "<clinit>") && not (may_initialize a m.1) then Err fault.BadInitializer else Ok tt

@@ -1,7 +1,6 @@
 -- What single words stand for, and the operands of instructions.
-use Rattle.std.specs.Prelude.{ℕ, ◌+◌, Bool, false, not, ◌&&◌, List, [], ◌∷◌, take, drop, Option, Some, None, Result, Ok, Err, ◌==◌, if◌then◌else◌, nat_le, ℤ, pos, negsuc, ◌+ℤ◌, ◌-ℤ◌, int_le}
+use Rattle.std.specs.Prelude.{ℕ, ◌+◌, Bool, false, not, ◌&&◌, List, [], ◌∷◌, Option, Some, None, Result, Ok, Err, ◌==◌, if◌then◌else◌, nat_le, ℤ, pos, negsuc, ◌+ℤ◌, ◌-ℤ◌, int_le}
 use Rattle.std.specs.Option.{ok_or}
-use Rattle.descriptors.specs.ClassName.{is_class_name}
 use Rattle.descriptors.specs.Signature.{Signature}
 use Rattle.descriptors.specs.Reading.{field_of_text, method_of_text}
 use Rattle.descriptors.specs.declared.base.BaseType.{BaseType}
@@ -15,7 +14,8 @@ use Rattle.sequence.specs.declared.refusal.Refusal.TheVariants as refusal
 use Rattle.sequence.specs.Gives.{◌>>=◌}
 use Rattle.jasmin_words.specs.Integers.{integer_of}
 use Rattle.jasmin_words.specs.Lexing.{Item, Text, BadText}
-use Rattle.jasmin_words.specs.Names.{is_label, is_member_name}
+use Rattle.jasmin_words.specs.Names.{is_label}
+use Rattle.jasmin_text.specs.MemberWords.{checked, class_name_in, member_in, before_type, type_part}
 use Rattle.jasmin_text.specs.Grammar.{Row, InstructionRow, TableRow, LookupRow, byte_low, short_low}
 use Rattle.jasmin_text.specs.declared.class_text.Constant.{Constant}
 use Rattle.jasmin_text.specs.declared.class_text.Constant.TheVariants as constant
@@ -33,17 +33,8 @@ use Rattle.jasmin_reader.specs.Table.{base_at}
 
 -- ---- words
 
-abbrev pub checked : Bool → List ℕ → Result (List ℕ) FaultKind
-checked b w = if b then Ok w else Err fault.BadOperand
-
 abbrev pub label_in : List ℕ → Result (List ℕ) FaultKind
 label_in w = checked (is_label w) w
-
-abbrev pub class_name_in : List ℕ → Result (List ℕ) FaultKind
-class_name_in w = checked (is_class_name w) w
-
-abbrev pub member_name_in : List ℕ → Result (List ℕ) FaultKind
-member_name_in w = checked (is_member_name w) w
 
 abbrev pub integer_in : List ℕ → Result ℤ FaultKind
 integer_in w = ok_or (integer_of w) fault.BadOperand
@@ -90,27 +81,9 @@ type_in w = by_descriptor (field_of_text w)
 unfoldable pub signature_in : List ℕ → Result Signature FaultKind
 signature_in w = by_descriptor (method_of_text w)
 
--- how many bytes stand before the last slash
-abbrev pub slash_in : List ℕ → Option ℕ
-slash_in [] = None
-slash_in (b ∷ bs) = elim (slash_in bs) [ Some n ↦ Some (n + 1) | None ↦ if b == 47 then Some 0 else None ]
-
-abbrev pub member_at : List ℕ → Option ℕ → Result (List ℕ × List ℕ) FaultKind
-member_at w None = Err fault.BadOperand
-member_at w (Some n) = class_name_in (take n w) >>= λ class. member_name_in (drop (n + 1) w) >>= λ name. Ok (class, name)
-
--- a class and a member's name; the last slash parts them
-unfoldable pub member_in : List ℕ → Result (List ℕ × List ℕ) FaultKind
-member_in w = member_at w (slash_in w)
-
--- how many bytes stand before the first (
-abbrev pub name_len : List ℕ → ℕ
-name_len [] = 0
-name_len (b ∷ bs) = if b == 40 then 0 else 1 + name_len bs
-
--- what stands before the first ( and the descriptor from there on
+-- what stands before a method's descriptor, and the descriptor
 unfoldable pub typed_in : {A : Type 0} → (List ℕ → Result A FaultKind) → List ℕ → Result (A × Signature) FaultKind
-typed_in read w = both (read (take (name_len w) w)) (signature_in (drop (name_len w) w))
+typed_in read w = both (read (before_type w)) (signature_in (type_part w))
 
 -- a class, a method's name and its descriptor
 abbrev pub method_in : List ℕ → Result MethodReference FaultKind

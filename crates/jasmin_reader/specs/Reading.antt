@@ -19,7 +19,8 @@ use Rattle.jasmin_reader.specs.declared.said.Said.{Said}
 use Rattle.jasmin_reader.specs.declared.said.Said.TheVariants as said
 use Rattle.jasmin_reader.specs.declared.reader.Reader.{Reader}
 use Rattle.jasmin_reader.specs.Places.{wanted_or, ended_at, first_word}
-use Rattle.jasmin_reader.specs.Operands.{class_name_in, last_operand, begins_with}
+use Rattle.jasmin_reader.specs.Operands.{last_operand, begins_with}
+use Rattle.jasmin_text.specs.MemberWords.{class_name_in}
 use Rattle.jasmin_reader.specs.Heads.{class_from, field_from, method_from}
 use Rattle.jasmin_reader.specs.Listing.{empty_listing, behind_colon, unknown_word}
 use Rattle.jasmin_reader.specs.Bodies.{statement_at, limit_from, catch_from, setting_row, with_setting, end_from, outside_switch, closed}

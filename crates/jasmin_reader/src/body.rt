@@ -5,7 +5,7 @@ ghost use Rattle.sequence.specs.Gives.{Gives};
 ghost use Rattle.jasmin_reader.specs.Places.{IsFaultOr};
 ghost use Rattle.jasmin_words.specs.Lexing.{views};
 ghost use Rattle.jasmin_text.specs.Grammar.{LabelRow, place_of};
-ghost use Rattle.jasmin_reader.specs.Bodies.{setting_row, with_setting, label_at, listed, end_from, no_directive, labelled_at, plain_by, statement_at, limit_from, label_behind, last_labels_from, row_from, catch_from};
+ghost use Rattle.jasmin_reader.specs.Bodies.{setting_row, with_setting, label_at, listed, end_from, no_directive, labelled_at, plain_by, statement_at, limit_from, label_behind, last_labels_from, catch_from};
 ghost use Rattle.jasmin_reader.specs.Listing.{instruction_at, behind_colon as behind_colon_of};
 
 use crate::labels::Labels;

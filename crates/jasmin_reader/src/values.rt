@@ -3,7 +3,8 @@
 ghost use Rattle.std.specs.Prelude.{◌≡◌, ◌≤◌, ◌<◌, length, IfOk, IfSome};
 ghost use Rattle.sequence.specs.Gives.{Gives};
 ghost use Rattle.jasmin_reader.specs.Places.{IsFaultOr, lowest_with};
-ghost use Rattle.jasmin_reader.specs.Operands.{integer_in, number_in, refusal_of, signature_in, slash_in, name_len, typed_in, begins_with};
+ghost use Rattle.jasmin_reader.specs.Operands.{integer_in, number_in, refusal_of, signature_in, typed_in, begins_with};
+ghost use Rattle.jasmin_text.specs.MemberWords.{slash_in, name_len};
 
 use crate::place::{FromWord, LineError, bad_operand};
 use crate::table::{BaseWord, base_word_of};
@@ -159,7 +160,7 @@ impl FromWord for Text {
 }
 
 impl FromWord for ClassName {
-    ghost use Rattle.jasmin_reader.specs.Operands.{class_name_in};
+    ghost use Rattle.jasmin_text.specs.MemberWords.{class_name_in};
 
     ghost read = { class_name_in };
 
@@ -172,7 +173,7 @@ impl FromWord for ClassName {
 }
 
 impl FromWord for MemberName {
-    ghost use Rattle.jasmin_reader.specs.Operands.{member_name_in};
+    ghost use Rattle.jasmin_text.specs.MemberWords.{member_name_in};
 
     ghost read = { member_name_in };
 
@@ -240,11 +241,11 @@ fn last_slash(word: &[u8]) -> Option<usize>
 
 /// A class and a member's name, with a slash between them.
 impl FromWord for (ClassName, MemberName) {
-    ghost use Rattle.jasmin_reader.specs.Operands.{member_in};
+    ghost use Rattle.jasmin_text.specs.MemberWords.{member_in};
 
     ghost read = { member_in };
 
-    #[tactic(auto, unfolding(crate::specs::Operands::member_in))]
+    #[tactic(auto, unfolding(jasmin_text::specs::MemberWords::member_in))]
     fn from_word(alloc: Global, word: &[u8]) -> Result<(ClassName, MemberName), LineError> {
         let Some(slash) = last_slash(word) else {
             return Err(bad_operand());

@@ -9,6 +9,7 @@ use Rattle.std.proofs.lemmas.Bool.{and_parts, leb-true, ltb-true, not-true, fals
 use Rattle.std.proofs.lemmas.Slice.Eq.{bytes_eq-Decides}
 use Rattle.descriptors.specs.ClassName.{is_class_name}
 use Rattle.descriptors.specs.Spelling.{field_spelling, method_spelling}
+use Rattle.descriptors.proofs.FieldLaws.{field_only}
 use Rattle.descriptors.specs.declared.field.FieldType.{FieldType}
 use Rattle.jasmin_words.specs.Lexing.{Item, Word, Equals, Text, fits}
 use Rattle.jasmin_words.specs.Names.{is_name_byte, is_some_byte, is_member_name}
@@ -34,6 +35,7 @@ use Rattle.jasmin_text.proofs.Conditions.{five, nine}
 use Rattle.jasmin_text.proofs.Written.{IsWritten, IsLine, said, last_word, last_text, ends, blank, equals, word as a_word}
 use Rattle.jasmin_text.proofs.WordBytes.{IsWordText, joined_words, member_name_word, method_word, one_of}
 use Rattle.jasmin_text.proofs.Rows.{IsFixed, class_is_word}
+use Rattle.jasmin_text.proofs.MemberWords.{member_lacks, signature_only}
 use Rattle.jasmin_text.proofs.Operands.{int_fixed, descriptor_is_word, is_type_of, class_first, is_signature}
 
 -- ---- access words
@@ -215,7 +217,7 @@ field_row f h =
     subst (λ (line : List ℕ). IsLine line (FieldRow f ∷ [])) (sym (field_spaced f))
     (said (codes ".field" ++ (access_text f.access ++ 32 ∷ (n ++ 32 ∷ (d ++ v)))) (Word (codes ".field") ∷ (access_items f.access ++ Word n ∷ Word d ∷ value_items f.value)) (FieldRow f ∷ [])
     (a_word (codes ".field") (access_text f.access ++ 32 ∷ (n ++ 32 ∷ (d ++ v))) refl (refl, refl) refl t.parts t.written)
-    (field (access_items f.access) (value_items f.value) d refl (member_access no_access f.access (access_items f.access) (access_is f.access)) p.0 (record { spelling = refl; field_type = is_type_of f.field_type (leb-true f.field_type.dimensions 255 r.0) r.1 }) (value_is f.field_type f.value p.4)))
+    (field (access_items f.access) (value_items f.value) d refl (member_access no_access f.access (access_items f.access) (access_is f.access)) p.0 (field_only f.field_type (is_type_of f.field_type (leb-true f.field_type.dimensions 255 r.0) r.1)) (value_is f.field_type f.value p.4)))
 
 -- ---- methods
 
@@ -226,9 +228,10 @@ method_spaced m = simp append_assoc
 pub method_row : (m : Method) → is_member_name m.name ≡ true → is_method_type m.method_type ≡ true → fits (m.name ++ method_spelling m.method_type) ≡ true → IsLine (method_line m) (MethodRow m.access m.name m.method_type ∷ [])
 method_row m h k f =
     let w : List ℕ = m.name ++ method_spelling m.method_type in
+    let s = signature_only m.name m.method_type (member_lacks 40 refl refl refl m.name h) (is_signature m.method_type k) in
     let text = joined_words m.name (method_spelling m.method_type) (member_name_word m.name h) (method_word m.method_type k) in
     let t = access_tail m.access (32 ∷ w) (Word w ∷ []) (record { parts = refl; written = blank refl (last_word true w (class_first true m.name (method_spelling m.method_type) (member_is_word true m.name h) text) f) }) in
     subst (λ (line : List ℕ). IsLine line (MethodRow m.access m.name m.method_type ∷ [])) (sym (method_spaced m))
     (said (codes ".method" ++ (access_text m.access ++ 32 ∷ w)) (Word (codes ".method") ∷ (access_items m.access ++ Word w ∷ [])) (MethodRow m.access m.name m.method_type ∷ [])
     (a_word (codes ".method") (access_text m.access ++ 32 ∷ w) refl (refl, refl) refl t.parts t.written)
-    (method (access_items m.access) w refl refl (member_access no_access m.access (access_items m.access) (access_is m.access)) h (is_signature m.method_type k)))
+    (method (access_items m.access) w refl s.0 (member_access no_access m.access (access_items m.access) (access_is m.access)) h s.1))

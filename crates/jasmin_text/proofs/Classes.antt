@@ -11,7 +11,7 @@ use Rattle.jasmin_words.specs.Names.{is_member_name}
 use Rattle.jasmin_text.specs.Keywords.{spelled}
 use Rattle.jasmin_text.specs.Lines.{lines_of}
 use Rattle.jasmin_text.specs.Canonical.{class_line, super_line, implements_line, field_line, method_line, optional_code_lines, method_lines, class_lines, canonical_text}
-use Rattle.jasmin_text.specs.Spellable.{is_class_word, is_method_type, is_optional_code, is_initializer, is_code, is_field, is_method, is_taken, is_spellable, IsSpellable}
+use Rattle.jasmin_text.specs.Spellable.{is_class_word, is_method_type, is_optional_code, may_initialize, is_code, is_field, is_method, is_taken, is_spellable, IsSpellable}
 use Rattle.jasmin_text.specs.Grammar.{Row, ClassRow, SuperRow, ImplementsRow, FieldRow, MethodRow, EndRow, Body, empty_body, IsBody, IsCodeOrNone, Members, IsHeader, AreMembers, IsClass, Spells, none, super, implements, field, method}
 use Rattle.jasmin_text.specs.declared.keyword.Keyword.TheVariants as keyword
 use Rattle.jasmin_text.specs.declared.class_text.Code.{Code}
@@ -64,7 +64,7 @@ good_method : (m : Method) → is_method m ≡ true → IsGoodMethod m
 unfolding is_method
 good_method m h =
     let p = six (is_member_name m.name) (is_method_type m.method_type) (fits (m.name ++ method_spelling m.method_type)) (not (m.access.is_abstract && m.access.is_static))
-    (cond (bytes_eq m.name (codes "<clinit>")) (is_initializer m) true) (is_optional_code m.access.is_abstract m.code) h in
+    (cond (bytes_eq m.name (codes "<clinit>")) (may_initialize m.access m.method_type) true) (is_optional_code m.access.is_abstract m.code) h in
     record { name = p.0; type = p.1; fit = p.2; code = p.5 }
 
 method_are : (m : Method) → is_method m ≡ true → AreLines (method_lines m) (method_rows m)

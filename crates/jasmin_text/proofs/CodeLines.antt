@@ -21,6 +21,7 @@ use Rattle.jasmin_text.specs.declared.instruction.Instruction.TheVariants as ins
 use Rattle.jasmin_text.specs.declared.instruction.MethodReference.{MethodReference}
 use Rattle.jasmin_text.proofs.Written.{IsLine, said, last_word, blank, colon, word as a_word}
 use Rattle.jasmin_text.proofs.Rows.{IsFixed, two_words, three_words, class_is_word, label_fixed, label_is, number_fixed, number_in}
+use Rattle.jasmin_text.proofs.MemberWords.{call_only}
 use Rattle.jasmin_text.proofs.Operands.{int_fixed, method_is_word, is_signature}
 use Rattle.jasmin_text.proofs.AccessLines.{int_of}
 
@@ -90,7 +91,7 @@ interface_row r h k t f =
     let low : 1 ≤ n = omega arith in
     let high : n ≤ 255 = omega arith in
     three_words (word_of form.CallInterface) (r.class ++ 47 ∷ r.name ++ method_spelling r.method_type) (decimal n) _ ((refl, refl), refl) (method_is_word true r.class r.name r.method_type h k t, f) (number_fixed n (omega arith))
-    (operation (simple {f = form.CallInterface} refl (counted (record { parts = refl; class_name = h; member_name = k; method_type = is_signature r.method_type t }) (number_in 1 255 n low high (omega arith)))))
+    (operation (simple {f = form.CallInterface} refl (counted (call_only r.class r.name r.method_type h k (is_signature r.method_type t)) (number_in 1 255 n low high (omega arith)))))
 
 -- ---- switches
 

@@ -4,6 +4,7 @@ pub mod WordBytes
 pub mod FormWords
 pub mod Written
 pub mod Rows
+pub mod MemberWords
 pub mod Operands
 pub mod Conditions
 pub mod AccessLines

@@ -15,6 +15,7 @@ use Rattle.descriptors.specs.declared.base.BaseType.TheVariants as base
 use Rattle.descriptors.specs.declared.field.ElementType.{ElementType}
 use Rattle.descriptors.specs.declared.field.ElementType.TheVariants as element
 use Rattle.descriptors.specs.declared.field.FieldType.{FieldType}
+use Rattle.descriptors.proofs.FieldLaws.{field_only}
 use Rattle.jasmin_words.specs.Lexing.{Word, Text, fits}
 use Rattle.jasmin_words.specs.Names.{is_member_name}
 use Rattle.jasmin_words.specs.Quoting.{quoted}
@@ -37,6 +38,7 @@ use Rattle.jasmin_text.specs.declared.instruction.MethodReference.{MethodReferen
 use Rattle.jasmin_text.specs.declared.instruction.TypeUse.{TypeUse}
 use Rattle.jasmin_text.specs.declared.instruction.TypeUse.TheVariants as type_use
 use Rattle.jasmin_text.specs.declared.instruction.ReferenceType.TheVariants as reference
+use Rattle.jasmin_text.proofs.MemberWords.{member_only, call_only}
 use Rattle.jasmin_text.proofs.FormWords.{field_again, call_again, types_again}
 use Rattle.jasmin_text.proofs.WordBytes as bytes
 use Rattle.jasmin_text.proofs.WordBytes.{IsWordText, joined_words}
@@ -109,7 +111,7 @@ is_type_of t d h = record { dimensions = d; element = is_element t.element h }
 pub array_use_row : (t : TypeUse) (a : FieldType) → a.dimensions ≤ 255 → (eqb a.dimensions 0) ≡ false → is_element_type a.element ≡ true → fits (field_spelling a) ≡ true → IsLine (word_of (form.TypeUse t) ++ 32 ∷ field_spelling a) (InstructionRow (instruction.TypeUse t (reference.Array a)) ∷ [])
 array_use_row t a d n h f =
     two_words (word_of (form.TypeUse t)) (field_spelling a) _ (types_fixed t) (descriptor_is_word true a h, f)
-    (operation (simple (types_again t) (array (record { spelling = refl; field_type = is_type_of a d h }) n)))
+    (operation (simple (types_again t) (array (field_only a (is_type_of a d h)) n)))
 
 pub class_first : (fresh : Bool) (name rest : List ℕ) → IsWord fresh name → IsWordText (name ++ rest) → IsWord fresh (name ++ rest)
 class_first fresh [] rest w h = absurd w
@@ -128,7 +130,7 @@ pub field_row : (a : FieldAccess) (r : FieldReference) → is_class_name r.class
 unfolding field_text
 field_row a r c m f d e g =
     three_words (word_of (form.Field a)) (r.class ++ 47 ∷ r.name) (field_spelling r.field_type) _ (fields_fixed a) (member_is_word true r.class r.name c m, f) (descriptor_is_word true r.field_type e, g)
-    (operation (simple (field_again a) (op_field (record { parts = refl; class_name = c; member_name = m }) (record { spelling = refl; field_type = is_type_of r.field_type d e }))))
+    (operation (simple (field_again a) (op_field (member_only r.class r.name c m) (field_only r.field_type (is_type_of r.field_type d e)))))
 
 -- ---- calls
 
@@ -166,4 +168,4 @@ pub call_row : (c : Call) (r : MethodReference) → is_class_name r.class ≡ tr
 unfolding method_text
 call_row c r h k t f =
     two_words (word_of (form.Call c)) (r.class ++ 47 ∷ r.name ++ method_spelling r.method_type) _ (calls_fixed c) (method_is_word true r.class r.name r.method_type h k t, f)
-    (operation (simple (call_again c) (op_call (record { parts = refl; class_name = h; member_name = k; method_type = is_signature r.method_type t }))))
+    (operation (simple (call_again c) (op_call (call_only r.class r.name r.method_type h k (is_signature r.method_type t)))))

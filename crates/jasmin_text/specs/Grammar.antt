@@ -1,10 +1,10 @@
 -- Which lines spell which class: the file form of the Jasmin user guide. "Own choice" marks this project's own
 -- choice (docs/JASMIN.md), where the form is told in words.
-use Rattle.std.specs.Prelude.{◌≡◌, ℕ, Bool, true, false, ◌&&◌, ◌||◌, ◌==◌, List, [], ◌∷◌, ◌++◌, length, map, Option, Some, None, unwrap_or, ℤ, pos, ◌+ℤ◌, int_lt, int_le, neg_ℤ, if◌then◌else◌, codes}
+use Rattle.std.specs.Prelude.{◌≡◌, ℕ, Bool, true, false, ◌&&◌, ◌||◌, ◌==◌, List, [], ◌∷◌, ◌++◌, length, map, Option, Some, None, unwrap_or, Ok, ℤ, pos, ◌+ℤ◌, int_lt, int_le, neg_ℤ, if◌then◌else◌, codes}
 use Rattle.std.specs.Str.{bytes_eq}
 use Rattle.descriptors.specs.ClassName.{IsClassName}
 use Rattle.descriptors.specs.Signature.{Signature}
-use Rattle.descriptors.specs.Spelling.{field_spelling, method_spelling, IsFieldType, IsMethodType}
+use Rattle.descriptors.specs.Reading.{field_of_text, method_of_text}
 use Rattle.descriptors.specs.declared.base.BaseType.{BaseType}
 use Rattle.descriptors.specs.declared.field.FieldType.{FieldType}
 use Rattle.jasmin_words.specs.Lexing.{Item, Word, Equals, Colon, Text, words_of}
@@ -12,6 +12,7 @@ use Rattle.jasmin_words.specs.Integers.{integer_of}
 use Rattle.jasmin_words.specs.Names.{is_label, IsMemberName}
 use Rattle.jasmin_words.specs.Spelling.{AreWords}
 use Rattle.jasmin_text.specs.BaseWords.{base_word}
+use Rattle.jasmin_text.specs.MemberWords.{member_in, before_type, type_part}
 use Rattle.jasmin_text.specs.Tables.{find_row, access_of, member_access_of}
 use Rattle.jasmin_text.specs.Forms.{form_at, directive_at}
 use Rattle.jasmin_text.specs.Spellable.{IsSpellable}
@@ -89,21 +90,10 @@ pub record IsIntIn (low high : ℤ) (w : List ℕ) (n : ℤ) : Type 0 where
 abbrev pub IsNumberIn : ℕ → ℕ → List ℕ → ℕ → Type 0
 IsNumberIn low high w n = IsIntIn (pos low) (pos high) w (pos n)
 
--- A class, a slash, and the name of a member. The name has no slash, so it is behind the last one.
-pub record IsMemberWord (w class name : List ℕ) : Type 0 where
-  pub parts : w ≡ class ++ 47 ∷ name
-  pub class_name : IsClassName class
-  pub member_name : IsMemberName name
-
+-- a class, a slash and the name of a method, and its descriptor from the first ( on
 pub record IsMethodWord (w class name : List ℕ) (type : Signature) : Type 0 where
-  pub parts : w ≡ class ++ 47 ∷ name ++ method_spelling type
-  pub class_name : IsClassName class
-  pub member_name : IsMemberName name
-  pub method_type : IsMethodType type
-
-pub record IsDescriptor (w : List ℕ) (type : FieldType) : Type 0 where
-  pub spelling : w ≡ field_spelling type
-  pub field_type : IsFieldType type
+  pub member : member_in (before_type w) ≡ Ok (class, name)
+  pub method_type : method_of_text (type_part w) ≡ Ok type
 
 abbrev pub byte_low : ℤ
 byte_low = neg_ℤ (pos 128)
@@ -124,7 +114,7 @@ pub data IsOperands : Form → List Item → Instruction (List ℕ) → Type 0 w
   local_at : {l : _} {n : ℕ} → IsOperands (form.LocalAt l n) [] (instruction.Local l n)
   increment : {v w : List ℕ} {n : ℕ} {by : ℤ} → IsNumberIn 0 65535 v n → IsIntIn short_low (pos 32767) w by → IsOperands form.Increment (Word v ∷ Word w ∷ []) (instruction.Increment n by)
   jump : {j : _} {l : List ℕ} → is_label l ≡ true → IsOperands (form.Jump j) (Word l ∷ []) (instruction.Jump j l)
-  field : {f : _} {v w class name : List ℕ} {type : FieldType} → IsMemberWord v class name → IsDescriptor w type → IsOperands (form.Field f) (Word v ∷ Word w ∷ []) (instruction.Field f (record { class = class; name = name; field_type = type }))
+  field : {f : _} {v w class name : List ℕ} {type : FieldType} → member_in v ≡ Ok (class, name) → field_of_text w ≡ Ok type → IsOperands (form.Field f) (Word v ∷ Word w ∷ []) (instruction.Field f (record { class = class; name = name; field_type = type }))
   call : {c : _} {w class name : List ℕ} {type : Signature} → IsMethodWord w class name type → IsOperands (form.Call c) (Word w ∷ []) (instruction.Call c (record { class = class; name = name; method_type = type }))
   interface : {w class name : List ℕ} {type : Signature} → IsMethodWord w class name type → IsOperands form.CallInterface (Word w ∷ []) (instruction.CallInterface (record { class = class; name = name; method_type = type }))
   -- the count has no effect
@@ -133,7 +123,7 @@ pub data IsOperands : Form → List Item → Instruction (List ℕ) → Type 0 w
   new_array : {b : BaseType} → IsOperands form.NewArray (Word (base_word b) ∷ []) (instruction.NewArray b)
   class : {t : _} {name : List ℕ} → IsClassName name → IsOperands (form.TypeUse t) (Word name ∷ []) (instruction.TypeUse t (reference.Class name))
   -- the descriptor of an array stands for a class here alone
-  array : {t : _} {w : List ℕ} {type : FieldType} → IsDescriptor w type → (type.dimensions == 0) ≡ false → IsOperands (form.TypeUse t) (Word w ∷ []) (instruction.TypeUse t (reference.Array type))
+  array : {t : _} {w : List ℕ} {type : FieldType} → field_of_text w ≡ Ok type → (type.dimensions == 0) ≡ false → IsOperands (form.TypeUse t) (Word w ∷ []) (instruction.TypeUse t (reference.Array type))
 
 -- ---- lines
 
@@ -190,10 +180,10 @@ pub data IsRow : List Item → List Row → Type 0 where
   super : {name : List ℕ} → IsClassName name → IsRow (Word (codes ".super") ∷ Word name ∷ []) (SuperRow name ∷ [])
   implements : {name : List ℕ} → IsClassName name → IsRow (Word (codes ".implements") ∷ Word name ∷ []) (ImplementsRow name ∷ [])
   field : {items : List Item} {a : Access} {name : List ℕ} {type : FieldType} {value : Option Constant} → (access rest : List Item) (w : List ℕ) → items ≡ access ++ Word name ∷ Word w ∷ rest
-      → IsMemberAccess access a → IsMemberName name → IsDescriptor w type → IsValue rest value
+      → IsMemberAccess access a → IsMemberName name → field_of_text w ≡ Ok type → IsValue rest value
       → IsRow (Word (codes ".field") ∷ items) (FieldRow (record { access = a; name = name; field_type = type; value = value }) ∷ [])
-  method : {items : List Item} {a : Access} {name : List ℕ} {type : Signature} → (access : List Item) (w : List ℕ) → items ≡ access ++ Word w ∷ [] → w ≡ name ++ method_spelling type
-      → IsMemberAccess access a → IsMemberName name → IsMethodType type → IsRow (Word (codes ".method") ∷ items) (MethodRow a name type ∷ [])
+  method : {items : List Item} {a : Access} {name : List ℕ} {type : Signature} → (access : List Item) (w : List ℕ) → items ≡ access ++ Word w ∷ [] → before_type w ≡ name
+      → IsMemberAccess access a → IsMemberName name → method_of_text (type_part w) ≡ Ok type → IsRow (Word (codes ".method") ∷ items) (MethodRow a name type ∷ [])
   end : IsRow (Word (codes ".end") ∷ Word (codes "method") ∷ []) (EndRow ∷ [])
   stack : {w : List ℕ} {n : ℕ} → IsNumberIn 0 1024 w n → IsRow (Word (codes ".limit") ∷ Word (codes "stack") ∷ Word w ∷ []) (StackRow n ∷ [])
   locals : {w : List ℕ} {n : ℕ} → IsNumberIn 0 1024 w n → IsRow (Word (codes ".limit") ∷ Word (codes "locals") ∷ Word w ∷ []) (LocalsRow n ∷ [])

@@ -6,4 +6,5 @@ pub mod Marks
 pub mod Tables
 pub mod Spellable
 pub mod Forms
+pub mod MemberWords
 pub mod Grammar

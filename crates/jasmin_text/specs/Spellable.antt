@@ -11,6 +11,7 @@ use Rattle.descriptors.specs.declared.field.FieldType.{FieldType}
 use Rattle.jasmin_words.specs.Lexing.{fits}
 use Rattle.jasmin_words.specs.Names.{is_member_name}
 use Rattle.jasmin_text.specs.Tables.{is_access_word, is_member_word}
+use Rattle.jasmin_text.specs.declared.access.Access.{Access}
 use Rattle.jasmin_text.specs.declared.class_text.ClassKind.{ClassKind}
 use Rattle.jasmin_text.specs.declared.class_text.ClassKind.TheVariants as kind
 use Rattle.jasmin_text.specs.declared.class_text.Constant.{Constant}
@@ -157,13 +158,13 @@ is_optional_code is_abstract None = is_abstract
 is_optional_code is_abstract (Some c) = not is_abstract && is_code c
 
 -- JVMS SE 8 2.9: an initializer of a class is static, without parameters and without a result
-abbrev pub is_initializer : Method → Bool
-is_initializer m = m.access.is_static && length m.method_type.parameters == 0 && not (is_some m.method_type.result)
+abbrev pub may_initialize : Access → Signature → Bool
+may_initialize a m = a.is_static && length m.parameters == 0 && not (is_some m.result)
 
 unfoldable pub is_method : Method → Bool
 is_method m =
     is_member_name m.name && is_method_type m.method_type && fits (m.name ++ method_spelling m.method_type)
-    && not (m.access.is_abstract && m.access.is_static) && (if bytes_eq m.name (codes "<clinit>") then is_initializer m else true)
+    && not (m.access.is_abstract && m.access.is_static) && (if bytes_eq m.name (codes "<clinit>") then may_initialize m.access m.method_type else true)
     && is_optional_code m.access.is_abstract m.code
 
 -- behind .class the word interface is an access word

@@ -21,7 +21,7 @@ pub enum ClassKind {
 pub enum Constant {
     /// An int.
     Int(i32),
-    /// The characters of a string, in UTF-8.
+    /// The characters of a string, in UTF-8, at most 65,535 bytes.
     Text(Boxed<Text>),
 }
 
@@ -70,8 +70,8 @@ pub struct Code {
     pub locals: u16,
     /// The handler table.
     pub handlers: Sequence<Handler>,
-    /// The instructions, one at least. Their places count from 0; a target may also be the place behind the
-    /// last.
+    /// The instructions, one at least and 16,384 at most, where a switch counts one more for each label or key. Their
+    /// places count from 0; a target may also be the place behind the last.
     pub instructions: Sequence<Instruction<u16>>,
 }
 
@@ -109,9 +109,9 @@ pub struct ClassParts {
     pub name: ClassName,
     /// Its superclass, `java/lang/Object` where no file line names one.
     pub superclass: ClassName,
-    /// Its direct superinterfaces in file order.
+    /// Its direct superinterfaces in file order, at most 255.
     pub interfaces: Sequence<ClassName>,
-    /// Its fields in file order.
+    /// Its fields in file order. Fields and methods together are at most 1,024.
     pub fields: Sequence<Field>,
     /// Its methods in file order.
     pub methods: Sequence<Method>,

@@ -1,6 +1,6 @@
 //! The places that a body names.
 
-ghost use Rattle.std.specs.Prelude.{◌≡◌, ◌++◌, ◌+◌, ◌∷◌, [], List, ℕ, map, length, IfOk, vec_len};
+ghost use Rattle.std.specs.Prelude.{◌++◌, ◌+◌, ◌∷◌, [], List, ℕ, length, IfOk};
 ghost use Rattle.std.specs.List.{flat_map};
 ghost use Rattle.jasmin_text.specs.Canonical.{handler_places, instruction_places, code_places};
 ghost use Rattle.jasmin_text.specs.Marks.{IsMarked};

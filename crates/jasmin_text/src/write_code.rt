@@ -1,6 +1,6 @@
 //! The canonical spelling of instructions.
 
-ghost use Rattle.std.specs.Prelude.{◌≡◌, ◌++◌, ◌∷◌, [], map};
+ghost use Rattle.std.specs.Prelude.{◌++◌, ◌∷◌, [], map};
 ghost use Rattle.sequence.specs.Written.{Adds};
 ghost use Rattle.std.specs.Fmt.{decimal};
 ghost use Rattle.jasmin_text.specs.Canonical.{ended, ended_all, constant_text, label_text, label_line, caught_text, range_text, handler_line, field_text, method_text, reference_text, interface_line, increment_line, case_line, default_line, instruction_lines};

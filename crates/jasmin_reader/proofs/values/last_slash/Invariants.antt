@@ -1,6 +1,6 @@
 use Rattle.std.proofs.Common.{◌≡◌, ℕ, ◌+◌, ◌<◌, length, Option, Some, None}
 use Rattle.std.specs.Prelude.{IfSome}
-use Rattle.jasmin_reader.specs.Operands.{slash_in}
+use Rattle.jasmin_text.specs.MemberWords.{slash_in}
 use Rattle.jasmin_reader.proofs.values.last_slash.Given as goal
 
 -- a place in what follows, or the one that was found before

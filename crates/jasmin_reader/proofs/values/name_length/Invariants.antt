@@ -1,5 +1,5 @@
 use Rattle.std.proofs.Common.{◌≡◌, ◌+◌, length}
-use Rattle.jasmin_reader.specs.Operands.{name_len}
+use Rattle.jasmin_text.specs.MemberWords.{name_len}
 use Rattle.jasmin_reader.proofs.values.name_length.Given as goal
 
 abbrev pub invariant-loop-rest : goal.invariant-loop-rest
