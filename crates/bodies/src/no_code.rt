@@ -1,9 +1,5 @@
 //! Bodies that are empty.
 
-ghost use Rattle.std.specs.Prelude.{◌≡◌};
-ghost use Rattle.hierarchy.specs.Subclasses.{IsError, IsThrowable};
-ghost use Rattle.init_core.specs.ProcedureWord.{GoesOn, IsOfFiles};
-
 use crate::does::{Bodies, Does};
 use crate::lends::Lends;
 use hierarchy::{BuiltIn, ClassId, Program, Value};
@@ -11,7 +7,7 @@ use init_core::Completed;
 use std::alloc::{AllocError, Global};
 
 /// Each class is run as if it had no initializer, and a main class as if it had no `main`.
-#[derive(Clone, Copy, PartialEq, Eq, Drop)]
+#[derive(Clone, Copy, Drop)]
 pub struct NoCode;
 
 impl Bodies for NoCode {

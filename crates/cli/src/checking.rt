@@ -20,7 +20,6 @@ use std::alloc::{AllocError, Global};
 use trace_reader::{MOST_BYTES, TraceFaultKind, read_trace};
 
 /// A trace of a program, and what it was judged to be.
-#[derive(Drop)]
 pub struct Judged {
     /// The classes of the files, linked.
     pub program: Program,
@@ -30,6 +29,17 @@ pub struct Judged {
     pub events: Vec<Event>,
     /// Whether they are a legal interleaving.
     pub verdict: Verdict,
+}
+
+impl Drop for Judged {
+    fn drop(self) {
+        let Self {
+            program: _,
+            mains: _,
+            events: _,
+            verdict: _,
+        } = self;
+    }
 }
 
 /// The events of the trace in a file, of so many threads.

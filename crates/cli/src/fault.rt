@@ -13,7 +13,6 @@ use std::io;
 use trace_reader::TraceFault;
 
 /// Why the program stops, once its command line has been read.
-#[derive(Drop)]
 pub enum Fault<'a> {
     /// An option with a subcommand that doesn't take it.
     Words,
@@ -41,6 +40,19 @@ pub enum Fault<'a> {
     Memory,
     /// The output, or the lines that tell how threads ended, can't be written.
     Output,
+}
+
+impl Drop for Fault<'_> {
+    fn drop(self) {
+        match self {
+            Fault::Words | Fault::Files | Fault::Order | Fault::Steps | Fault::Patience => {}
+            Fault::Io(_) => {}
+            Fault::Jasmin { file: _, fault: _ } => {}
+            Fault::Trace { file: _, fault: _ } => {}
+            Fault::Link(_) => {}
+            Fault::Mains | Fault::Threads | Fault::Memory | Fault::Output => {}
+        }
+    }
 }
 
 impl From<AllocError> for Fault<'_> {

@@ -4,7 +4,6 @@ ghost use Rattle.std.specs.Prelude.{◌≡◌, ◌≤◌, ℕ, List, Option, Som
 ghost use Rattle.clap.specs.Walk.{texts as texts_of};
 ghost use Rattle.cli.specs.Files.{AreSpelled, FileHolds, KeepsAllBut, SpellsClass};
 ghost use Rattle.cli.specs.ReadRefusals.{AreRefused, IsReadRefusal};
-ghost use Rattle.cli.specs.Status.{status_of};
 ghost use Rattle.cli.specs.declared.files.TheConstants.{MOST_BYTES};
 
 use crate::fault::Fault;
@@ -20,7 +19,7 @@ pub const MOST_FILES: usize = 256;
 pub const MOST_BYTES: usize = 1_048_576;
 
 /// Why a file by name can't be read or written.
-#[derive(Clone, Copy, PartialEq, Eq)]
+#[derive(Clone, Copy)]
 pub enum NamedFault {
     /// The file's own fault: it isn't there, can't be read, or can't be written.
     Io,
@@ -98,21 +97,4 @@ pub(crate) fn read_texts<'a, N: Named>(
         texts.push(text)?;
     }
     Ok(texts)
-}
-
-/// Writes a file.
-pub(crate) fn write_named<'a, N: Named>(
-    named: &mut N,
-    name: &'a str,
-    bytes: &[u8],
-) -> Result<(), Fault<'a>>
-    ensures bytes { OnOk result (FileHolds (N.held named.new) name.now (λ all. all ≡ bytes.now)) }
-    ensures files { KeepsAllBut (Some name.now) (N.held named.old) (N.held named.new) }
-    ensures refused { IfErr result (λ f. status_of f ≡ 3) }
-{
-    match named.write(name, bytes) {
-        Ok(()) => Ok(()),
-        Err(NamedFault::Io) => Err(Fault::Io(name)),
-        Err(NamedFault::Memory) => Err(Fault::Memory),
-    }
 }

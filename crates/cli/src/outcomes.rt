@@ -3,23 +3,13 @@
 ghost use Rattle.std.specs.Prelude.{◌≡◌, IfOk};
 ghost use Rattle.sequence.specs.Written.{Adds};
 ghost use Rattle.std.specs.List.{list_any};
-ghost use Rattle.cli.specs.Outcomes.{error_of as error_by, is_abrupt, outcome_line, outcome_text, outcomes_text, status_after};
+ghost use Rattle.cli.specs.Outcomes.{is_abrupt, outcome_line, outcome_text, outcomes_text, status_after};
 
 use hierarchy::{BuiltIn, ClassId, Program};
 use jasmin_words::integer::push_decimal;
 use sequence::Writer;
 use std::alloc::{AllocError, Global};
 use trace::{Limit, ThreadOutcome, write_class_name};
-
-/// The error by which the machine ends a thread.
-fn error_of(program: &Program, limit: Limit) -> ClassId
-    ensures { result ≡ error_by program.now limit }
-{
-    match limit {
-        Limit::Memory => program.built_in(BuiltIn::OutOfMemoryError),
-        Limit::Steps | Limit::Patience => program.built_in(BuiltIn::InternalError),
-    }
-}
 
 /// Writes the line of a thread that ended by this throwable.
 fn write_line(out: &mut Writer, program: &Program, thread: usize, throwable: ClassId)
@@ -39,7 +29,14 @@ fn write_outcome(out: &mut Writer, program: &Program, thread: usize, outcome: Th
     match outcome {
         ThreadOutcome::Normal => {}
         ThreadOutcome::Abrupt(throwable) => write_line(out, program, thread, throwable),
-        ThreadOutcome::Ended(limit) => write_line(out, program, thread, error_of(program, limit)),
+        ThreadOutcome::Ended(Limit::Memory) => {
+            let error = program.built_in(BuiltIn::OutOfMemoryError);
+            write_line(out, program, thread, error);
+        }
+        ThreadOutcome::Ended(Limit::Steps | Limit::Patience) => {
+            let error = program.built_in(BuiltIn::InternalError);
+            write_line(out, program, thread, error);
+        }
     }
 }
 

@@ -22,7 +22,7 @@ ghost use Rattle.cli.specs.Status.{IsStatus, status_of};
 
 use crate::checking::{Judged, check_named, status_of_verdict, write_judged};
 use crate::fault::Fault;
-use crate::files::{Named, read_texts, write_named};
+use crate::files::{Named, NamedFault, read_texts};
 use crate::limits::limits_of;
 use crate::needed::write_needs;
 use crate::orders::order_of;
@@ -66,7 +66,11 @@ fn write_traced<'a, N: Named>(
         return Ok(());
     };
     let text = write_trace(alloc, &ran.program, ran.report.events.as_slice())?;
-    write_named(named, name, &text)
+    match named.write(name, &text) {
+        Ok(()) => Ok(()),
+        Err(NamedFault::Io) => Err(Fault::Io(name)),
+        Err(NamedFault::Memory) => Err(Fault::Memory),
+    }
 }
 
 /// Tells how the threads of a run ended.
@@ -109,23 +113,6 @@ fn run_files<'a, R: Threads + Wait + Sync, N: Named>(
     }
 }
 
-/// Writes the output and the trace of a run.
-fn write_run<'a, N: Named, O: io::Write>(
-    alloc: Global,
-    ran: &ProgramRun,
-    trace: Option<&'a str>,
-    named: &mut N,
-    out: &mut O,
-) -> Result<(), Fault<'a>>
-    ensures written { OnOk result (HasWritten (around (N.held named.old) (O.contents out.old)) (around (N.held named.new) (O.contents out.new))
-        (text_of trace.entry) ran.now.program ran.now.report) }
-    ensures files { KeepsAllBut (text_of trace.entry) (N.held named.old) (N.held named.new) }
-    ensures refused { IfErr result (λ f. status_of f ≡ 3) }
-{
-    write_output(out, ran.report.output.as_slice())?;
-    write_traced(alloc, ran, trace, named)
-}
-
 /// Writes the output and the trace of a run, tells how its threads ended, and answers the exit status.
 fn report_run<'a, N: Named, O: io::Write, E: io::Write>(
     alloc: Global,
@@ -142,7 +129,8 @@ fn report_run<'a, N: Named, O: io::Write, E: io::Write>(
     ensures files { KeepsAllBut (text_of trace.entry) (N.held named.old) (N.held named.new) }
     ensures refused { IfErr result (λ f. status_of f ≡ 3) }
 {
-    write_run(alloc, ran, trace, named, out)?;
+    write_output(out, ran.report.output.as_slice())?;
+    write_traced(alloc, ran, trace, named)?;
     tell_outcomes(alloc, ran, err)?;
     Ok(status_of_outcomes(ran.report.outcomes.as_slice()))
 }

@@ -149,7 +149,6 @@ fn with_trace<'a>(
 }
 
 /// What a subcommand shows of the options, all of which it knows.
-#[derive(Drop)]
 struct Shown<'a> {
     /// What the trace is for; `--mains` and `--trace` are shown then.
     trace: Option<&'a str>,
@@ -168,9 +167,14 @@ fn subcommand<'a>(
     ensures rules { IfOk result (λ c. app_of c ≡ subcommand_named name.entry.now) }
     ensures local { IfOk result (λ c. (fields_of c).has_globals ≡ false) }
 {
+    let Shown {
+        trace,
+        explain,
+        run_options,
+    } = shown;
     let command = Command::new(alloc, name).about(about);
-    let command = with_trace(alloc, command, shown.trace, shown.explain)?;
-    let command = with_run_options(alloc, command, !shown.run_options)?;
+    let command = with_trace(alloc, command, trace, explain)?;
+    let command = with_run_options(alloc, command, !run_options)?;
     with_argument(command, files_argument(alloc))
 }
 

@@ -1,6 +1,6 @@
 //! From texts to types.
 
-ghost use Rattle.std.specs.Prelude.{◌≡◌, ◌≤◌, ℕ, List, length, IfOk, Ok};
+ghost use Rattle.std.specs.Prelude.{◌≡◌, ◌≤◌, length, IfOk, Ok};
 ghost use Rattle.descriptors.specs.Signature.{Signature};
 ghost use Rattle.descriptors.specs.Spelling.{field_spelling, method_spelling, IsFieldType, IsMethodType};
 ghost use Rattle.sequence.specs.Gives.{Gives};

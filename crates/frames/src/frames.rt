@@ -1,6 +1,6 @@
 //! One thread's frames.
 
-ghost use Rattle.std.specs.Prelude.{◌≡◌, ◌≢◌, ◌∷◌, ◌<◌, ◌≤◌, ◌+◌, [], List, true, false, IsTrue, IfNone, IfOk, IfSome, OnErr, OnOk, length, reverse, slice_get, vec_capacity, vec_len};
+ghost use Rattle.std.specs.Prelude.{◌≡◌, ◌≢◌, ◌∷◌, ◌<◌, ◌≤◌, ◌+◌, [], List, true, false, IfNone, IfSome, OnErr, OnOk, length, reverse, slice_get, vec_capacity, vec_len};
 ghost use Rattle.frames.specs.Activations.{Activation, activation, at_handler, at_place, called, can_replace, dropped, frames_in, has_room, IsEmptyWithout, in_innermost, left, next_place, operands_of, place_of, pushed, replaced};
 ghost use Rattle.frames.specs.Running.{GoesOn, IsAtNext};
 ghost use Rattle.frames.specs.declared.cell.Cell.TheVariants as cell;

@@ -3,9 +3,7 @@
 //! Enter by [`handler_at`]: the row of a method's handler table that catches an object of a class (JVMS SE 8 2.10, 4.7.3); and
 //! by [`replacement`]: what an initializer that throws an object of a class leaves (JLS SE 8 12.4.2 step 11).
 
-ghost use Rattle.std.specs.Prelude.{◌↔◌, ◌≡◌, IsTrue, IfSome, true, false};
-ghost use Rattle.hierarchy.specs.Hierarchy.{IsSubtype};
-ghost use Rattle.hierarchy.specs.LinkedProgram.{built_in as built_in_of};
+ghost use Rattle.std.specs.Prelude.{◌↔◌, IsTrue, true, false};
 ghost use Rattle.hierarchy.specs.declared.built_in.BuiltIn.TheVariants.{Error};
 ghost use Rattle.hierarchy.specs.Subclasses.{IsError};
 ghost use Rattle.frames.specs.Handlers.{IsCaughtBy, Fits, FirstFits};

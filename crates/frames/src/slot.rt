@@ -1,6 +1,6 @@
 //! One method's activation: its place, locals and operands.
 
-ghost use Rattle.std.specs.Prelude.{◌≡◌, ◌<◌, ◌≤◌, ◌+◌, ◌^◌, List, IsOk, OnOk, length, slice_get, true, false};
+ghost use Rattle.std.specs.Prelude.{◌≡◌, ◌<◌, ◌≤◌, ◌+◌, ◌^◌, IsOk, OnOk, length, slice_get, true, false};
 ghost use Rattle.frames.specs.Running.{Goes, IsAtNext, Stops};
 ghost use Rattle.frames.specs.Activations.{activation, arguments, at_handler, at_place, dropped, has_room_in, in_frame, next_place, place_in, pushed, replaced};
 ghost use Rattle.frames.specs.declared.cell.Cell.TheVariants as cell;

@@ -184,14 +184,14 @@ fn start_all<'s, 'a: 's, E: 's, R: Threads + Wait + Sync, G: Gate + Sync, B: Bod
     'starting: for job in jobs {
         let started = start(scope, rt, alloc, plan, gate, signals, job);
         let Ok(child) = started else {
-            signals.call_off();
+            signals.tell_start(false);
             return Err(RunFault::NoThread);
         };
         let Ok(()) = children.push(child) else {
             unreachable!();
         };
     }
-    signals.begin();
+    signals.tell_start(true);
     Ok(children)
 }
 

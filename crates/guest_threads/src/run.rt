@@ -1,6 +1,6 @@
 //! All threads, each on a host thread of its own.
 
-ghost use Rattle.std.specs.Prelude.{◌≡◌, ℕ, ◌<◌, ◌≤◌, IfOk, vec_len, length};
+ghost use Rattle.std.specs.Prelude.{◌≡◌, ◌<◌, ◌≤◌, IfOk, vec_len, length};
 ghost use Rattle.bodies.specs.Runs.{AreMains, IsRunOf};
 ghost use Rattle.guest_threads.specs.Working.{ArePrepared};
 
@@ -18,7 +18,7 @@ use std::thread::Threads;
 use trace::{Limits, Report};
 
 /// Why there is no run.
-#[derive(Clone, Copy, PartialEq, Eq)]
+#[derive(Clone, Copy)]
 pub enum RunFault {
     /// A host thread can't be started.
     NoThread,

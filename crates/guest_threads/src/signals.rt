@@ -18,6 +18,11 @@ const CALLED_OFF: u64 = 2;
 /// Threads by their numbers, a bit each.
 pub(crate) type ThreadSet = u16;
 
+/// What a thread sleeps by, whatever its number.
+fn parker(_thread: usize) -> Parker {
+    Parker::new()
+}
+
 /// The signals of one run.
 #[derive(Drop)]
 pub(crate) struct Signals {
@@ -29,18 +34,14 @@ impl Signals {
     pub(crate) fn new() -> Self {
         Signals {
             start: AtomicU64::new(HELD),
-            parkers: array::from_fn(|_| Parker::new()),
+            parkers: array::from_fn(parker),
         }
     }
 
-    /// All threads are started.
-    pub(crate) fn begin(&self) {
-        self.start.store(BEGUN, Ordering::SeqCst);
-    }
-
-    /// One can't be: the others end at once.
-    pub(crate) fn call_off(&self) {
-        self.start.store(CALLED_OFF, Ordering::SeqCst);
+    /// All threads are started, and begin; or one can't be, and the others end at once.
+    pub(crate) fn tell_start(&self, begins: bool) {
+        let word = if begins { BEGUN } else { CALLED_OFF };
+        self.start.store(word, Ordering::SeqCst);
     }
 
     /// Waits until all threads are started, or one can't be, and answers whether this one shall begin.
@@ -72,11 +73,4 @@ impl Signals {
             rest >>= 1;
         }
     }
-}
-
-/// These threads and one more.
-pub(crate) fn with_thread(threads: ThreadSet, thread: usize) -> ThreadSet
-    requires { thread < THREADS }
-{
-    threads | 1 << thread
 }

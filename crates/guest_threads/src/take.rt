@@ -10,7 +10,6 @@ ghost use Rattle.guest_threads.specs.Drawing.{MayDraw};
 ghost use Rattle.guest_threads.specs.Working.{Works, Took, GaveBack, IsUnmoved, drawn};
 
 use crate::guarded::Guarded;
-use crate::signals::with_thread;
 use hierarchy::{ClassId, Program};
 use init_core::Event;
 use init_lock::{GaveUp, Held, InitTable, Pass};
@@ -101,6 +100,6 @@ pub(crate) fn give_back_asleep(
     ensures room { pass.new.room ≡ pass.old.room }
 {
     let guarded = held.kept();
-    guarded.sleepers = with_thread(guarded.sleepers, thread);
+    guarded.sleepers |= 1 << thread;
     table.give_back(pass, held);
 }

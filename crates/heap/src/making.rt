@@ -1,6 +1,6 @@
 //! Making objects and arrays.
 
-ghost use Rattle.std.specs.Prelude.{◌≡◌, ◌↔◌, ◌+◌, ◌∷◌, ◌++◌, ◌<◌, ◌≤◌, [], true, IfOk, IsTrue, OnErr, OnOk};
+ghost use Rattle.std.specs.Prelude.{◌≡◌, ◌+◌, ◌∷◌, ◌++◌, ◌<◌, [], true, IfOk, IsTrue, OnErr, OnOk};
 ghost use Rattle.hierarchy.specs.declared.built_in.BuiltIn.TheVariants.{ExceptionInInitializerError};
 ghost use Rattle.heap.specs.Objects.{cells_of, has_cells as has_cells_of, is_no_class as is_no_class_of, new_array as new_array_of, new_object as new_object_of, next_reference, ready_no_class, ready_out_of_memory, reference_of_new, thrown_by, with_new, with_thrown};
 

@@ -2,7 +2,7 @@
 
 ghost use Rattle.std.specs.Prelude.{◌≡◌, ◌≤◌, ◌⊎◌, length, IfOk, IfErr, Ok, Err};
 ghost use Rattle.std.specs.List.{list_any};
-ghost use Rattle.hierarchy.specs.Linking.{is_default, class_from, classes_from, class_of, fault, Gives};
+ghost use Rattle.hierarchy.specs.Linking.{is_default, class_from, classes_from, class_of, Gives};
 ghost use Rattle.hierarchy.specs.declared.fault.LinkFaultKind.TheVariants as because;
 
 use crate::class::{Class, ClassId};
@@ -13,17 +13,18 @@ use sequence::Sequence;
 use std::alloc::Global;
 use texts::Texts;
 
-/// Whether a method is neither abstract nor static.
-fn is_default_method(method: &Method) -> bool
-    ensures { result ≡ is_default method.now }
-{
-    !method.access.is_abstract && !method.access.is_static
-}
-
+/// Whether one of these methods is neither abstract nor static.
 fn declares_default(methods: &[Method]) -> bool
     ensures { result ≡ list_any is_default methods.now }
 {
-    methods.iter().any(is_default_method)
+    let mut rest = methods;
+    while let [method, after @ ..] = rest {
+        if !method.access.is_abstract && !method.access.is_static {
+            return true;
+        }
+        rest = after;
+    }
+    false
 }
 
 /// The class of a text with these supertypes. Takes no memory.

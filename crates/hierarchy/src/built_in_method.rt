@@ -1,13 +1,13 @@
 //! The methods of the built-in classes.
 
 ghost use Rattle.std.specs.Prelude.{◌≡◌};
-ghost use Rattle.hierarchy.specs.BuiltInMethods.{argument_of_element, argument_of_type, argument_of, object_method, throwable_method, print_method, print_line_method, stream_method, built_in_method as built_in_method_of};
+ghost use Rattle.hierarchy.specs.BuiltInMethods.{argument_of_element, argument_of, throwable_method, stream_method, built_in_method as built_in_method_of};
 
 use crate::built_in::BuiltIn;
-use descriptors::{BaseType, ElementType, FieldType, MethodType};
+use descriptors::{BaseType, ElementType, MethodType};
 
 /// What a method of java/io/PrintStream prints.
-#[derive(Clone, Copy, PartialEq, Eq)]
+#[derive(Clone, Copy)]
 pub enum Printed {
     /// An int, as a decimal.
     Int,
@@ -20,7 +20,7 @@ pub enum Printed {
 }
 
 /// A method of a built-in class. All are public instance methods with a body.
-#[derive(Clone, Copy, PartialEq, Eq)]
+#[derive(Clone, Copy)]
 pub enum BuiltInMethod {
     /// `<init>()V` of java/lang/Object and of each throwable.
     Init,
@@ -63,16 +63,6 @@ fn argument_of_element_type(element: &ElementType) -> Argument
     }
 }
 
-fn argument_of_field_type(field_type: &FieldType) -> Argument
-    ensures { result ≡ argument_of_type field_type.now }
-{
-    if field_type.dimensions == 0 {
-        argument_of_element_type(&field_type.element)
-    } else {
-        Argument::Other
-    }
-}
-
 fn argument_taken(method_type: &MethodType) -> Argument
     ensures { result ≡ argument_of method_type.now }
 {
@@ -80,22 +70,15 @@ fn argument_taken(method_type: &MethodType) -> Argument
         Some(_) => Argument::Other,
         None => match method_type.parameters() {
             [] => Argument::Nothing,
-            [parameter] => argument_of_field_type(parameter),
+            [parameter] => {
+                if parameter.dimensions == 0 {
+                    argument_of_element_type(&parameter.element)
+                } else {
+                    Argument::Other
+                }
+            }
             _ => Argument::Other,
         },
-    }
-}
-
-/// The method of java/lang/Object of that name and descriptor.
-fn method_of_object(name: &[u8], argument: Argument) -> Option<BuiltInMethod>
-    ensures { result ≡ object_method name.now argument }
-{
-    if name != b"<init>".as_slice() {
-        return None;
-    }
-    match argument {
-        Argument::Nothing => Some(BuiltInMethod::Init),
-        _ => None,
     }
 }
 
@@ -113,33 +96,21 @@ fn method_of_throwable(name: &[u8], argument: Argument) -> Option<BuiltInMethod>
     }
 }
 
-fn print(argument: Argument) -> Option<BuiltInMethod>
-    ensures { result ≡ print_method argument }
-{
-    match argument {
-        Argument::One(printed) => Some(BuiltInMethod::Print(printed)),
-        _ => None,
-    }
-}
-
-fn print_line(argument: Argument) -> Option<BuiltInMethod>
-    ensures { result ≡ print_line_method argument }
-{
-    match argument {
-        Argument::Nothing => Some(BuiltInMethod::PrintLineAlone),
-        Argument::One(printed) => Some(BuiltInMethod::PrintLine(printed)),
-        Argument::Other => None,
-    }
-}
-
 /// The method of java/io/PrintStream of that name and descriptor.
 fn method_of_stream(name: &[u8], argument: Argument) -> Option<BuiltInMethod>
     ensures { result ≡ stream_method name.now argument }
 {
     if name == b"print".as_slice() {
-        print(argument)
+        match argument {
+            Argument::One(printed) => Some(BuiltInMethod::Print(printed)),
+            _ => None,
+        }
     } else if name == b"println".as_slice() {
-        print_line(argument)
+        match argument {
+            Argument::Nothing => Some(BuiltInMethod::PrintLineAlone),
+            Argument::One(printed) => Some(BuiltInMethod::PrintLine(printed)),
+            Argument::Other => None,
+        }
     } else {
         None
     }
@@ -155,7 +126,15 @@ pub(crate) fn built_in_method(
 {
     let argument = argument_taken(method_type);
     match class {
-        BuiltIn::Object => method_of_object(name, argument),
+        BuiltIn::Object => {
+            if name != b"<init>".as_slice() {
+                return None;
+            }
+            match argument {
+                Argument::Nothing => Some(BuiltInMethod::Init),
+                _ => None,
+            }
+        }
         BuiltIn::System | BuiltIn::String => None,
         BuiltIn::PrintStream => method_of_stream(name, argument),
         _ => method_of_throwable(name, argument),

@@ -1,6 +1,6 @@
 //! Lists of classes that a program keeps.
 
-ghost use Rattle.std.specs.Prelude.{◌≡◌, [], length};
+ghost use Rattle.std.specs.Prelude.{◌≡◌, []};
 ghost use Rattle.hierarchy.specs.ClassNumbers.{classes_in};
 
 use crate::class::ClassId;
@@ -15,7 +15,6 @@ impl Iterator for ClassList<'_> {
     type Item = ClassId;
 
     ghost use Rattle.std.specs.Iterator.{YieldsFirst, item_count};
-    ghost use Rattle.hierarchy.specs.ClassNumbers.{classes_in};
 
     ghost next_gives = { YieldsFirst classes_in };
 
@@ -40,12 +39,5 @@ impl ClassList<'_> {
         ensures { classes_in result ≡ [] }
     {
         ClassList { numbers: &[] }
-    }
-
-    /// How many classes there are.
-    pub(crate) fn len(&self) -> usize
-        ensures { result ≡ length (classes_in self.now) }
-    {
-        self.numbers.len()
     }
 }

@@ -2,8 +2,7 @@
 
 ghost use Rattle.std.specs.Prelude.{◌≡◌};
 ghost use Rattle.hierarchy.specs.MemberOrder.{key_of_method, AreSortedPlaces};
-ghost use Rattle.hierarchy.specs.BuiltInMethods.{built_in_method as built_in_method_of};
-ghost use Rattle.hierarchy.specs.Methods.{method_from, of_built_in, declared_method, counts as counts_as, if_counted, counted_method};
+ghost use Rattle.hierarchy.specs.Methods.{method_from, declared_method, counts as counts_as, counted_method};
 
 use crate::built_in::BuiltIn;
 use crate::built_in_method::{BuiltInMethod, built_in_method};
@@ -14,7 +13,7 @@ use descriptors::MethodType;
 use jasmin_text::{Access, Method};
 
 /// A method of a program.
-#[derive(Clone, Copy, PartialEq, Eq)]
+#[derive(Clone, Copy)]
 pub enum MethodId {
     /// A method of a file's class: the class that declares it, and the method's place among those of the class.
     Declared(ClassId, usize),
@@ -88,23 +87,6 @@ fn method_among(
     })
 }
 
-/// The method of that name and descriptor that a built-in class declares.
-fn method_of_built_in(
-    class: BuiltIn,
-    name: &[u8],
-    method_type: &MethodType,
-) -> Option<DeclaredMethod>
-    ensures { result ≡ of_built_in class (built_in_method_of class name.now method_type.now) }
-{
-    match built_in_method(class, name, method_type) {
-        Some(method) => Some(DeclaredMethod {
-            id: MethodId::BuiltIn(class, method),
-            access: PUBLIC,
-        }),
-        None => None,
-    }
-}
-
 impl Program {
     /// The method of that name and descriptor that a class declares.
     pub(crate) fn declared_method(
@@ -124,7 +106,13 @@ impl Program {
                 method_type,
             ),
             None => match self.built_in_at(id) {
-                Some(class) => method_of_built_in(class, name, method_type),
+                Some(class) => match built_in_method(class, name, method_type) {
+                    Some(method) => Some(DeclaredMethod {
+                        id: MethodId::BuiltIn(class, method),
+                        access: PUBLIC,
+                    }),
+                    None => None,
+                },
                 None => None,
             },
         }

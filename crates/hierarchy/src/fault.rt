@@ -7,7 +7,7 @@ use std::fmt;
 /// Why class texts can't be linked (JVMS SE 8 5.3.5, 5.4).
 ///
 /// A kind prints as the code by which the program names it, `H1` to `H9`.
-#[derive(Clone, Copy, Debug, PartialEq, Eq)]
+#[derive(Clone, Copy, Debug)]
 pub enum LinkFaultKind {
     /// `H1`: two classes have one name. Told of the second of them.
     RepeatedName,
@@ -51,10 +51,15 @@ impl Error for LinkFaultKind {}
 
 /// Why classes can't be linked, and the name of the class whose file is at fault. Where memory ran out the
 /// class is one of those that were handed in.
-#[derive(Drop)]
 pub struct LinkFault {
     /// What is wrong.
     pub kind: LinkFaultKind,
     /// The class whose file is at fault.
     pub class: ClassName,
+}
+
+impl Drop for LinkFault {
+    fn drop(self) {
+        let Self { kind: _, class: _ } = self;
+    }
 }

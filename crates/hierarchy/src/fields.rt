@@ -5,7 +5,7 @@ ghost use Rattle.hierarchy.specs.Ops.{is_static_field};
 ghost use Rattle.hierarchy.specs.Ancestry.{first_given, superclasses};
 ghost use Rattle.hierarchy.specs.ClassNumbers.{classes_in};
 ghost use Rattle.hierarchy.specs.MemberOrder.{key_of_field, AreSortedPlaces};
-ghost use Rattle.hierarchy.specs.Fields.{field_order, field_from, is_class_element as is_class_element_of, is_class_type, is_out, built_in_field, declared_field, is_of_kind, resolved_field};
+ghost use Rattle.hierarchy.specs.Fields.{field_order, field_from, is_class_element as is_class_element_of, is_out, built_in_field, declared_field, resolved_field};
 
 use crate::built_in::BuiltIn;
 use crate::class::ClassId;
@@ -16,7 +16,7 @@ use descriptors::{ElementType, FieldType};
 use jasmin_text::Field;
 
 /// A field of a program.
-#[derive(Clone, Copy, PartialEq, Eq)]
+#[derive(Clone, Copy)]
 pub enum FieldId {
     /// A field of a file's class: the class that declares it, and the field's place among those of the class.
     Declared(ClassId, usize),
@@ -25,7 +25,7 @@ pub enum FieldId {
 }
 
 /// Which kind of field an instruction wants (JVMS SE 8 chapter 6).
-#[derive(Clone, Copy, PartialEq, Eq)]
+#[derive(Clone, Copy)]
 pub enum FieldKind {
     /// A class variable, as `getstatic` and `putstatic` want it.
     Static,
@@ -93,18 +93,13 @@ pub(crate) fn is_class_element(name: &[u8], element: &ElementType) -> bool
     }
 }
 
-/// Whether a type is the class of that internal name.
-pub(crate) fn is_class(name: &[u8], field_type: &FieldType) -> bool
-    ensures { result ≡ is_class_type name.now field_type.now }
-{
-    field_type.dimensions == 0 && is_class_element(name, &field_type.element)
-}
-
 /// Whether these are the name and descriptor of java/lang/System's field.
 fn names_out(name: &[u8], field_type: &FieldType) -> bool
     ensures { result ≡ is_out name.now field_type.now }
 {
-    name == b"out".as_slice() && is_class(b"java/io/PrintStream", field_type)
+    name == b"out".as_slice()
+        && field_type.dimensions == 0
+        && is_class_element(b"java/io/PrintStream", &field_type.element)
 }
 
 /// The field of that name and descriptor that a built-in class declares.
@@ -127,17 +122,6 @@ fn field_of_built_in(
             }
         }
         _ => None,
-    }
-}
-
-impl DeclaredField {
-    fn is(self, kind: FieldKind) -> bool
-        ensures { result ≡ is_of_kind kind self }
-    {
-        match kind {
-            FieldKind::Static => self.is_static,
-            FieldKind::Instance => !self.is_static,
-        }
     }
 }
 
@@ -226,13 +210,12 @@ impl Program {
     {
         match self.found_field(name, field_type, class) {
             None => Err(BuiltIn::NoSuchFieldError),
-            Some(field) => {
-                if field.is(kind) {
-                    Ok(field.id)
-                } else {
-                    Err(BuiltIn::IncompatibleClassChangeError)
-                }
-            }
+            Some(field) => match (kind, field.is_static) {
+                (FieldKind::Static, true) => Ok(field.id),
+                (FieldKind::Static, false) => Err(BuiltIn::IncompatibleClassChangeError),
+                (FieldKind::Instance, true) => Err(BuiltIn::IncompatibleClassChangeError),
+                (FieldKind::Instance, false) => Ok(field.id),
+            },
         }
     }
 }

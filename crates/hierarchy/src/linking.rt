@@ -1,6 +1,6 @@
 //! Class texts linked to a program.
 
-ghost use Rattle.std.specs.Prelude.{◌≡◌, ◌⊎◌, ℕ, ◌+◌, ◌<◌, ◌≤◌, Some, None, Ok, Err, IfOk, IfErr, length, position, slice_get, vec_len};
+ghost use Rattle.std.specs.Prelude.{◌≡◌, ◌⊎◌, ℕ, ◌<◌, ◌≤◌, Some, IfOk, IfErr, length, position, slice_get, vec_len};
 ghost use Rattle.std.specs.List.{All};
 ghost use Rattle.jasmin_text.specs.Spellable.{IsSpellable};
 ghost use Rattle.hierarchy.specs.LinkedProgram.{linked, class_names};
@@ -14,7 +14,7 @@ ghost use Rattle.hierarchy.specs.MemberPlaces.{HavePlaces};
 ghost use Rattle.hierarchy.specs.Tables.{AreTables};
 ghost use Rattle.hierarchy.specs.Code.{code_of as code_of_program};
 ghost use Rattle.hierarchy.specs.SelectionTable.{AreSelectionsOf};
-ghost use Rattle.hierarchy.specs.Linking.{names_of, kinds_of, classes_of, classes_from, IsFirst, IsRepeated};
+ghost use Rattle.hierarchy.specs.Linking.{names_of, kinds_of, IsFirst};
 ghost use Rattle.hierarchy.specs.FirstFault.{HasNames, IsNameFault, HasNoCycle, HasDistinctMembers, FitsHeap, IsClassFault, IsFirstFault, LinksTo, IsMemory, name_in_text, name_in_class};
 ghost use Rattle.hierarchy.specs.declared.fault.LinkFaultKind.TheVariants as because;
 

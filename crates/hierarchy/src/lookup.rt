@@ -1,10 +1,8 @@
 //! Where methods are looked up: superclasses, and maximally specific superinterface methods.
 
 ghost use Rattle.std.specs.Prelude.{◌≡◌};
-ghost use Rattle.std.specs.List.{list_any, filter, filter_map};
-ghost use Rattle.hierarchy.specs.Ancestry.{first_given};
 ghost use Rattle.hierarchy.specs.ClassNumbers.{classes_in};
-ghost use Rattle.hierarchy.specs.Methods.{counted_method, method_of_superclasses, all_superinterfaces, first_superinterface_method, is_overridden, specific_method, is_concrete, concrete_specific};
+ghost use Rattle.hierarchy.specs.Methods.{method_of_superclasses, first_superinterface_method, is_overridden, specific_method, concrete_specific};
 ghost use Rattle.hierarchy.specs.Found.{found_of};
 
 use crate::class::ClassId;

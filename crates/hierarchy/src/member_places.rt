@@ -1,6 +1,6 @@
 //! Where the members of each class are found by name and type, and members that a class declares twice.
 
-ghost use Rattle.std.specs.Prelude.{◌≡◌, ◌≤◌, true, false, IfOk, IfSome, length, is_none};
+ghost use Rattle.std.specs.Prelude.{◌≡◌, IfOk, IfSome, is_none};
 ghost use Rattle.hierarchy.specs.Members.{same_field_member, same_method_member, repeats};
 ghost use Rattle.hierarchy.specs.MemberOrder.{key_of_field, key_of_method, AreSortedPlaces};
 ghost use Rattle.hierarchy.specs.MemberPlaces.{places_below, IsPlacesResult, IsSearchResult};

@@ -1,7 +1,7 @@
 //! Method resolution.
 
 ghost use Rattle.std.specs.Prelude.{◌≡◌};
-ghost use Rattle.hierarchy.specs.MethodResolution.{method_of_superinterfaces, kind_of, found_method, may_name as may_be_named_by, declaring_class, is_init as has_init_name, suits as suits_as, is_inherited_init, method_result, resolved_method};
+ghost use Rattle.hierarchy.specs.MethodResolution.{method_of_superinterfaces, kind_of, found_method, may_name as may_be_named_by, declaring_class, is_init as has_init_name, suits as suits_as, is_inherited_init, resolved_method};
 
 use crate::built_in::BuiltIn;
 use crate::class::ClassId;
@@ -12,7 +12,7 @@ use descriptors::MethodType;
 use jasmin_text::ClassKind;
 
 /// An instruction that calls a method (JVMS SE 8 6.5).
-#[derive(Clone, Copy, PartialEq, Eq)]
+#[derive(Clone, Copy)]
 pub enum Invoke {
     /// `invokestatic`
     Static,
@@ -128,30 +128,6 @@ impl Program {
         }
     }
 
-    /// What the instruction makes of the method that is found.
-    fn method_result(
-        &self,
-        how: Invoke,
-        class: ClassId,
-        name: &[u8],
-        found: Option<DeclaredMethod>,
-    ) -> Result<MethodId, BuiltIn>
-        ensures { result ≡ method_result self.now how class name.now found }
-    {
-        match found {
-            None => Err(BuiltIn::NoSuchMethodError),
-            Some(method) => {
-                if self.is_inherited_init(how, class, name, method) {
-                    Err(BuiltIn::NoSuchMethodError)
-                } else if how.suits(method) {
-                    Ok(method.id)
-                } else {
-                    Err(BuiltIn::IncompatibleClassChangeError)
-                }
-            }
-        }
-    }
-
     /// The method that a reference to a class, a name and a descriptor names, for an instruction
     /// (JVMS SE 8 5.4.3.3, 5.4.3.4).
     ///
@@ -173,11 +149,20 @@ impl Program {
     ) -> Result<MethodId, BuiltIn>
         ensures { result ≡ resolved_method self.now how class name.now method_type.now }
     {
-        if how.may_name(self.kind_of(class)) {
-            let found = self.found_method(name, method_type, class);
-            self.method_result(how, class, name, found)
-        } else {
-            Err(BuiltIn::IncompatibleClassChangeError)
+        if !how.may_name(self.kind_of(class)) {
+            return Err(BuiltIn::IncompatibleClassChangeError);
+        }
+        match self.found_method(name, method_type, class) {
+            None => Err(BuiltIn::NoSuchMethodError),
+            Some(method) => {
+                if self.is_inherited_init(how, class, name, method) {
+                    Err(BuiltIn::NoSuchMethodError)
+                } else if how.suits(method) {
+                    Ok(method.id)
+                } else {
+                    Err(BuiltIn::IncompatibleClassChangeError)
+                }
+            }
         }
     }
 }

@@ -1,6 +1,6 @@
 //! The classes' own names and kinds, before anything else of them is looked at.
 
-ghost use Rattle.std.specs.Prelude.{◌≡◌, ℕ, ◌<◌, [], map, position, IfOk, IfNone, IfSome};
+ghost use Rattle.std.specs.Prelude.{◌≡◌, ℕ, [], position, IfOk, IfNone, IfSome};
 ghost use Rattle.hierarchy.specs.Linking.{is_reserved, names_of, kinds_of, IsRepeated, IsFirst};
 
 use jasmin_text::{ClassKind, ClassParts};

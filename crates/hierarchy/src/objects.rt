@@ -1,7 +1,7 @@
 //! The cells of objects.
 
 ghost use Rattle.std.specs.Prelude.{◌≡◌, ◌≤◌, filter, length, slice_get, IfSome, Some};
-ghost use Rattle.hierarchy.specs.Objects.{is_instance_field, own_instance_fields, object_fields, cells_in, field_cell};
+ghost use Rattle.hierarchy.specs.Objects.{is_instance_field, object_fields, cells_in, field_cell};
 ghost use Rattle.hierarchy.specs.Ancestry.{superclass_of};
 ghost use Rattle.hierarchy.specs.declared.fields.FieldId.TheVariants.{Declared};
 

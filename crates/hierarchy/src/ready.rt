@@ -7,7 +7,7 @@ use crate::program::Program;
 
 /// An object that is there before a program runs, with the reference of its place here from 0 on; behind the first
 /// three each quoted text has one.
-#[derive(Clone, Copy, PartialEq, Eq)]
+#[derive(Clone, Copy)]
 pub enum ReadyObject {
     /// What java/lang/System.out holds.
     Out,

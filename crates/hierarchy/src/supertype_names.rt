@@ -1,8 +1,7 @@
 //! The names of supertypes, resolved.
 
-ghost use Rattle.std.specs.Prelude.{◌≡◌, ◌≤◌, ◌⊎◌, IfOk, IfErr, map};
+ghost use Rattle.std.specs.Prelude.{◌≡◌, ◌≤◌};
 ghost use Rattle.hierarchy.specs.Supertypes.{known, superclass_id, interface_id, interface_ids, MemoryOr};
-ghost use Rattle.hierarchy.specs.declared.fault.LinkFaultKind.TheVariants as because;
 
 use crate::built_in::BuiltIn;
 use crate::class::ClassId;

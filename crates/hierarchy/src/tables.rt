@@ -9,8 +9,7 @@ ghost use Rattle.hierarchy.specs.Superinterfaces.{IsTable, superinterfaces as su
 ghost use Rattle.hierarchy.specs.UpwardOrder.{IsUpwardOrder};
 ghost use Rattle.hierarchy.specs.MemberPlaces.{HavePlaces};
 ghost use Rattle.hierarchy.specs.Tables.{AreTables};
-ghost use Rattle.hierarchy.specs.LinkedProgram.{linked};
-ghost use Rattle.hierarchy.specs.Objects.{HaveFewFields, object_fields};
+ghost use Rattle.hierarchy.specs.Objects.{HaveFewFields};
 ghost use Rattle.hierarchy.specs.Quoted.{quoted_texts, cells_of};
 
 use crate::class::{Class, ClassId};

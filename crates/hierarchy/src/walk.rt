@@ -19,7 +19,6 @@ impl Iterator for Superclasses<'_> {
     type Item = ClassId;
 
     ghost use Rattle.std.specs.Iterator.{YieldsFirst, item_count};
-    ghost use Rattle.hierarchy.specs.Walking.{left};
 
     ghost next_gives = { YieldsFirst left };
 

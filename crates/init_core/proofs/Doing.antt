@@ -1,5 +1,5 @@
 -- What one thread knows after what a body does, of a class or of main.
-use Rattle.std.proofs.Common.{◌≡◌, ℕ, List, [], ◌∷◌, ◌++◌, Option, Some, None, Bool, true, false, ◌==◌, refl, sym, ap, subst, append-nil, append_assoc, ◌∙◌}
+use Rattle.std.proofs.Common.{◌≡◌, ℕ, List, [], ◌∷◌, ◌++◌, Option, Some, None, true, false, refl, sym, subst, append-nil, append_assoc, ◌∙◌}
 use Rattle.hierarchy.specs.declared.class.ClassId.{ClassId}
 use Rattle.hierarchy.specs.LinkedProgram.{LinkedProgram}
 use Rattle.init_core.specs.declared.event.Event.{Event}
@@ -19,11 +19,10 @@ use Rattle.init_core.specs.Label.{label_of}
 use Rattle.init_core.specs.Lawful.{MayUse}
 use Rattle.init_core.specs.Leads.{frame, standing, LeadsOf, idle}
 use Rattle.init_core.specs.MainWord.{BeforeMainOf, BeforeItemOf, MainItemsOf, main_items, MainDoneOf, main_done}
-use Rattle.init_core.specs.ProcedureWord.{Maker, Word, ItemsOf, no_items, uses, prints, completed, printed, GoesOn, IsUse}
+use Rattle.init_core.specs.ProcedureWord.{Maker, Word, no_items, uses, prints, completed, printed, GoesOn, IsUse}
 use Rattle.init_core.specs.Stands.{begun_classes, StandsOf, StandsBeforeMain, StandsInMain, SeesMore}
 use Rattle.init_core.proofs.Knowing.{request_calm, request_error}
 use Rattle.init_core.proofs.Leading.{has_used, has_printed}
-use Rattle.init_core.proofs.Mains.{goes_item_of}
 use Rattle.init_core.proofs.Seeing.{AreMine, mine_still, calm}
 
 -- a read or a write is no wait, and leaves the label

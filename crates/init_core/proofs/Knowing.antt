@@ -1,8 +1,6 @@
 -- What each step of a thread leaves of what it knows, and what other threads leave of it.
-use Rattle.std.proofs.Common.{◌≡◌, ◌≢◌, ℕ, List, [], ◌∷◌, ◌++◌, Option, Some, None, Bool, true, false, ◌==◌, eq-eqb, refl, sym, ap, subst, append-nil, append_assoc, ◌∙◌}
-use Rattle.std.specs.Prelude.{if◌then◌else◌}
+use Rattle.std.proofs.Common.{◌≡◌, ◌≢◌, ℕ, List, [], ◌∷◌, ◌++◌, Option, Some, None, Bool, true, false, ◌==◌, refl, sym, ap, subst, ◌∙◌}
 use Rattle.std.specs.List.{AllByRecursion}
-use Rattle.std.proofs.lemmas.Bool.{ne_eqb, eqb-true}
 use Rattle.hierarchy.specs.declared.class.ClassId.{ClassId}
 use Rattle.hierarchy.specs.LinkedProgram.{LinkedProgram}
 use Rattle.init_core.specs.Needs.{needs}
@@ -10,7 +8,7 @@ use Rattle.init_core.specs.declared.event.Event.{Event}
 use Rattle.init_core.specs.declared.event.Kind.{Kind}
 use Rattle.init_core.specs.declared.event.Kind.TheVariants as kind
 use Rattle.init_core.specs.declared.event.Label.{Label}
-use Rattle.init_core.specs.declared.event.Label.TheVariants.{Prepared, InProgress}
+use Rattle.init_core.specs.declared.event.Label.TheVariants.{InProgress}
 use Rattle.init_core.specs.declared.procedure.Answer.{Answer}
 use Rattle.init_core.specs.declared.frames.Completed.{Completed}
 use Rattle.init_core.specs.declared.frames.Ending.{Ending}
@@ -21,7 +19,7 @@ use Rattle.init_core.specs.declared.frames.Outcome.TheVariants.{Normal, Abrupt, 
 use Rattle.init_core.specs.declared.frames.Phase.{Phase}
 use Rattle.init_core.specs.declared.frames.Phase.TheVariants.{Looking, Needing, Running, EndingBy}
 use Rattle.init_core.specs.Advance.{Advances, step_2, still_step_2, step_3, step_4, step_5, step_6, leaves_body, ends_class, gives_up_look, gives_up_begun, gives_up_body, FitsBody, MayRequest, after_in, after_needs, after_word, ending_of, is_by_machine, is_waiting}
-use Rattle.init_core.specs.Decisions.{event, is_wait, waits, waits_from}
+use Rattle.init_core.specs.Decisions.{event, is_wait, waits}
 use Rattle.init_core.specs.Interleaving.{of_class}
 use Rattle.init_core.specs.Label.{label_of}
 use Rattle.init_core.specs.Lawful.{MayUse}
@@ -30,9 +28,7 @@ use Rattle.init_core.specs.ProcedureWord.{Maker, Word, completed, ended_by, give
 use Rattle.init_core.specs.Standing.{Standing}
 use Rattle.init_core.specs.Stands.{begun_in, begun_classes, AreDifferent, NamesFiles, ending_error, ending_error_in, StandsOf, SeesMore, AreOfOthers}
 use Rattle.init_core.proofs.NeedsAbove.{needs_in_files}
-use Rattle.init_core.proofs.Labels.{label_after}
 use Rattle.init_core.specs.ClassState.{next_label}
-use Rattle.init_core.proofs.States.{waits_more}
 use Rattle.init_core.proofs.Leading.{Makes, is_answered, is_requested, has_run}
 use Rattle.init_core.proofs.Seeing.{AreMine, all_mine, stays_so, waits_others_from, none_is, mine_same, waits_same, allowed, label_here, mine_still, mine_but, waits_at, calm}
 

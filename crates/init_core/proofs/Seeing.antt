@@ -1,40 +1,23 @@
 -- What a thread has seen of each class, with the events that are seen besides.
-use Rattle.std.proofs.Common.{◌≡◌, ◌≢◌, ℕ, List, [], ◌∷◌, ◌++◌, Option, Some, None, Bool, true, false, ◌==◌, eq-eqb, refl, sym, ap, subst, append-nil, append_assoc, ◌∙◌}
+use Rattle.std.proofs.Common.{◌≡◌, ◌≢◌, ℕ, List, [], ◌∷◌, ◌++◌, Bool, true, false, ◌==◌, eq-eqb, refl, sym, ap, subst, append-nil, append_assoc, ◌∙◌}
 use Rattle.std.specs.Prelude.{if◌then◌else◌}
 use Rattle.std.specs.List.{AllByRecursion}
 use Rattle.std.proofs.lemmas.Bool.{ne_eqb, eqb-true}
 use Rattle.hierarchy.specs.declared.class.ClassId.{ClassId}
-use Rattle.hierarchy.specs.LinkedProgram.{LinkedProgram}
-use Rattle.init_core.specs.Needs.{needs}
 use Rattle.init_core.specs.declared.event.Event.{Event}
 use Rattle.init_core.specs.declared.event.Kind.{Kind}
 use Rattle.init_core.specs.declared.event.Kind.TheVariants as kind
 use Rattle.init_core.specs.declared.event.Label.{Label}
 use Rattle.init_core.specs.declared.event.Label.TheVariants.{Prepared, InProgress, Initialized, Erroneous}
-use Rattle.init_core.specs.declared.procedure.Answer.{Answer}
-use Rattle.init_core.specs.declared.frames.Completed.{Completed}
-use Rattle.init_core.specs.declared.frames.Ending.{Ending}
 use Rattle.init_core.specs.declared.frames.Ending.TheVariants as ending
-use Rattle.init_core.specs.declared.frames.Frame.{Frame}
-use Rattle.init_core.specs.declared.frames.Outcome.{Outcome}
-use Rattle.init_core.specs.declared.frames.Outcome.TheVariants.{Normal, Abrupt, Ended}
-use Rattle.init_core.specs.declared.frames.Phase.{Phase}
-use Rattle.init_core.specs.declared.frames.Phase.TheVariants.{Looking, Needing, Running, EndingBy}
-use Rattle.init_core.specs.Advance.{Advances, step_2, still_step_2, step_3, step_4, step_5, step_6, leaves_body, ends_class, gives_up_look, gives_up_begun, gives_up_body, FitsBody, MayRequest, after_in, after_needs, after_word, ending_of, is_by_machine, is_waiting}
 use Rattle.init_core.specs.Decisions.{event, is_wait, waits, waits_from}
 use Rattle.init_core.specs.Interleaving.{of_class}
 use Rattle.init_core.specs.Label.{label_of}
 use Rattle.init_core.specs.Lawful.{Allows, AgreesAfter, MayUse}
-use Rattle.init_core.specs.Leads.{frame, standing, kind_of_ending, outcome_of, Before, outermost, needed, used, Leads, idle, looking, not_run, running, ending_by}
-use Rattle.init_core.specs.ProcedureWord.{free, ProcedureWord, completed, ended_by, given_up, GoesOn, IsOfFiles}
-use Rattle.init_core.specs.Standing.{Standing}
-use Rattle.init_core.specs.Stands.{begun_in, begun_classes, AreDifferent, NamesFiles, ending_error, ending_error_in, Stands, SeesMore, AreOfOthers}
-use Rattle.init_core.proofs.Bodies.{freely}
-use Rattle.init_core.proofs.NeedsAbove.{needs_in_files}
+use Rattle.init_core.specs.Stands.{SeesMore, AreOfOthers}
 use Rattle.init_core.proofs.Labels.{label_after}
 use Rattle.init_core.specs.ClassState.{next_label}
 use Rattle.init_core.proofs.States.{waits_more}
-use Rattle.init_core.proofs.Leading.{is_answered, is_requested, has_run}
 
 -- these classes are in progress by t, in what it has seen of each
 abbrev pub AreMine : ℕ → (ClassId → List Event) → List ClassId → Type 0

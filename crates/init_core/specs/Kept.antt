@@ -1,6 +1,6 @@
 -- What the record of a class keeps of all events: those of the class but step 9, which is made without its initialization
 -- lock (JLS SE 8 12.4.2).
-use Rattle.std.specs.Prelude.{◌≡◌, ◌≢◌, List, [], ◌∷◌, ◌++◌, Some, Bool, false}
+use Rattle.std.specs.Prelude.{◌≡◌, ◌≢◌, List, [], ◌∷◌, ◌++◌, Some, false}
 use Rattle.hierarchy.specs.declared.class.ClassId.{ClassId}
 use Rattle.init_core.specs.declared.event.Event.{Event}
 use Rattle.init_core.specs.declared.event.Kind.TheVariants as kind

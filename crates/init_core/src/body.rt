@@ -1,6 +1,6 @@
 //! What a procedure is told of a body: that it begins, what is done in it, and how it ends.
 
-ghost use Rattle.std.specs.Prelude.{◌≡◌, Bool, ℕ, ◌++◌, ◌∷◌, [], List, Option, None, Some, true, false};
+ghost use Rattle.std.specs.Prelude.{◌≡◌, ℕ, ◌++◌, ◌∷◌, [], List, Option, None, Some, false};
 ghost use Rattle.hierarchy.specs.declared.class.ClassId.{ClassId};
 ghost use Rattle.hierarchy.specs.LinkedProgram.{LinkedProgram};
 ghost use Rattle.init_core.specs.declared.event.Event.{Event};

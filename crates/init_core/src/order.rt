@@ -9,7 +9,7 @@
 
 ghost use Rattle.std.specs.Prelude.{◌≡◌, ◌++◌, ◌∷◌, [], OnOk, IfOk, filter};
 ghost use Rattle.std.specs.List.{flat_map};
-ghost use Rattle.hierarchy.specs.ClassLists.{add_all, distinct};
+ghost use Rattle.hierarchy.specs.ClassLists.{add_all};
 ghost use Rattle.hierarchy.specs.ClassNumbers.{classes_in};
 ghost use Rattle.hierarchy.specs.Hierarchy.{interfaces_of};
 ghost use Rattle.hierarchy.specs.Superinterfaces.{enumeration};

@@ -23,10 +23,15 @@ pub struct Stamped<E> {
 /// The events of one pass in the order in which it drew them, with room for more.
 ///
 /// Contracts see the list of the events, and beside it the room: how many more events go in without memory.
-#[derive(Drop)]
 pub struct Journal<E: Drop> {
     events: Vec<Stamped<E>>,
     room: usize,
+}
+
+impl<E: Drop> Drop for Journal<E> {
+    fn drop(self) {
+        let Self { events: _, room: _ } = self;
+    }
 }
 
 impl<E: Drop> Model for Journal<E> {

@@ -1,12 +1,9 @@
 //! The steps of a seat that has one pass: what a try of a lock and a giving back are made of.
-ghost use Rattle.std.specs.Prelude.{◌≡◌, ℕ, ◌+◌, ◌*◌, ◌^◌, ◌<◌, ◌≤◌, ◌∷◌, map, Some, None, IfSome, IfNone, MatchBool};
+ghost use Rattle.std.specs.Prelude.{◌≡◌, ◌+◌, ◌*◌, ◌^◌, ◌<◌, ◌∷◌, map, Some, None, IfSome, IfNone, MatchBool};
 ghost use Rattle.std.specs.Option.{option_or};
 ghost use mathlib.Core.Option.{some};
-ghost use lib.ListN.{get_elem?};
 ghost use Rattle.init_lock.specs.declared.views.Custody.TheVariants.{Carried};
-ghost use Rattle.init_lock.specs.declared.views.PlaceView.{PlaceView};
 ghost use Rattle.init_lock.specs.Rule.{Each};
-ghost use Rattle.init_lock.specs.Known.{places_of};
 ghost use Rattle.init_lock.specs.Log.{is_at};
 ghost use Rattle.init_lock.specs.Steps.{Found, IsOnePass, JustTook, HasOut, MayReturn, in_custody, custody_beside, slots_of, without as without_place, took, missed, released};
 

@@ -1,5 +1,5 @@
 //! The table of locked records, and one try of a lock.
-ghost use Rattle.std.specs.Prelude.{◌≡◌, ℕ, ◌+◌, ◌<◌, ◌≤◌, ◌∷◌, length, MatchBool, Option, Some, None, IfSome, IfNone, OnSome};
+ghost use Rattle.std.specs.Prelude.{◌≡◌, ◌+◌, ◌<◌, ◌≤◌, ◌∷◌, length, MatchBool, Option, Some, None, IfSome, IfNone, OnSome};
 ghost use Rattle.init_lock.specs.Log.{Grew, IsWithin, own_events};
 ghost use Rattle.init_lock.specs.Rule.{element_at};
 ghost use Rattle.init_lock.specs.Known.{look, seen_at, out_of, last_at, IsSamePass, IsSameBut, IsAway, IsAwayBut};

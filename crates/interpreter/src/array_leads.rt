@@ -4,7 +4,6 @@ ghost use Rattle.std.specs.Prelude.{◌≡◌, ◌↔◌, IfSome, IsTrue};
 ghost use Rattle.heap.specs.Contents.{element_type};
 ghost use Rattle.heap.specs.Objects.{base_of_type};
 ghost use Rattle.interpreter.specs.ArrayLeads.{IsStorable, Stores, StoresIn, element_by, has_kind as has_kind_of, is_stored as is_stored_by, length_lead, load_from as load_from_array, load_lead, loaded as loaded_by, new_array_lead, serves as serves_elements, stored as stored_by};
-ghost use Rattle.interpreter.specs.Fitting.{cell_of as cell_of_value, value_of as value_of_cell};
 
 use crate::fitting::{cell_of, value_of};
 use crate::index::Index;

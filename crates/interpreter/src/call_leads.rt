@@ -1,7 +1,6 @@
 //! What calls of instance methods come to (JVMS SE 8 6.5 invokevirtual, invokespecial, invokeinterface).
 
 ghost use Rattle.std.specs.Prelude.{◌≡◌, IfSome, Some, option_copied};
-ghost use Rattle.hierarchy.specs.LinkedProgram.{id as class_id};
 ghost use Rattle.hierarchy.specs.declared.built_in.BuiltIn.TheVariants.{Object};
 ghost use Rattle.hierarchy.specs.declared.declared_method.MethodId.TheVariants as method_id;
 ghost use Rattle.interpreter.specs.CallLeads.{CallsBy, CallsInterface, HasReceiver, built_in_lead, enters_lead, init_types, interface_lead, parameters_at, receiver_of, reference_at as reference_at_place, selected_by, selected_lead, init_lead, virtual_lead};

@@ -1,8 +1,7 @@
 //! Bodies made by code.
 
 ghost use Rattle.std.specs.Prelude.{◌≡◌, ◌↔◌, ◌⊎◌, IfOk, IsTrue, OnErr, OnOk};
-ghost use Rattle.hierarchy.specs.Subclasses.{IsError, IsThrowable};
-ghost use Rattle.hierarchy.specs.declared.class.ClassId.{ClassId as ClassFacts};
+ghost use Rattle.hierarchy.specs.Subclasses.{IsError};
 ghost use Rattle.heap.specs.Objects.{no_texts, reference_of_new, with_new};
 ghost use Rattle.init_core.specs.ProcedureWord.{GoesOn};
 ghost use Rattle.interpreter.specs.CodeRun.{Begins, Enters, IsAnswer, IsTold, Replaces, Starts, below_body, fails_by, first_phase as first_phase_of, interpreter_at_start, left_phase as left_phase_of};

@@ -5,7 +5,7 @@ ghost use Rattle.frames.specs.Activations.{operands_of};
 ghost use Rattle.heap.specs.Instances.{IsInstance};
 ghost use Rattle.hierarchy.specs.LinkedProgram.{id};
 ghost use Rattle.hierarchy.specs.MethodResolution.{kind_of};
-ghost use Rattle.interpreter.specs.Fitting.{AreOnTop, FitsType, IsCallable, IsCallableOn, IsFit, IsInstanceIn, IsReceiver, built_in_type as type_of_built_in, cell_of as cell_of_value, exact_type as exact_type_of, is_int_type as has_ints, is_kind as is_kind_by, print_stream as stream_type, value_of as value_of_cell};
+ghost use Rattle.interpreter.specs.Fitting.{AreOnTop, FitsType, IsCallable, IsCallableOn, IsFit, IsInstanceIn, IsReceiver, built_in_type as type_of_built_in, cell_of as cell_of_value, exact_type as exact_type_of, is_int_type as has_ints, is_kind as is_kind_by, value_of as value_of_cell};
 ghost use Rattle.jasmin_text.specs.declared.class_text.ClassKind.TheVariants as kind;
 ghost use Rattle.interpreter.specs.Rows.{IsKindOf};
 
@@ -132,8 +132,11 @@ fn is_exactly(heap: &Heap, program: &Program, class: u16, reference: u32) -> boo
 fn is_instance_of(heap: &Heap, program: &Program, class: u16, reference: u32) -> bool
     ensures { IsTrue result ↔ IsInstance program.now heap.now (exact_type_of class) reference }
 {
-    is_exactly(heap, program, class, reference)
-        || heap.is_instance(program, exact_type(class), reference)
+    let exact = ResolvedType {
+        dimensions: 0,
+        element: Element::Class(class),
+    };
+    is_exactly(heap, program, class, reference) || heap.is_instance(program, exact, reference)
 }
 
 /// Whether a value is null, or fits the class or interface named.
@@ -161,23 +164,6 @@ pub(crate) fn is_callable_on(
 {
     are_on_top(frames, heap, program, types)
         && is_receiver(heap, program, named, frames.operand(types.len()))
-}
-
-/// A class or interface as a type.
-pub(crate) fn exact_type(class: u16) -> ResolvedType
-    ensures { result ≡ exact_type_of class }
-{
-    ResolvedType {
-        dimensions: 0,
-        element: Element::Class(class),
-    }
-}
-
-/// java/io/PrintStream.
-pub(crate) fn print_stream(program: &Program) -> ResolvedType
-    ensures { result ≡ stream_type program.now }
-{
-    built_in_type(program, BuiltIn::PrintStream)
 }
 
 /// Whether a value refers to an instance of a type.

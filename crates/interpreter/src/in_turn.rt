@@ -13,9 +13,14 @@ use std::marker::Model;
 
 /// What runs the code of one of several threads of which one goes on at a time. It has the [`Objects`] that they share for a step of its
 /// body, from one event to the next or up to a monitor that another thread holds.
-#[derive(Drop)]
 pub struct TurnInterpreter {
     inside: Interpreter,
+}
+
+impl Drop for TurnInterpreter {
+    fn drop(self) {
+        let Self { inside: _ } = self;
+    }
 }
 
 impl Model for TurnInterpreter {

@@ -11,7 +11,7 @@ use crate::array_leads::{array_length, load, new_array, store};
 use crate::call_leads::{
     call_built_in, call_interface, call_special, call_special_built_in, call_virtual, fail_special,
 };
-use crate::fitting::{is_callable, is_fit, print_stream};
+use crate::fitting::{built_in_type, is_callable, is_fit};
 use crate::index::index_of;
 use crate::methods::{method_code, static_type};
 use crate::object_leads::{get_field, new_object, put_field};
@@ -123,7 +123,8 @@ fn put_out(
 ) -> Lead
     ensures { LeadsTo program.now heap.now frames.now at code.now op.PutOut result }
 {
-    let fits = is_fit(heap, program, print_stream(program), frames.operand(0));
+    let stream = built_in_type(program, BuiltIn::PrintStream);
+    let fits = is_fit(heap, program, stream, frames.operand(0));
     when(fits, Lead::Drops(1))
 }
 

@@ -1,7 +1,6 @@
 //! The code that a program has.
 
-ghost use Rattle.std.specs.Prelude.{◌≡◌, IfSome, Some, option_copied, slice_get};
-ghost use Rattle.hierarchy.specs.Code.{code_at};
+ghost use Rattle.std.specs.Prelude.{◌≡◌, IfSome, Some, option_copied};
 ghost use Rattle.interpreter.specs.Methods.{instruction_at as instruction_of, method_at, static_type as type_of_static, text_in_method};
 
 use hierarchy::{ClassId, MethodCode, Program, ResolvedType};

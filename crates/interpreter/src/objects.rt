@@ -10,12 +10,20 @@ use std::alloc::Global;
 use std::mem::swap;
 
 /// What was made, and who holds which monitor.
-#[derive(Drop)]
 pub struct Objects {
     /// What was made.
     pub(crate) heap: Heap,
     /// Who holds which monitor.
     pub(crate) monitors: Monitors,
+}
+
+impl Drop for Objects {
+    fn drop(self) {
+        let Self {
+            heap: _,
+            monitors: _,
+        } = self;
+    }
 }
 
 impl Objects {

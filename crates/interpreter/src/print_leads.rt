@@ -5,11 +5,11 @@ ghost use Rattle.frames.specs.Activations.{operands_of};
 ghost use Rattle.interpreter.specs.Leads.{IsStream, PrintsBy, print_lead, receiver_at};
 ghost use Rattle.interpreter.specs.Printing.{IsPrintable, IsPrintableBy, printed_count};
 
-use crate::fitting::print_stream;
+use crate::fitting::built_in_type;
 use crate::lead::{Lead, NULL, VERIFY, when};
 use frames::{Cell, Frames};
 use heap::Heap;
-use hierarchy::{BuiltInMethod, Printed, Program};
+use hierarchy::{BuiltIn, BuiltInMethod, Printed, Program};
 
 /// Whether an operand may be printed.
 fn is_printable(program: &Program, printed: Printed, value: Option<Cell>) -> bool
@@ -52,7 +52,13 @@ fn is_stream(heap: &Heap, program: &Program, value: Option<Cell>) -> bool
     ensures { IsTrue result ↔ IsStream program.now heap.now value }
 {
     match value {
-        Some(Cell::Reference(number)) => heap.fits(program, print_stream(program), number),
+        Some(Cell::Reference(number)) => {
+            heap.fits(
+                program,
+                built_in_type(program, BuiltIn::PrintStream),
+                number,
+            )
+        }
         _ => false,
     }
 }

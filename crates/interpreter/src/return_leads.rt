@@ -2,7 +2,6 @@
 
 ghost use Rattle.std.specs.Prelude.{◌≡◌, ◌↔◌, IsTrue};
 ghost use Rattle.hierarchy.specs.declared.op.Op.TheVariants as op;
-ghost use Rattle.interpreter.specs.Fitting.{on_top};
 ghost use Rattle.interpreter.specs.Leads.{IsResult, LeadsTo, MayReturn, return_int_lead, return_reference_lead};
 
 use crate::fitting::fits;

@@ -1,6 +1,6 @@
 //! The targets of switches.
 
-ghost use Rattle.std.specs.Prelude.{◌≡◌, ◌-ℤ◌, Some, None};
+ghost use Rattle.std.specs.Prelude.{◌≡◌, Some, None};
 ghost use Rattle.interpreter.specs.Leads.{case_target, jump_lead, switch_lead, target_at as target_behind, target_of};
 ghost use Rattle.interpreter.specs.Methods.{instruction_at as text_at};
 

@@ -1,6 +1,6 @@
 //! What is printed.
 
-ghost use Rattle.std.specs.Prelude.{◌≡◌, ◌%◌, ◌∷◌, [], true, IfOk, Some};
+ghost use Rattle.std.specs.Prelude.{◌≡◌, ◌%◌, [], true, IfOk, Some};
 ghost use Rattle.sequence.specs.Written.{Adds};
 ghost use Rattle.std.specs.Int.{cast_unsigned, w32};
 ghost use Rattle.std.specs.Str.{is_utf8 as has_characters};

@@ -1,6 +1,6 @@
 //! Objects that are thrown, and the monitors of methods that are left.
 
-ghost use Rattle.std.specs.Prelude.{◌≡◌, ◌∷◌, List, Some, OnErr, OnOk, length};
+ghost use Rattle.std.specs.Prelude.{◌≡◌, ◌∷◌, List, Some, OnErr, OnOk};
 ghost use Rattle.frames.specs.Activations.{Activation, place_of};
 ghost use Rattle.interpreter.specs.Rows.{IsLeftWith, IsPastTheEnd, IsReleasedTo, IsThrown, Throws};
 

@@ -4,7 +4,7 @@ ghost use Rattle.std.specs.Prelude.{◌≡◌, ◌++◌, ◌∷◌, [], ◌<◌,
 ghost use Rattle.sequence.specs.Written.{Adds};
 ghost use Rattle.std.specs.Char.{digit_char};
 ghost use Rattle.std.specs.Str.{is_utf8};
-ghost use Rattle.jasmin_words.specs.Quoting.{quoted_byte, quoted_bytes, quoted};
+ghost use Rattle.jasmin_words.specs.Quoting.{quoted_byte, quoted};
 ghost use Rattle.jasmin_words.specs.Lexing.{Item, Text, fits, words_of};
 ghost use Rattle.jasmin_words.specs.Spelling.{IsSpelled};
 

@@ -16,7 +16,7 @@ use Rattle.init_core.specs.declared.frames.Phase.{Phase}
 use Rattle.init_core.specs.declared.frames.Phase.TheVariants.{Looking, Needing, Running, EndingBy}
 use Rattle.init_core.specs.Decisions.{event}
 use Rattle.init_core.specs.ProcedureWord as words
-use Rattle.init_core.specs.ProcedureWord.{Maker, Word, AfterWait, Begun, ItemsOf, Body, ThreadWordOf, ThreadWord, wait, completed, GoesOn, IsMachineError}
+use Rattle.init_core.specs.ProcedureWord.{Maker, Word, AfterWait, Begun, ItemsOf, ThreadWordOf, ThreadWord, completed, GoesOn, IsMachineError}
 use Rattle.init_core.specs.Standing.{Standing}
 use Rattle.init_core.specs.Leads.{frame, standing}
 use Rattle.init_core.specs.Advance.{after_needs, after_word, after_in, MayRequest}

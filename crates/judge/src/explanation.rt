@@ -4,12 +4,11 @@ ghost use Rattle.std.specs.Prelude.{◌≡◌, ◌≢◌, ◌≤◌, [], IfOk, f
 ghost use Rattle.judge.specs.declared.verdict.Verdict.TheVariants as verdicts;
 
 use crate::judge::Judge;
-use crate::open_class::{OpenClass, Stage};
 use crate::reader::Reader;
 use crate::state_words::Words;
 use crate::verdict::{Rule, Verdict};
 use hierarchy::{ClassId, Program};
-use init_core::{ClassState, Event, Kind};
+use init_core::{Event, Kind};
 use std::alloc::{AllocError, Global};
 
 /// The state of threads and classes after these events, up to the first illegal one.
@@ -46,17 +45,6 @@ fn condition_of(kind: &Kind) -> &'static str {
 }
 
 impl Words<'_> {
-    /// What the field of a read or write holds, where the class has it.
-    fn held(&mut self, state: Option<&ClassState>, kind: &Kind) {
-        match (state, kind) {
-            (Some(state), Kind::Gets { field, .. }) if *field < state.static_fields() => {
-                self.say("the field holds ");
-                self.value(state.value(*field))
-            }
-            _ => self.say("the class has no such field"),
-        }
-    }
-
     /// The rule that an event of this kind breaks.
     fn broken(&mut self, judge: &Judge, class: Option<ClassId>, kind: &Kind, rule: Rule)
         ensures { self.new.text.is_lost ≡ false → 1 ≤ length self.new.text.text }
@@ -72,7 +60,13 @@ impl Words<'_> {
                     Some(class) => judge.classes.states.get(class.number),
                     None => None,
                 };
-                self.held(state, kind);
+                match (state, kind) {
+                    (Some(state), Kind::Gets { field, .. }) if *field < state.static_fields() => {
+                        self.say("the field holds ");
+                        self.value(state.value(*field));
+                    }
+                    _ => self.say("the class has no such field"),
+                }
             }
         }
         self.say("\n");
@@ -85,7 +79,12 @@ impl Words<'_> {
             self.open_class(thread, class);
         }
         if open.is_empty() {
-            self.outside(thread, reader.has_ended());
+            self.thread(thread);
+            self.say(if reader.has_ended() {
+                " has ended\n"
+            } else {
+                " is in main\n"
+            });
         }
         self.possible(thread, reader);
     }
@@ -98,7 +97,11 @@ impl Words<'_> {
         let thread = event.thread();
         match judge.readers.of_threads.get(thread) {
             Some(reader) => self.thread_state(thread, reader),
-            None => self.no_thread(thread),
+            None => {
+                self.say("there is no thread ");
+                self.thread(thread);
+                self.say("\n");
+            }
         }
         if let Some(class) = event.class() {
             self.label_line(class);
@@ -115,7 +118,7 @@ impl Words<'_> {
     {
         self.say("the trace ends there\n");
         'readers: for (thread, reader) in judge.readers.of_threads.iter().enumerate() {
-            if !reader.may_stop() {
+            if !reader.procedures.may_stop() {
                 self.thread_state(thread, reader);
             }
         }

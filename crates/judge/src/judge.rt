@@ -1,11 +1,11 @@
 //! Events of all threads, judged one after the other.
 
-ghost use Rattle.std.specs.Prelude.{◌≡◌, ℕ, ◌<◌, ◌++◌, ◌∷◌, [], List, None, IfOk, IfSome, true, false};
+ghost use Rattle.std.specs.Prelude.{◌≡◌, ℕ, ◌<◌, ◌++◌, ◌∷◌, [], List, None, IfOk, IfSome};
 ghost use Rattle.hierarchy.specs.declared.class.ClassId.{ClassId as ClassFacts};
 ghost use Rattle.hierarchy.specs.LinkedProgram.{LinkedProgram};
 ghost use Rattle.init_core.specs.ProcedureWord.{printed};
 ghost use Rattle.init_core.specs.declared.event.Event.{Event as EventFacts};
-ghost use Rattle.judge.specs.Judging.{HasJudged, MayAllStop};
+ghost use Rattle.judge.specs.Judging.{HasJudged};
 ghost use Rattle.judge.specs.Reading.{made_by};
 ghost use Rattle.judge.specs.Verdicts.{Breaks};
 
@@ -93,13 +93,5 @@ impl Judge {
             None => Ok(None),
             Some(class) => self.classes.take(alloc, program, thread, class, kind),
         }
-    }
-
-    /// Whether each thread may stop here. Takes no memory.
-    pub(crate) fn may_stop(&self) -> bool
-        ensures yes { result ≡ true → MayAllStop self.now.readers.of_threads.items }
-        ensures no { result ≡ false → MayAllStop self.now.readers.of_threads.items → ⊥ }
-    {
-        self.readers.may_stop()
     }
 }

@@ -58,7 +58,7 @@ pub fn check(
             return Ok(Verdict::IllegalAt(number, rule));
         }
     }
-    if judge.may_stop() {
+    if judge.readers.may_stop() {
         Ok(Verdict::Legal)
     } else {
         Ok(Verdict::IllegalAt(events.len(), Rule::End))

@@ -4,7 +4,7 @@ ghost use Rattle.std.specs.Prelude.{◌≡◌, ℕ, List, Bool, IfOk, true, fals
 ghost use Rattle.init_core.specs.ProcedureWord.{printed};
 ghost use Rattle.init_core.specs.Standing.{Standing};
 ghost use Rattle.judge.specs.NextEvent.{begun_after};
-ghost use Rattle.judge.specs.Reading.{MayStop, Reads, made_by, opening};
+ghost use Rattle.judge.specs.Reading.{Reads, made_by, opening};
 
 use crate::open_class::Procedures;
 use hierarchy::{ClassId, Program};
@@ -77,13 +77,5 @@ impl Reader {
             },
             None => false,
         }
-    }
-
-    /// Whether the thread may stop here: no class is open, or only a request that is given up. Takes no memory.
-    pub(crate) fn may_stop(&self) -> bool
-        ensures yes { result ≡ true → MayStop self.now.procedures }
-        ensures no { result ≡ false → MayStop self.now.procedures → ⊥ }
-    {
-        self.procedures.may_stop()
     }
 }

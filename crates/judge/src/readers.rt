@@ -1,6 +1,6 @@
 //! The readers of all threads.
 
-ghost use Rattle.std.specs.Prelude.{◌≡◌, ℕ, ◌≤◌, ◌++◌, ◌∷◌, [], List, IfOk, length, map, true, false};
+ghost use Rattle.std.specs.Prelude.{◌≡◌, ℕ, ◌++◌, ◌∷◌, [], List, IfOk, map, true, false};
 ghost use Rattle.hierarchy.specs.declared.class.ClassId.{ClassId as ClassFacts};
 ghost use Rattle.init_core.specs.ProcedureWord.{printed};
 ghost use Rattle.init_core.specs.declared.event.Event.{Event as EventFacts};
@@ -85,7 +85,7 @@ impl Readers {
         ensures no { result ≡ false → MayAllStop self.now.of_threads.items → ⊥ }
     {
         'readers: for reader in &self.of_threads {
-            if !reader.may_stop() {
+            if !reader.procedures.may_stop() {
                 return false;
             }
         }

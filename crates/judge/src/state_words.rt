@@ -79,7 +79,7 @@ impl Words<'_> {
         write_class_name(&mut self.text, self.program, class);
     }
 
-    fn thread(&mut self, thread: usize) {
+    pub(crate) fn thread(&mut self, thread: usize) {
         self.say("t");
         push_decimal(&mut self.text, thread);
     }
@@ -96,26 +96,22 @@ impl Words<'_> {
     }
 
     /// The label of a class after the events, and the number of the event that gave it.
-    fn found_label(&self, class: ClassId) -> Result<(Label, usize), AllocError> {
+    fn label(&mut self, class: ClassId) -> (Label, usize) {
         let mut found = (Label::Prepared, 0);
-        'events: for (number, event) in self.events.iter().enumerate() {
+        let events = self.events;
+        'events: for (number, event) in events.iter().enumerate() {
             if event.class() == Some(class) {
-                if let Some(label) = label_by(event.thread(), &event.kind()?) {
-                    found = (label, number);
+                match event.kind() {
+                    Ok(kind) => {
+                        if let Some(label) = label_by(event.thread(), &kind) {
+                            found = (label, number);
+                        }
+                    }
+                    Err(_) => self.lose(),
                 }
             }
         }
-        Ok(found)
-    }
-
-    fn label(&mut self, class: ClassId) -> (Label, usize) {
-        match self.found_label(class) {
-            Ok(found) => found,
-            Err(_) => {
-                self.lose();
-                (Label::Prepared, 0)
-            }
-        }
+        found
     }
 
     fn since(&mut self, number: usize) {
@@ -129,12 +125,6 @@ impl Words<'_> {
             Ok(line) => self.text.push(line.get(2..).unwrap_or(&[])),
             Err(_) => self.lose(),
         }
-    }
-
-    pub(crate) fn no_thread(&mut self, thread: usize) {
-        self.say("there is no thread ");
-        self.thread(thread);
-        self.say("\n");
     }
 
     /// The label of a class, and since when.
@@ -157,28 +147,6 @@ impl Words<'_> {
         self.say("\n");
     }
 
-    /// Who initializes a class, where another thread does.
-    fn owner(&mut self, thread: usize, class: ClassId) {
-        if let (Label::InProgress(owner), _) = self.label(class) {
-            if owner != thread {
-                self.say(", which ");
-                self.thread(owner);
-                self.say(" initializes");
-            }
-        }
-    }
-
-    /// What a thread is doing with a class that it initializes.
-    fn stage(&mut self, stage: &Stage) {
-        match stage {
-            Stage::Looking { .. } => {}
-            Stage::Needing(_) => self.say(": in step 7, what it needs comes first"),
-            Stage::Running { ran: false } => self.say(": all that it needs is done"),
-            Stage::Running { ran: true } => self.say(": its initializer runs"),
-            Stage::SuperFails { .. } => self.say(": what it needs has failed"),
-        }
-    }
-
     /// What a thread is doing with an open class.
     pub(crate) fn open_class(&mut self, thread: usize, open: &OpenClass) {
         self.thread(thread);
@@ -190,27 +158,29 @@ impl Words<'_> {
             Stage::Looking { waited: true } => {
                 self.say(" waits for ");
                 self.class(open.class);
-                self.owner(thread, open.class);
+                if let (Label::InProgress(owner), _) = self.label(open.class) {
+                    if owner != thread {
+                        self.say(", which ");
+                        self.thread(owner);
+                        self.say(" initializes");
+                    }
+                }
             }
             _ => {
                 self.say(" initializes ");
                 self.class(open.class);
                 let (_, number) = self.label(open.class);
                 self.since(number);
-                self.stage(&open.stage);
+                self.say(match &open.stage {
+                    Stage::Looking { .. } => "",
+                    Stage::Needing(_) => ": in step 7, what it needs comes first",
+                    Stage::Running { ran: false } => ": all that it needs is done",
+                    Stage::Running { ran: true } => ": its initializer runs",
+                    Stage::SuperFails { .. } => ": what it needs has failed",
+                });
             }
         }
         self.say("\n");
-    }
-
-    /// Of a thread that has no class open.
-    pub(crate) fn outside(&mut self, thread: usize, has_ended: bool) {
-        self.thread(thread);
-        self.say(if has_ended {
-            " has ended\n"
-        } else {
-            " is in main\n"
-        })
     }
 
     /// A step at a class.
@@ -252,17 +222,6 @@ impl Words<'_> {
         }
     }
 
-    /// What may come in the initializer of a class.
-    fn body(&mut self, class: ClassId, last: Option<Completed>) {
-        if let Some(error) = ending_error(last) {
-            return self.step_by("step12 ", class, error);
-        }
-        self.step("step10 ", class);
-        self.step(", step12 ", class);
-        self.say(" by an Error, ");
-        self.items(last);
-    }
-
     /// What may come while this class is the innermost open one.
     fn within(&mut self, thread: usize, open: &OpenClass, last: Option<Completed>) {
         match &open.stage {
@@ -273,18 +232,17 @@ impl Words<'_> {
                 self.step(", step7 ", open.class);
                 self.say(" java/lang/OutOfMemoryError")
             }
-            Stage::Running { ran: true } => self.body(open.class, last),
+            Stage::Running { ran: true } => match ending_error(last) {
+                Some(error) => self.step_by("step12 ", open.class, error),
+                None => {
+                    self.step("step10 ", open.class);
+                    self.step(", step12 ", open.class);
+                    self.say(" by an Error, ");
+                    self.items(last);
+                }
+            },
             Stage::SuperFails { error, .. } => self.step_by("step7 ", open.class, *error),
         }
-    }
-
-    /// What may come where the thread gives up a request in this class.
-    fn giving_up(&mut self, around: &OpenClass) {
-        match around.stage {
-            Stage::Needing(_) => self.step(", step7 ", around.class),
-            _ => self.step(", step12 ", around.class),
-        }
-        self.say(MACHINE_ERRORS);
     }
 
     /// What a thread could do next.
@@ -299,7 +257,13 @@ impl Words<'_> {
             [.., around, innermost] => {
                 self.within(thread, innermost, last);
                 if let Stage::Looking { .. } = innermost.stage {
-                    self.giving_up(around);
+                    // (it may give up the request in the class around)
+                    let step = match around.stage {
+                        Stage::Needing(_) => ", step7 ",
+                        _ => ", step12 ",
+                    };
+                    self.step(step, around.class);
+                    self.say(MACHINE_ERRORS);
                 }
             }
             [innermost] => self.within(thread, innermost, last),

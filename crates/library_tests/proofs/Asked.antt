@@ -1,5 +1,5 @@
 -- The answers that a procedure with one open class takes, and where it stands after them.
-use Rattle.std.proofs.Common.{◌≡◌, List, [], ◌∷◌, None, Bool, true, false, inl, refl, sym, subst}
+use Rattle.std.proofs.Common.{◌≡◌, [], ◌∷◌, None, Bool, true, false, inl}
 use Rattle.hierarchy.specs.declared.class.ClassId.{ClassId}
 use Rattle.hierarchy.specs.declared.built_in.BuiltIn.TheVariants.{InternalError, OutOfMemoryError}
 use Rattle.hierarchy.specs.LinkedProgram.{LinkedProgram, built_in}

@@ -9,7 +9,6 @@ use std::mem;
 
 /// A program that is compared: what each of its classes needs, as read from JVMS SE 8 5.5 by hand, and the main classes
 /// of two threads. A class is named by the place of its file; there are three at most.
-#[derive(Clone, Copy)]
 pub(crate) struct Case {
     pub needs: &'static [&'static [usize]],
     pub mains: [usize; 2],
@@ -91,23 +90,19 @@ fn count_differences(
     differ
 }
 
-/// These choices, and then this one.
-fn with_choice(alloc: Global, path: &[Choice], choice: Choice) -> Result<Vec<Choice>, AllocError> {
-    let mut longer = Vec::from_slice(alloc, path)?;
-    longer.push(choice)?;
-    Ok(longer)
-}
-
 /// Adds the event that this choice makes after these choices, which make so many, if it makes one.
 fn add_next(
     alloc: Global,
     program: &Program,
     case: &Case,
-    longer: Vec<Choice>,
+    path: &[Choice],
+    choice: Choice,
     count: usize,
     found: &mut Found,
     made: &mut Vec<Made>,
 ) -> Result<(), AllocError> {
+    let mut longer = Vec::from_slice(alloc, path)?;
+    longer.push(choice)?;
     let events = events_of(alloc, program, &case.mains, longer.as_slice())?;
     if let Some(event) = events.as_slice().get(count) {
         made.push(*event)?;
@@ -128,8 +123,8 @@ fn add_all(
     made: &mut Vec<Made>,
 ) -> Result<(), AllocError> {
     for action in &ACTIONS {
-        let longer = with_choice(alloc, path, (thread, *action))?;
-        add_next(alloc, program, case, longer, count, found, made)?;
+        let choice = (thread, *action);
+        add_next(alloc, program, case, path, choice, count, found, made)?;
     }
     Ok(())
 }

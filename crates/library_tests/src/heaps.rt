@@ -89,7 +89,13 @@ fn types(program: &Program, heap: &mut Heap) -> bool {
 /// Whether an array holds defaults and what is written to it, as its type keeps it.
 fn keeps_bytes(program: &Program, heap: &mut Heap) -> bool {
     heap.new_array(program, BYTE, 2) == Ok(Some(3))
-        && heap.element_type(program, 3) == Some(BYTE)
+        && matches!(
+            heap.element_type(program, 3),
+            Some(ResolvedType {
+                dimensions: 0,
+                element: Element::Base(BaseType::Byte),
+            })
+        )
         && heap.length(program, 3) == Some(2)
         && heap.class_of(program, 3) == Some(program.built_in(BuiltIn::Object))
         && heap.put_element(program, 3, 1, Value::Int(200))

@@ -1,7 +1,5 @@
 //! What is judged of a trace in memory. Whole command lines are cases of the crate `cases`.
 
-ghost use Rattle.std.specs.Prelude.{◌≤◌, vec_len, IfOk};
-
 use cli::{Judged, Named, NamedFault, check_named, status_of_verdict, write_judged};
 use init_core::Event;
 use judge::{Rule, Verdict, check, explain};

@@ -131,26 +131,8 @@ fn finish_both(
     Ok(table.finish(passes))
 }
 
-// Draws on the first record by both passes, and once on no record.
-fn draws(table: &InitTable<Numbers>, first: &mut Pass<Numbers>, second: &mut Pass<Numbers>) -> bool
-    requires places { table.now.places ≡ 2 }
-    requires first { (first.old.table ≡ table.now.id) × (first.old.room ≡ 4) × IsAway first.old.places }
-    requires second { (second.old.table ≡ table.now.id) × (second.old.room ≡ 4) × IsAway second.old.places }
-    ensures first { IsSamePass first.old first.new × IsAway first.new.places }
-    ensures second { IsSamePass second.old second.new × IsAway second.new.places }
-{
-    let is_first = draw_on(table, first, 0, 5) == Some(0);
-    let is_alone = table.draw(first, 6) == 1;
-    let is_second = draw_on(table, second, 0, 7) == Some(1);
-    is_first && is_alone && is_second
-}
-
 // Draws on the first record by both passes, and then on no record by both.
-fn draws_apart(
-    table: &InitTable<Numbers>,
-    first: &mut Pass<Numbers>,
-    second: &mut Pass<Numbers>,
-) -> bool
+fn draws(table: &InitTable<Numbers>, first: &mut Pass<Numbers>, second: &mut Pass<Numbers>) -> bool
     requires places { table.now.places ≡ 2 }
     requires first { (first.old.table ≡ table.now.id) × (first.old.room ≡ 4) × IsAway first.old.places }
     requires second { (second.old.table ≡ table.now.id) × (second.old.room ≡ 4) × IsAway second.old.places }
@@ -207,28 +189,18 @@ fn two_passes_draw(alloc: Global) -> Result<bool, AllocError> {
             && are_kept(&closed.records, &[5, 7])
             && are_of(
                 &mut closed.journals,
-                &[(1, None, 6), (0, Some(0), 5)],
-                &[(2, Some(0), 7)],
+                &[(3, None, 8), (0, Some(0), 5)],
+                &[(2, None, 6), (1, Some(0), 7)],
             ),
     )
 }
 
-#[test]
-fn two_passes(rt: HostRuntime) {
-    assert!(rt; two_passes_draw(rt.alloc()) == Ok(true));
-}
-
 fn are_merged(alloc: Global) -> Result<bool, AllocError> {
     let (table, mut first, mut second) = two_of_each(alloc, 4)?;
-    let are_drawn = draws_apart(&table, &mut first, &mut second);
+    let are_drawn = draws(&table, &mut first, &mut second);
     let closed = finish_both(alloc, table, first, second)?;
     let merged = merge(alloc, closed.journals)?;
     Ok(are_drawn && merged.as_slice() == [5, 7, 6, 8].as_slice())
-}
-
-#[test]
-fn merges_two_journals(rt: HostRuntime) {
-    assert!(rt; are_merged(rt.alloc()) == Ok(true));
 }
 
 // Takes the second record, and tells whether it was free. Where it was, it goes back.
@@ -274,11 +246,6 @@ fn is_given_up<W: Wait>(
 fn gives_up<W: Wait>(rt: &W, alloc: Global) -> Result<bool, AllocError> {
     let (table, mut first, mut second) = two_of_each(alloc, 1)?;
     Ok(is_given_up(rt, &table, &mut first, &mut second))
-}
-
-#[test]
-fn gives_up_and_goes_on(rt: HostRuntime) {
-    assert!(rt; gives_up(&rt, rt.alloc()) == Ok(true));
 }
 
 // Draws a number on record 0, some times.
@@ -327,6 +294,9 @@ fn two_take<R: Threads + Wait + Sync>(rt: &R, alloc: Global) -> Result<bool, All
 }
 
 #[test]
-fn two_takers(rt: HostRuntime) {
+fn two_passes(rt: HostRuntime) {
+    assert!(rt; two_passes_draw(rt.alloc()) == Ok(true));
+    assert!(rt; are_merged(rt.alloc()) == Ok(true));
+    assert!(rt; gives_up(&rt, rt.alloc()) == Ok(true));
     assert!(rt; two_take(&rt, rt.alloc()) == Ok(true));
 }

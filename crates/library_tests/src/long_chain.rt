@@ -15,6 +15,9 @@ pub(crate) const CLASSES: usize = 22;
 /// How many interfaces.
 pub(crate) const INTERFACES: usize = 18;
 
+/// What is asked of the chain.
+const RUN: &Question = &Question::Ran(Crowd::OverAll);
+
 /// A class of the chain over all interfaces.
 fn chained(alloc: Global, class: usize) -> Result<String, AllocError> {
     let mut file = format!(in alloc; ".class C{class}")?;
@@ -51,10 +54,7 @@ fn long_chain(alloc: Global) -> Result<Vec<ClassText>, AllocError> {
 
 fn is_chain_run<R: Threads + Wait + Sync + Clock>(rt: &R, alloc: Global) -> bool {
     match long_chain(alloc) {
-        Ok(classes) => {
-            let question = Question::Ran(Crowd::OverAll);
-            is_answered(rt, alloc, classes, CLASSES + INTERFACES, &question)
-        }
+        Ok(classes) => is_answered(rt, alloc, classes, CLASSES + INTERFACES, RUN),
         Err(_) => false,
     }
 }

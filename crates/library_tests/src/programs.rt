@@ -24,7 +24,6 @@ use std::sync::Wait;
 use std::thread::Threads;
 
 /// What is asked of a program.
-#[derive(Clone, Copy)]
 pub(crate) enum Question {
     /// What is done to the record of a class.
     Record(Story),
@@ -51,7 +50,6 @@ pub(crate) enum Question {
 }
 
 /// The files of a program, and what is asked of it.
-#[derive(Clone, Copy)]
 pub(crate) struct Row {
     pub files: &'static [&'static [u8]],
     pub question: Question,
@@ -74,8 +72,8 @@ fn answers<R: Threads + Wait + Sync + Clock>(
         Question::Compared(case) => is_as_compared(alloc, program, case) == Ok(true),
         Question::Played(scene) => is_as_played(alloc, program, scene),
         Question::InOrder => is_in_order(alloc, program),
-        Question::Ran(crowd) => is_run(rt, alloc, program, *crowd),
-        Question::Scripted(script) => is_scripted(rt, alloc, program, *script),
+        Question::Ran(crowd) => is_run(rt, alloc, program, crowd),
+        Question::Scripted(script) => is_scripted(rt, alloc, program, script),
     }
 }
 

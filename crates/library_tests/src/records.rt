@@ -18,7 +18,6 @@ const FILES: &[&[u8]] = &[
 const ERROR: ClassId = ClassId { number: 7 };
 
 /// What is done to a record, where it may be done.
-#[derive(Clone, Copy)]
 enum Deed {
     /// Room is made for an event.
     Reserves,
@@ -216,21 +215,15 @@ fn ends(record: &mut ClassRecord, ending: &Ending) -> bool {
     true
 }
 
-/// Thread 0 reads a static field.
-fn gets(record: &mut ClassRecord, place: usize, value: Value) -> bool {
+/// Thread 0 writes a static field, or reads it.
+fn use_field(record: &mut ClassRecord, place: usize, value: Value, is_write: bool) -> bool {
     match record.label() {
         Label::InProgress(0) if place < record.static_fields() => {
-            record.read_static(0, place) == Ok(value)
-        }
-        _ => false,
-    }
-}
-
-/// Thread 0 writes a static field.
-fn puts(record: &mut ClassRecord, place: usize, value: Value) -> bool {
-    match record.label() {
-        Label::InProgress(0) if place < record.static_fields() => {
-            record.write_static(0, place, value).is_ok()
+            if is_write {
+                record.write_static(0, place, value).is_ok()
+            } else {
+                record.read_static(0, place) == Ok(value)
+            }
         }
         _ => false,
     }
@@ -244,8 +237,8 @@ fn does(record: &mut ClassRecord, deed: &Deed) -> bool {
             *thread < THREADS && record.enter(*thread) == Ok(*decision)
         }
         Deed::Ends(ending) => ends(record, ending),
-        Deed::Gets(place, value) => gets(record, *place, *value),
-        Deed::Puts(place, value) => puts(record, *place, *value),
+        Deed::Gets(place, value) => use_field(record, *place, *value, false),
+        Deed::Puts(place, value) => use_field(record, *place, *value, true),
     }
 }
 
@@ -277,15 +270,6 @@ fn stands(record: &ClassRecord, story: &Story) -> bool {
         && holds(record, story.values)
 }
 
-/// The events of a record.
-fn history(alloc: Global, record: &ClassRecord) -> Result<Vec<Event>, AllocError> {
-    let mut events = Vec::new(alloc);
-    for place in 0..record.len() {
-        events.push(record.event(place)?)?;
-    }
-    Ok(events)
-}
-
 /// Whether the events of a record are those of the story.
 fn is_traced(
     alloc: Global,
@@ -293,7 +277,10 @@ fn is_traced(
     record: &ClassRecord,
     story: &Story,
 ) -> Result<bool, AllocError> {
-    let events = history(alloc, record)?;
+    let mut events = Vec::new(alloc);
+    for place in 0..record.len() {
+        events.push(record.event(place)?)?;
+    }
     let text = write_trace(alloc, program, events.as_slice())?;
     Ok(text.as_slice() == story.trace)
 }

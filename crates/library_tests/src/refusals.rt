@@ -1,7 +1,5 @@
 //! What `serve` answers where a file or the output is refused in a way that no file on a disk shows for certain.
 
-ghost use Rattle.std.specs.Prelude.{◌≤◌, vec_len, IfOk};
-
 use cli::{Named, NamedFault, serve};
 use std::alloc::Global;
 use std::io;

@@ -1,6 +1,7 @@
 //! Instructions as they are resolved, and what else running a class needs.
 
 use crate::programs::{Question, Row};
+use descriptors::BaseType;
 use hierarchy::{
     BuiltIn, BuiltInMethod, Element, ElementKind, MethodCode, Op, Printed, Program, ResolvedType,
     static_count,
@@ -32,12 +33,10 @@ type Seen = (&'static str, i64, i64, i64);
 
 /// The number of a built-in method, of those that are called here.
 fn number_of(method: BuiltInMethod) -> i64 {
-    if method == BuiltInMethod::PrintLine(Printed::Int) {
-        1
-    } else if method == BuiltInMethod::Init {
-        2
-    } else {
-        0
+    match method {
+        BuiltInMethod::PrintLine(Printed::Int) => 1,
+        BuiltInMethod::Init => 2,
+        _ => 0,
     }
 }
 
@@ -164,15 +163,15 @@ fn are(ops: &[Op], wanted: &[Seen]) -> bool {
     ops.len() == wanted.len()
 }
 
-/// Whether a type is no array, of these elements.
-fn is_plain(found: Option<&ResolvedType>, element: Element) -> bool {
+/// Whether a type is that of ints.
+fn is_int(found: Option<&ResolvedType>) -> bool {
     match found {
-        Some(found) => found.dimensions == 0 && found.element == element,
+        Some(found) => {
+            found.dimensions == 0 && matches!(found.element, Element::Base(BaseType::Int))
+        }
         None => false,
     }
 }
-
-const INT: Element = Element::Base(descriptors::BaseType::Int);
 
 /// The method with limits, parameters and a result.
 fn is_as_declared(code: &MethodCode) -> bool {
@@ -180,9 +179,15 @@ fn is_as_declared(code: &MethodCode) -> bool {
         && code.stack == 7
         && code.locals == 9
         && code.parameters.len() == 2
-        && is_plain(code.parameters.as_slice().first(), INT)
-        && is_plain(code.parameters.as_slice().get(1), Element::Any)
-        && is_plain(code.result.as_ref(), INT)
+        && is_int(code.parameters.as_slice().first())
+        && matches!(
+            code.parameters.as_slice().get(1),
+            Some(ResolvedType {
+                dimensions: 0,
+                element: Element::Any,
+            })
+        )
+        && is_int(code.result.as_ref())
 }
 
 /// The types of the static fields, and the places of the methods that start.
@@ -194,8 +199,8 @@ fn has_places(program: &Program) -> bool {
         return false;
     };
     array.dimensions == 1
-        && array.element == Element::Class(1)
-        && is_plain(Some(int), INT)
+        && class_in(*array) == 1
+        && is_int(Some(int))
         && members.initializer == Some(1)
         && members.main.is_none()
         && main.initializer.is_none()

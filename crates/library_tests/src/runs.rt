@@ -1,6 +1,6 @@
 //! Which events the runs of small programs have, whatever the schedule.
 
-ghost use Rattle.std.specs.Prelude.{◌≡◌, ◌<◌, ◌≤◌, length, true};
+ghost use Rattle.std.specs.Prelude.{◌≡◌, ◌<◌, true};
 ghost use Rattle.bodies.specs.Runs.{AreMains};
 
 use crate::long_chain::{CLASSES, INTERFACES};
@@ -14,13 +14,12 @@ use std::alloc::Global;
 use std::rt::Clock;
 use std::sync::Wait;
 use std::sync::atomic::{AtomicU64, Ordering};
+use std::thread;
 use std::thread::Threads;
 use std::time::Duration;
-use std::{array, thread};
 use trace::{Limits, Report, ThreadOutcome};
 
 /// Which threads run, and what is asked of their run.
-#[derive(Clone, Copy)]
 pub(crate) enum Crowd {
     /// Sixteen at one class.
     Sixteen,
@@ -116,46 +115,18 @@ fn is_of_sixteen<R: Threads + Wait + Sync>(rt: &R, alloc: Global, program: &Prog
     ran.is_whole && ran.threads == 16 && are_made && are_others
 }
 
-/// Counts the events.
-#[derive(Drop)]
-struct Counting {
-    count: AtomicU64,
-}
-
-impl Gate for Counting {
-    fn at(&self, _event: &Event) {
-        self.count.fetch_add(1, Ordering::SeqCst);
-    }
-}
-
-fn is_of_two_mains<R: Threads + Wait + Sync>(rt: &R, alloc: Global, program: &Program) -> bool {
-    let mains = [ClassId { number: 1 }, ClassId { number: 2 }];
-    let gate = Counting {
-        count: AtomicU64::new(0),
-    };
-    let Some(ran) = run(rt, alloc, program, &mains, &gate, &NoGate) else {
-        return false;
-    };
-    let steps = ran.steps;
-    let are_made = steps.begins == 5 && steps.runs == 5 && steps.completes == 5;
-    let are_told = gate.count.load(Ordering::SeqCst) == ran.events as u64;
-    ran.is_whole && ran.threads == 2 && are_made && steps.others == 0 && are_told
-}
-
-// So often a thread is let others run at most.
-const TURNS: u64 = 100_000_000;
-
-/// Holds the thread that begins a class until another thread has made an event.
+/// Counts the events, and holds the thread that begins a class until another thread has made an event, for so many turns at most.
 #[derive(Drop)]
 struct Holding {
     made: AtomicU64,
+    turns: u64,
 }
 
 impl Gate for Holding {
     fn at(&self, event: &Event) {
         self.made.fetch_add(1, Ordering::SeqCst);
         if let Step::Begins = step_of(event) {
-            for _ in 0..TURNS {
+            for _ in 0..self.turns {
                 if self.made.load(Ordering::SeqCst) > 1 {
                     return;
                 }
@@ -165,10 +136,26 @@ impl Gate for Holding {
     }
 }
 
+fn is_of_two_mains<R: Threads + Wait + Sync>(rt: &R, alloc: Global, program: &Program) -> bool {
+    let mains = [ClassId { number: 1 }, ClassId { number: 2 }];
+    let gate = Holding {
+        made: AtomicU64::new(0),
+        turns: 0,
+    };
+    let Some(ran) = run(rt, alloc, program, &mains, &gate, &NoGate) else {
+        return false;
+    };
+    let steps = ran.steps;
+    let are_made = steps.begins == 5 && steps.runs == 5 && steps.completes == 5;
+    let are_told = gate.made.load(Ordering::SeqCst) == ran.events as u64;
+    ran.is_whole && ran.threads == 2 && are_made && steps.others == 0 && are_told
+}
+
 fn is_waited_for<R: Threads + Wait + Sync>(rt: &R, alloc: Global, program: &Program) -> bool {
     let mains = [ClassId { number: 0 }; 2];
     let gate = Holding {
         made: AtomicU64::new(0),
+        turns: 100_000_000,
     };
     let Some(ran) = run(rt, alloc, program, &mains, &gate, &NoGate) else {
         return false;
@@ -178,35 +165,45 @@ fn is_waited_for<R: Threads + Wait + Sync>(rt: &R, alloc: Global, program: &Prog
     ran.is_whole && ran.events == 5 && are_made
 }
 
-/// How often each step of two threads at two classes was told.
+/// How often steps 6, 9 and 10 of the class of its own number, and anything else, were told of each of two threads.
 #[derive(Drop)]
 struct Tally {
-    counts: [AtomicU64; 16],
+    counts: [AtomicU64; 8],
 }
 
-/// Steps 6, 9 and 10 of the class of its own number by each thread, once.
-const EACH_ONCE: [u64; 16] = [1, 1, 1, 0, 0, 0, 0, 0, 0, 0, 0, 0, 1, 1, 1, 0];
+/// Each thread made its own steps once, and nothing else.
+const EACH_ONCE: [u64; 8] = [1, 1, 1, 0, 1, 1, 1, 0];
 
 impl Tally {
     fn new() -> Self {
         Tally {
-            counts: array::from_fn(|_| AtomicU64::new(0)),
+            counts: [
+                AtomicU64::new(0),
+                AtomicU64::new(0),
+                AtomicU64::new(0),
+                AtomicU64::new(0),
+                AtomicU64::new(0),
+                AtomicU64::new(0),
+                AtomicU64::new(0),
+                AtomicU64::new(0),
+            ],
         }
     }
 
-    /// An event by another thread or at another class counts as one of the last thread at the last class.
+    /// An event by another thread counts as something else of the last one.
     fn add(&self, event: &Event) {
+        let thread = event.thread();
+        let is_own = match event.class() {
+            Some(class) => class.number == thread && thread < 2,
+            None => false,
+        };
         let step = match step_of(event) {
-            Step::Begins => 0,
-            Step::Runs => 1,
-            Step::Completes => 2,
+            Step::Begins if is_own => 0,
+            Step::Runs if is_own => 1,
+            Step::Completes if is_own => 2,
             _ => 3,
         };
-        let class = match event.class() {
-            Some(class) => class.number.min(1),
-            None => 1,
-        };
-        self.counts[event.thread().min(1) * 8 + class * 4 + step].fetch_add(1, Ordering::SeqCst);
+        self.counts[thread.min(1) * 4 + step].fetch_add(1, Ordering::SeqCst);
     }
 
     /// Whether each thread made steps 6, 9 and 10 of the class of its own number once, and nothing else was told.
@@ -329,7 +326,7 @@ pub(crate) fn is_run<R: Threads + Wait + Sync + Clock>(
     rt: &R,
     alloc: Global,
     program: &Program,
-    crowd: Crowd,
+    crowd: &Crowd,
 ) -> bool {
     match crowd {
         Crowd::Sixteen => is_of_sixteen(rt, alloc, program),

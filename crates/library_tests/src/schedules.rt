@@ -261,19 +261,6 @@ fn made_of(program: &Program, event: &Event) -> Result<Made, AllocError> {
     Ok(Made { thread, class, act })
 }
 
-/// What these events do.
-pub(crate) fn list_of(
-    alloc: Global,
-    program: &Program,
-    events: &[Event],
-) -> Result<Vec<Made>, AllocError> {
-    let mut list = Vec::new(alloc);
-    for event in events {
-        list.push(made_of(program, event)?)?;
-    }
-    Ok(list)
-}
-
 /// What two threads do that make these choices.
 pub(crate) fn events_of(
     alloc: Global,
@@ -282,5 +269,9 @@ pub(crate) fn events_of(
     choices: &[Choice],
 ) -> Result<Vec<Made>, AllocError> {
     let run = replayed(alloc, program, mains, choices)?;
-    list_of(alloc, program, &run.world.into_events())
+    let mut list = Vec::new(alloc);
+    for event in &run.world.into_events() {
+        list.push(made_of(program, event)?)?;
+    }
+    Ok(list)
 }

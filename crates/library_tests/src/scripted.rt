@@ -1,12 +1,8 @@
 //! Bodies that do one of each: they use a class, write and read its static field, print, wait, throw.
 
-ghost use Rattle.std.specs.Prelude.{◌≡◌, ℕ, pos, IsTrue, IfSome, Option};
+ghost use Rattle.std.specs.Prelude.{◌≡◌, pos, IsTrue, IfSome, Option};
 ghost use Rattle.std.specs.Str.{is_utf8};
 ghost use Rattle.hierarchy.specs.declared.value.Value.TheVariants.{Int};
-ghost use Rattle.hierarchy.specs.LinkedProgram.{LinkedProgram};
-ghost use Rattle.init_core.specs.declared.frames.Completed.{Completed as CompletedFacts};
-ghost use Rattle.hierarchy.specs.Subclasses.{IsError, IsThrowable};
-ghost use Rattle.init_core.specs.ProcedureWord.{GoesOn, IsOfFiles};
 ghost use Rattle.bodies.specs.Doing.{MayDo};
 ghost use Rattle.bodies.specs.declared.does.Does.TheVariants.{Gets, Puts};
 ghost use Rattle.library_tests.specs.AnyBodies.{any_bodies};
@@ -45,17 +41,6 @@ pub(crate) struct Scripted {
     done: usize,
     /// What was read.
     read: Option<Value>,
-}
-
-impl Scripted {
-    pub(crate) fn new(throws: bool) -> Self {
-        Scripted {
-            throws,
-            depth: 0,
-            done: 0,
-            read: None,
-        }
-    }
 }
 
 /// A class whose first static field may be used: an int without a constant.
@@ -98,25 +83,16 @@ fn ask(program: &Program, _last: Option<Completed>) -> Does
     }
 }
 
-/// The write of a field.
-fn write(alloc: Global, program: &Program, last: Option<Completed>) -> Does
+/// The write of a field, or its read.
+fn use_field(alloc: Global, program: &Program, last: Option<Completed>, is_write: bool) -> Does
     ensures { (z : ScriptedFacts) → MayDo program.now (any_bodies (λ (s : ScriptedFacts). s.done ≡ 5)) last result z }
 {
     match ready(alloc, program, last) {
-        Some(class) => Does::Puts {
+        Some(class) if is_write => Does::Puts {
             class,
             field: 0,
             value: WRITTEN,
         },
-        None => Does::Over(None),
-    }
-}
-
-/// The read of a field.
-fn read(alloc: Global, program: &Program, last: Option<Completed>) -> Does
-    ensures { (z : ScriptedFacts) → MayDo program.now (any_bodies (λ (s : ScriptedFacts). s.done ≡ 5)) last result z }
-{
-    match ready(alloc, program, last) {
         Some(class) => Does::Gets { class, field: 0 },
         None => Does::Over(None),
     }
@@ -165,8 +141,8 @@ impl Bodies for Scripted {
         self.done = self.done.saturating_add(1);
         match self.done {
             1 | 3 => ask(program, last),
-            2 => write(alloc, program, last),
-            4 => read(alloc, program, last),
+            2 => use_field(alloc, program, last, true),
+            4 => use_field(alloc, program, last, false),
             5 => Does::Waits,
             6 if self.read == Some(WRITTEN) => print(alloc, program, last, b"7"),
             _ => Does::Over(None),
@@ -211,22 +187,14 @@ impl Lends<()> for Scripted {
     ghost limits_lent = { λ p l s shared h. h };
 }
 
-/// How the only thread ends.
-#[derive(Clone, Copy)]
-enum Ending {
-    Normal,
-    Abrupt,
-    OutOfPatience,
-}
-
 /// A run of a main class by such bodies, and what comes of it.
-#[derive(Clone, Copy)]
 pub(crate) struct Script {
     /// Whether it is one in order.
     ordered: bool,
     /// Whether initializers throw.
     throws: bool,
-    ending: Ending,
+    /// How the only thread ends.
+    outcome: ThreadOutcome,
     /// How many events there are.
     events: usize,
     output: &'static [u8],
@@ -234,33 +202,34 @@ pub(crate) struct Script {
 
 const MAIN: ClassId = ClassId { number: 1 };
 
+/// What step 11 leaves of a throwable that is no Error: the built-in classes are numbered after the two files' classes.
+const WRAPPED: ClassId = ClassId {
+    number: 2 + BuiltIn::ExceptionInInitializerError as usize,
+};
+
 /// The run of the main class by such bodies.
 fn run<R: Threads + Wait + Sync>(
     rt: &R,
     alloc: Global,
     program: &Program,
-    script: Script,
+    script: &Script,
 ) -> Option<Report> {
     let mains = [MAIN];
     if !are_of_files(program, &mains) {
         return None;
     }
     let mut bodies = Vec::new(alloc);
-    bodies.push(Scripted::new(script.throws)).ok()?;
+    let body = Scripted {
+        throws: script.throws,
+        depth: 0,
+        done: 0,
+        read: None,
+    };
+    bodies.push(body).ok()?;
     if script.ordered {
         run_ordered(alloc, program, &mains, &[], bodies, ()).ok()
     } else {
         run_threads(rt, alloc, program, &mains, bodies, Limits::USUAL, &NoGate).ok()
-    }
-}
-
-/// Whether the only thread ended so.
-fn is_ended(outcomes: &[ThreadOutcome], ending: Ending) -> bool {
-    match (outcomes, ending) {
-        ([ThreadOutcome::Normal], Ending::Normal) => true,
-        ([ThreadOutcome::Abrupt(_)], Ending::Abrupt) => true,
-        ([ThreadOutcome::Ended(Limit::Patience)], Ending::OutOfPatience) => true,
-        _ => false,
     }
 }
 
@@ -269,11 +238,11 @@ pub(crate) fn is_scripted<R: Threads + Wait + Sync>(
     rt: &R,
     alloc: Global,
     program: &Program,
-    script: Script,
+    script: &Script,
 ) -> bool {
     match run(rt, alloc, program, script) {
         Some(report) => {
-            is_ended(report.outcomes.as_slice(), script.ending)
+            report.outcomes.as_slice() == [script.outcome].as_slice()
                 && report.events.len() == script.events
                 && report.output.as_slice() == script.output
         }
@@ -283,44 +252,38 @@ pub(crate) fn is_scripted<R: Threads + Wait + Sync>(
 
 const FILES: &[&[u8]] = &[b".class A\n.field static n I", b".class B"];
 
-/// Main writes, reads and prints.
-const USES: Script = Script {
-    ordered: false,
-    throws: false,
-    ending: Ending::Normal,
-    events: 10,
-    output: b"7",
-};
-
-/// What an initializer throws is replaced.
-const THROWS: Script = Script {
-    ordered: false,
-    throws: true,
-    ending: Ending::Abrupt,
-    events: 3,
-    output: b"",
-};
-
-/// In order what waits gives up.
-const WAITS: Script = Script {
-    ordered: true,
-    throws: false,
-    ending: Ending::OutOfPatience,
-    events: 9,
-    output: b"",
-};
-
 pub(crate) const SCRIPTS: &[Row] = &[
+    // Main writes, reads and prints.
     Row {
         files: FILES,
-        question: Question::Scripted(USES),
+        question: Question::Scripted(Script {
+            ordered: false,
+            throws: false,
+            outcome: ThreadOutcome::Normal,
+            events: 10,
+            output: b"7",
+        }),
     },
+    // What an initializer throws is replaced.
     Row {
         files: FILES,
-        question: Question::Scripted(THROWS),
+        question: Question::Scripted(Script {
+            ordered: false,
+            throws: true,
+            outcome: ThreadOutcome::Abrupt(WRAPPED),
+            events: 3,
+            output: b"",
+        }),
     },
+    // In order what waits gives up.
     Row {
         files: FILES,
-        question: Question::Scripted(WAITS),
+        question: Question::Scripted(Script {
+            ordered: true,
+            throws: false,
+            outcome: ThreadOutcome::Ended(Limit::Patience),
+            events: 9,
+            output: b"",
+        }),
     },
 ];

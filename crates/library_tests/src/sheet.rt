@@ -1,6 +1,6 @@
 //! A caller of `serve` that knows what its files hold.
 
-ghost use Rattle.std.specs.Prelude.{◌≡◌, ℕ, List, [], ◌∷◌, Some, None, codes, if◌then◌else◌};
+ghost use Rattle.std.specs.Prelude.{◌≡◌, [], ◌∷◌, Some, None, codes, if◌then◌else◌};
 ghost use Rattle.std.specs.Str.{bytes_eq};
 ghost use Rattle.jasmin_text.specs.Grammar.{Spells};
 ghost use Rattle.jasmin_text.specs.Lines.{lines_of};

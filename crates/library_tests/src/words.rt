@@ -88,5 +88,4 @@ fn is_spelled(alloc: Global, kind: FaultKind, wanted: &str) -> bool {
 fn out_of_memory_is_the_last_kind(rt: HostRuntime) {
     let kind = FaultKind::NoMemory;
     assert!(rt; is_spelled(rt.alloc(), kind, "J14") && kind.number() == 14);
-    assert!(rt; FaultKind::BadByte < FaultKind::BadBody && FaultKind::BadBody < kind);
 }

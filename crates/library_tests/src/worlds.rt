@@ -107,7 +107,6 @@ pub(crate) const DIFFERING: &[Row] = &[
 ];
 
 /// What two threads do, and what comes of it.
-#[derive(Clone, Copy)]
 pub(crate) struct Scene {
     mains: [usize; 2],
     choices: &'static [Choice],
@@ -142,7 +141,7 @@ fn is_ended(alloc: Global, program: &Program, run: &mut Run) -> bool
 }
 
 /// Whether these events have this trace.
-fn is_traced(alloc: Global, program: &Program, events: &[Event], trace: &[u8]) -> bool {
+pub(crate) fn is_traced(alloc: Global, program: &Program, events: &[Event], trace: &[u8]) -> bool {
     match write_trace(alloc, program, events) {
         Ok(text) => text.as_slice() == trace,
         Err(_) => false,

@@ -65,7 +65,7 @@ impl<H, B: Lends<H>> Lent<B, H> {
     {
         self.bodies.exchange(&mut shared.state);
         self.uses = self.uses.and(&met, &shared.state);
-        shared.note(number);
+        shared.turns = shared.turns.and(&number, &shared.state);
     }
 
     pub(crate) fn start(

@@ -3,7 +3,6 @@
 ghost use Rattle.std.specs.Prelude.{◌≡◌, ◌<◌, ◌≤◌, IfOk, length, vec_len};
 ghost use Rattle.std.specs.List.{AllByRecursion};
 ghost use Rattle.init_core.specs.declared.event.TheConstants.{THREADS};
-ghost use Rattle.init_core.specs.declared.frames.Outcome.{Outcome as OutcomeFacts};
 ghost use Rattle.init_core.specs.Interleaving.{labels_of};
 ghost use Rattle.trace.specs.Output.{output_of};
 ghost use Rattle.bodies.specs.Lending.{lent_bodies};

@@ -28,7 +28,7 @@ pub(crate) struct Run<B, H> {
 }
 
 /// Which thread goes on next, once the order is used up.
-#[derive(Clone, Copy, PartialEq, Eq)]
+#[derive(Clone, Copy)]
 pub(crate) enum Found {
     /// The lowest that can has gone on.
     GoesOn,

@@ -1,6 +1,6 @@
 //! What all threads of a run share.
 
-ghost use Rattle.std.specs.Prelude.{◌≡◌, ◌++◌, ◌∷◌, []};
+ghost use Rattle.std.specs.Prelude.{◌≡◌, []};
 
 use http_server::Log;
 use std::snapshot::Snapshot;
@@ -25,14 +25,5 @@ impl<H> Shared<H> {
             state,
             turns: Log::new(),
         }
-    }
-
-    /// The thread of this number has left it so.
-    pub(crate) fn note(&mut self, number: usize)
-        ensures first { self.new.first ≡ self.old.first }
-        ensures state { self.new.state ≡ self.old.state }
-        ensures turns { self.new.turns.items ≡ self.old.turns.items ++ (number, self.old.state) ∷ [] }
-    {
-        self.turns = self.turns.and(&number, &self.state);
     }
 }

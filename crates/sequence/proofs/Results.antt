@@ -17,10 +17,6 @@ pub bind_same : {A B F : Type 0} (r : Result A F) (f g : A → Result B F) → (
 bind_same (Ok x) f g h = h x refl
 bind_same (Err e) f g h = refl
 
--- two steps, of which the second gives what the first gives
-pub carried : {A B F : Type 0} (x y : Result A F) (f : A → Result B F) (z : B) → ((a : A) → x ≡ Ok a → y ≡ Ok a) → (x >>= f) ≡ Ok z → (y >>= f) ≡ Ok z
-carried x y f z h e = let first = bind_ok x f z e in then y f first.0 z (h first.0 first.1) first.2
-
 abbrev pub done : {A F : Type 0} → A → Result A F
 done x = Ok x
 

@@ -54,13 +54,6 @@ impl<K: NameKind> Name<K> {
         }))
     }
 
-    /// The bytes of the name are those of a name.
-    pub fn is_name(&self)
-        ensures { K.is_name self.now ≡ true }
-    {
-        let _ = &self.text;
-    }
-
     /// The bytes of the name.
     pub fn as_slice(&self) -> &[u8]
         ensures bytes { result.now ≡ self.now }

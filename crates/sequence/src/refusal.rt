@@ -5,7 +5,7 @@ ghost use Rattle.std.specs.Prelude.{◌≡◌};
 use std::alloc::{AllocError, AllocFailed};
 
 /// Why a text could not be read.
-#[derive(Debug, Drop)]
+#[derive(Drop)]
 pub enum Refusal<F> {
     /// There was no memory. Nothing is said of the text.
     Memory,

@@ -1,7 +1,7 @@
 //! What the static fields of a class hold.
 
 ghost use Rattle.std.specs.Prelude.{◌≡◌, ◌<◌, Some, IfOk, length, map, filter, set, slice_get};
-ghost use Rattle.statics.specs.Statics.{statics_of, static_fields as static_fields_of, static_field as static_field_of, default_of, with_constants};
+ghost use Rattle.statics.specs.Statics.{statics_of, static_field as static_field_of, default_of, with_constants};
 ghost use Rattle.hierarchy.specs.Ops.{is_static_field};
 
 use crate::static_field::{StaticField, static_field};

@@ -7,7 +7,7 @@ use std::error::Error;
 use std::fmt;
 
 /// What is wrong with a line of a trace. A kind prints as its code, `L1` to `L7`.
-#[derive(Clone, Copy, Debug, PartialEq, Eq, PartialOrd, Ord)]
+#[derive(Clone, Copy, Debug, PartialEq, Eq)]
 pub enum TraceFaultKind {
     /// `L1`: a word that doesn't have the form of its place, or is empty, missing or one too many; or the last line has no LF.
     BadLine,

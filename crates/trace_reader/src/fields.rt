@@ -1,6 +1,6 @@
 //! Static fields and their values.
 
-ghost use Rattle.std.specs.Prelude.{◌≡◌, ◌<◌, ◌≤◌, ◌==◌, ◌++◌, ◌∷◌, filter, length, option_copied, IfOk, IfSome, Some};
+ghost use Rattle.std.specs.Prelude.{◌≡◌, ◌<◌, ◌==◌, ◌++◌, ◌∷◌, filter, option_copied, Some};
 ghost use Rattle.std.specs.List.{list_any};
 ghost use Rattle.std.specs.Str.{bytes_eq};
 ghost use Rattle.descriptors.specs.Spelling.{field_spelling, element_spelling};
@@ -8,7 +8,7 @@ ghost use Rattle.hierarchy.specs.Ops.{is_static_field};
 ghost use Rattle.sequence.specs.Gives.{Gives};
 ghost use Rattle.statics.specs.Statics.{base_in, static_fields};
 ghost use Rattle.trace.specs.TraceText.{field_in_trace};
-ghost use Rattle.trace_reader.specs.Fields.{field_from, field_at, value_in, value_at, kept, reference_in};
+ghost use Rattle.trace_reader.specs.Fields.{field_from, field_at, value_in, value_at, reference_in};
 ghost use Rattle.trace_reader.specs.Prefixes.{behind};
 
 use crate::fault::TraceFaultKind;

@@ -1,6 +1,6 @@
 //! One line of a trace.
 
-ghost use Rattle.std.specs.Prelude.{◌≡◌, ◌<◌, ◌≤◌, IfOk, Some};
+ghost use Rattle.std.specs.Prelude.{◌<◌, ◌≤◌, IfOk, Some};
 ghost use Rattle.hierarchy.specs.LinkedProgram.{class_named};
 ghost use Rattle.init_core.specs.Numbers.{IsInRange};
 ghost use Rattle.sequence.specs.Gives.{Gives};

@@ -4,7 +4,7 @@ ghost use Rattle.std.specs.Prelude.{◌≡◌, ◌<◌, ◌≤◌, ◌++◌, len
 ghost use Rattle.std.specs.List.{list_all};
 ghost use Rattle.std.specs.Str.{is_utf8 as are_utf8};
 ghost use Rattle.sequence.specs.Gives.{Gives};
-ghost use Rattle.trace_reader.specs.Strings.{low_hex, has_code, coded, letter, code_at, escape_at, is_plain, stands_alone, plain_len, byte_at, closing, bytes_at, quote_at, closed_at, text_at};
+ghost use Rattle.trace_reader.specs.Strings.{low_hex, has_code, coded, code_at, escape_at, is_plain, stands_alone, plain_len, byte_at, closing, bytes_at, quote_at, closed_at, text_at};
 
 use crate::fault::TraceFaultKind;
 use crate::words::{Read, ends_word};

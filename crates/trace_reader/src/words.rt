@@ -1,6 +1,6 @@
 //! The words of a line.
 
-ghost use Rattle.std.specs.Prelude.{◌≡◌, ◌≤◌, ◌<◌, length, IfOk};
+ghost use Rattle.std.specs.Prelude.{◌≡◌, ◌≤◌, ◌<◌, length};
 ghost use Rattle.std.specs.Str.{bytes_eq};
 ghost use Rattle.sequence.specs.Gives.{Gives};
 ghost use Rattle.trace_reader.specs.Words.{ends_word as is_ending, word_len, word_at, space_at, next_at, end_at};

@@ -1,4 +1,4 @@
-use Rattle.std.proofs.Common.{rules, arith, ◌<◌, ◌≤◌}
+use Rattle.std.proofs.Common.{rules, arith}
 use Rattle.heap.proofs.Made.{made_beyond, none_below}
 use Rattle.heap.proofs.Heap.made_at.Goals as goal
 

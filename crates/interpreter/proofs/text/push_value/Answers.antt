@@ -1,4 +1,4 @@
-use Rattle.std.proofs.Common.{◌≡◌, Some, rules, ap, sym, subst, ◌∙◌, w32}
+use Rattle.std.proofs.Common.{Some, rules, ap, sym, subst, ◌∙◌, w32}
 use Rattle.std.proofs.lemmas.Int.{to_z-of_z, ints}
 use Rattle.sequence.specs.Written.{Adds}
 use Rattle.frames.specs.declared.cell.Cell.{Cell}

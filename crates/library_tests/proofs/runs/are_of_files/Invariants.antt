@@ -1,4 +1,4 @@
-use Rattle.std.proofs.Common.{◌≡◌, drop}
+use Rattle.std.proofs.Common.{drop}
 use Rattle.bodies.specs.Runs.{AreMains}
 use Rattle.library_tests.proofs.runs.are_of_files.Given as goal
 
