@@ -3,9 +3,10 @@
 //! A file is UTF-8 text, an archive of parts. The lines before the first head are a comment.
 //!
 //! - A line `-- TEXT --` is a head. The lines after it, up to the next head, are its body, each with its line feed.
+//! - After a head `-- each: TEXT --` each line is a part of its own, with the head `TEXT`.
 //! - A line `== TEXT ==` is a head too. It begins a group of cases and says why they are answered so, with the
 //!   section of the standard where there is one. Its body is a comment.
-//! - An empty line directly before a `== ==` head belongs to no body. Any other empty line is one of the body.
+//! - An empty line directly before a `== ==` head belongs to no part. Any other empty line is one of the body.
 //!
 //! In a body `«` and `»` spell what a text editor doesn't show:
 //!
@@ -36,6 +37,8 @@ pub(crate) struct Part<'a> {
 pub(crate) struct Archive<'a> {
     alloc: Global,
     pub(crate) parts: Vec<Part<'a>>,
+    /// The head of each line from here on, where each is a part of its own.
+    each: Option<&'a str>,
     /// The first line with a malformed escape, if there is one: 0 where the file isn't UTF-8.
     pub(crate) bad_line: Option<usize>,
     /// Whether memory was refused: then there are more parts, or longer ones.
@@ -57,6 +60,7 @@ impl<'a> Archive<'a> {
         let mut archive = Archive {
             alloc,
             parts: Vec::new(alloc),
+            each: None,
             bad_line: None,
             is_refused: false,
         };
@@ -76,16 +80,6 @@ impl<'a> Archive<'a> {
         }
     }
 
-    /// Adds a number to the last part's body.
-    fn push_number(&mut self, number: usize) {
-        let mut digits = Writer::new(self.alloc);
-        push_decimal(&mut digits, number);
-        match digits.into_text() {
-            Ok(digits) => self.push(&digits),
-            Err(_) => self.is_refused = true,
-        }
-    }
-
     /// Adds the bytes that hexadecimal digits spell, or answers that they spell none.
     fn push_bytes(&mut self, digits: &str) -> bool {
         for word in digits.split_whitespace() {
@@ -99,34 +93,32 @@ impl<'a> Archive<'a> {
 
     /// Adds a text with the number of the repeat for `#` and a line feed for `¶`.
     fn push_copy(&mut self, number: usize, text: &str) {
+        let mut digits = Writer::new(self.alloc);
+        push_decimal(&mut digits, number);
+        let Ok(digits) = digits.into_text() else {
+            self.is_refused = true;
+            return;
+        };
         for character in text.chars() {
             match character {
-                '#' => self.push_number(number),
+                '#' => self.push(&digits),
                 '¶' => self.push(b"\n"),
                 other => self.push(other.encode_utf8(&mut [0; 4]).as_bytes()),
             }
         }
     }
 
-    /// Adds copies of a text.
-    fn push_times(&mut self, count: usize, text: &str) {
-        for number in 0..count {
-            if self.is_refused {
-                return;
-            }
-            self.push_copy(number, text);
-        }
-    }
-
-    /// Adds what an escape spells, or answers that it is malformed.
-    fn push_escape(&mut self, escape: &str) -> bool {
-        let Some((count, text)) = escape.split_once(" times ") else {
-            return self.push_bytes(escape);
-        };
+    /// Adds so many copies of a text, or answers that the count is none.
+    fn push_times(&mut self, count: &str, text: &str) -> bool {
         let Ok(count) = count.parse::<usize>() else {
             return false;
         };
-        self.push_times(count, text);
+        for number in 0..count {
+            if self.is_refused {
+                return true;
+            }
+            self.push_copy(number, text);
+        }
         true
     }
 
@@ -135,15 +127,19 @@ impl<'a> Archive<'a> {
         let Some((escape, after)) = piece.split_once('»') else {
             return false;
         };
-        if !self.push_escape(escape) {
-            return false;
-        }
+        let is_good = match escape.split_once(" times ") {
+            Some((count, text)) => self.push_times(count, text),
+            None => self.push_bytes(escape),
+        };
         self.push(after.as_bytes());
-        true
+        is_good
     }
 
-    /// Adds what the pieces of a line before each `«` and after spell, or answers that an escape is malformed.
-    fn push_pieces(&mut self, line: &str) -> bool {
+    /// Adds a line to the last part's body, or answers that an escape is malformed.
+    fn push_line(&mut self, line: &str) -> bool {
+        if self.parts.is_empty() {
+            return true;
+        }
         let mut is_first = true;
         for piece in line.split('«') {
             if is_first {
@@ -153,19 +149,10 @@ impl<'a> Archive<'a> {
             }
             is_first = false;
         }
-        true
-    }
-
-    /// Adds a line to the last part's body, or answers that an escape is malformed.
-    fn push_line(&mut self, line: &str) -> bool {
-        if self.parts.is_empty() {
-            return true;
-        }
-        let is_good = self.push_pieces(line);
         if !line.ends_with("«»") {
             self.push(b"\n");
         }
-        is_good
+        true
     }
 
     /// Adds a part with an empty body.
@@ -182,9 +169,11 @@ impl<'a> Archive<'a> {
         }
     }
 
-    /// Takes the empty line before a group from the last part's body.
+    /// Takes the empty line before a group: it is the last part, or the end of its body.
     fn drop_empty_line(&mut self) {
-        if let Some(part) = self.parts.last_mut() {
+        if self.each.is_some() {
+            let _ = self.parts.pop();
+        } else if let Some(part) = self.parts.last_mut() {
             let _ = part.body.pop();
         }
     }
@@ -192,12 +181,18 @@ impl<'a> Archive<'a> {
     /// Adds a line: a head, or a line of the last part's body. Answers whether its escapes are well formed.
     fn push_any(&mut self, line: &'a str, number: usize, is_after_empty: bool) -> bool {
         let Some((head, is_group)) = head_of(line) else {
+            if let Some(head) = self.each {
+                self.push_part(head, false, number);
+            }
             return self.push_line(line);
         };
         if is_group && is_after_empty {
             self.drop_empty_line();
         }
-        self.push_part(head, is_group, number);
+        self.each = head.strip_prefix("each: ");
+        if self.each.is_none() {
+            self.push_part(head, is_group, number);
+        }
         true
     }
 
@@ -214,4 +209,19 @@ impl<'a> Archive<'a> {
             is_after_empty = line.is_empty();
         }
     }
+}
+
+/// The parts after the one at this index, up to the next with that head.
+pub(crate) fn parts_after<'p, 'a>(
+    parts: &'p [Part<'a>],
+    index: usize,
+    head: &str,
+) -> &'p [Part<'a>] {
+    let after = parts.get(index.saturating_add(1)..).unwrap_or_default();
+    for (count, part) in after.iter().enumerate() {
+        if part.head == head && !part.is_group {
+            return after.get(..count).unwrap_or_default();
+        }
+    }
+    after
 }

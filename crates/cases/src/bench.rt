@@ -1,10 +1,11 @@
 //! Times of Jinit's crates, as ratios within one run: `cases bench NAME`.
 //!
 //! NAME is a benchmark, as `link`; its module says what is measured. `reader` and `lock` take a number behind it, of parts and
-//! of rounds, and `threads` takes `held`; `all` says the same as no such word. Each line has the time of a part of the work
-//! beside that of other work, in nanoseconds, and beside one uncontended `fetch_add`, all taken many times in turn (`harness`).
-//! Where a part is a byte, the line also has MB/s. With words that it doesn't know the program lists the names, and its exit
-//! status is 2. Among the names of files `bench` is a little of each benchmark, a case each, and no time is printed.
+//! of rounds, and `threads` takes `held`. Each line has the time of a part of the work
+//! beside that of other work, in nanoseconds, and beside one uncontended `fetch_add`, all taken many times in turn (`harness`), and
+//! how many millions of parts are done in a second: MB/s where a part is a byte. With a name or a word behind it that it doesn't know
+//! the program lists the names, and its exit status is 2. Among the names of files `bench` is a little of each benchmark, a case each,
+//! and no time is printed.
 
 mod bare;
 mod code;
@@ -24,7 +25,6 @@ mod traces;
 mod turns;
 
 use crate::bench::harness::{Failure, Row, measure, try_out};
-use crate::bench::sample::{Sample, Scene};
 use crate::report::Report;
 use std::alloc::Global;
 use std::process::ExitCode;
@@ -47,8 +47,6 @@ pub(crate) struct Benchmark {
     rows: &'static [Row],
     /// The number that it is measured with where none is given.
     number: usize,
-    /// Whether one may be given.
-    takes_number: bool,
 }
 
 /// All benchmarks. (They are named in `main` alone: each function that names them all costs its proof.)
@@ -57,66 +55,48 @@ pub(crate) const ALL: &[Benchmark] = &[
         name: "reader",
         rows: reader::ROWS,
         number: PARTS,
-        takes_number: true,
     },
     Benchmark {
         name: "link",
         rows: link::ROWS,
         number: 1,
-        takes_number: false,
     },
     Benchmark {
         name: "needs",
         rows: needs::ROWS,
         number: 1,
-        takes_number: false,
     },
     Benchmark {
         name: "looks",
         rows: looks::ROWS,
         number: 1,
-        takes_number: false,
     },
     Benchmark {
         name: "turns",
         rows: turns::ROWS,
         number: 1,
-        takes_number: false,
     },
     Benchmark {
         name: "judge",
         rows: judging::ROWS,
         number: 1,
-        takes_number: false,
     },
     Benchmark {
         name: "trace",
         rows: traces::ROWS,
         number: 1,
-        takes_number: false,
     },
     Benchmark {
         name: "lock",
         rows: lock::ROWS,
         number: ROUNDS,
-        takes_number: true,
     },
     Benchmark {
         name: "threads",
         rows: threads::ROWS,
         number: 1,
-        takes_number: false,
     },
 ];
-
-// The number that a benchmark is measured with where the second word says this, if it may say so.
-fn number_of(benchmark: &Benchmark, detail: &str) -> Option<usize> {
-    match detail.parse::<usize>() {
-        Ok(number) if benchmark.takes_number => Some(number),
-        Err(_) if detail == "all" => Some(benchmark.number),
-        _ => None,
-    }
-}
 
 // The benchmark of a name, of these.
 fn named<'a>(all: &'a [Benchmark], name: &str) -> Option<&'a Benchmark> {
@@ -144,26 +124,28 @@ pub(crate) fn judge<R: Clock + Threads + Wait + Sync>(
     }
 }
 
-// Sixteen threads, held for a second, and nothing else: how much processor time that takes is the caller's to measure.
-fn hold<R: Clock + Print + Threads + Wait + Sync>(rt: &R, alloc: Global) -> Result<u8, Failure> {
-    Sample::With(Scene::Held).time_alone(rt, alloc, 16)?;
-    println!(rt; "16 threads were held for a second")?;
-    Ok(0)
-}
-
 // Measures what the words ask for, or says what they may be, and answers the exit status.
 fn print_all<R: Clock + Print + Eprint + Threads + Wait + Sync>(
     rt: &R,
     alloc: Global,
     all: &[Benchmark],
     name: &str,
-    detail: &str,
+    details: &[String],
 ) -> Result<u8, Failure> {
+    let detail = match details {
+        [] => "",
+        [detail, ..] => detail.as_str(),
+    };
     if name == "threads" && detail == "held" {
-        return hold(rt, alloc);
+        threads::hold(rt, alloc)?;
+        return Ok(0);
     }
     if let Some(benchmark) = named(all, name) {
-        if let Some(number) = number_of(benchmark, detail) {
+        let number = match detail {
+            "" => Ok(benchmark.number),
+            _ => detail.parse::<usize>(),
+        };
+        if let Ok(number) = number {
             measure(rt, alloc, benchmark.rows, number)?;
             return Ok(0);
         }
@@ -178,9 +160,9 @@ pub(crate) fn answer<R: Clock + Print + Eprint + Threads + Wait + Sync>(
     alloc: Global,
     all: &[Benchmark],
     name: &str,
-    detail: &str,
+    details: &[String],
 ) -> ExitCode {
-    match print_all(rt, alloc, all, name, detail) {
+    match print_all(rt, alloc, all, name, details) {
         Ok(status) => ExitCode::from(status),
         Err(failure) => {
             let reason = failure.name();

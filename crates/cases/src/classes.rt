@@ -86,28 +86,6 @@ fn judge_lines(alloc: Global, program: &Program, part: &Part<'_>, report: &mut R
     }
 }
 
-/// Whether the head is an answer of linking.
-fn is_of_linking(head: &str) -> bool {
-    head.starts_with("linked: ") || head.starts_with("refused: ")
-}
-
-/// Judges a part of a program.
-fn judge_part(
-    alloc: Global,
-    linked: &Result<Program, LinkFault>,
-    part: &Part<'_>,
-    report: &mut Report<'_>,
-) {
-    match linked {
-        Ok(program) if !is_of_linking(part.head) => judge_lines(alloc, program, part, report),
-        _ => {
-            report.wanted.push(part.head.as_bytes());
-            push_linked(&mut report.came, linked);
-            report.judges(part.line);
-        }
-    }
-}
-
 /// Judges the parts of a program.
 pub(crate) fn judge(
     alloc: Global,
@@ -116,8 +94,15 @@ pub(crate) fn judge(
     report: &mut Report<'_>,
 ) {
     for part in parts {
-        if !part.is_group {
-            judge_part(alloc, linked, part, report);
+        let is_of_linking = part.head.starts_with("linked: ") || part.head.starts_with("refused: ");
+        match linked {
+            _ if part.is_group => {}
+            Ok(program) if !is_of_linking => judge_lines(alloc, program, part, report),
+            _ => {
+                report.wanted.push(part.head.as_bytes());
+                push_linked(&mut report.came, linked);
+                report.judges(part.line);
+            }
         }
     }
 }

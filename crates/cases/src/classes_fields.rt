@@ -8,7 +8,7 @@ use std::alloc::Global;
 
 /// Adds a value: an int, `null`, or a reference by its number, `#3`.
 fn push_value(text: &mut Text, value: Value) {
-    if !text.bytes().is_empty() {
+    if !text.bytes.is_empty() {
         text.push(b" ");
     }
     match value {
@@ -40,14 +40,6 @@ fn place_of(program: &Program, asked: &str) -> Option<(ClassId, usize)> {
     Some((class, place))
 }
 
-/// Adds the name and type of a static field, if the class has it.
-fn push_named(alloc: Global, text: &mut Text, program: &Program, class: ClassId, place: usize) {
-    match static_field_at(program, class, place) {
-        Some(field) => push_field(alloc, text, field),
-        None => text.push(b"none"),
-    }
-}
-
 /// Adds what a field holds, if there is the field.
 fn push_held(text: &mut Text, bank: &Bank, place: usize) {
     if place < bank.len() {
@@ -65,31 +57,19 @@ pub(crate) fn static_fields(
     let Some((class, place)) = place_of(program, asked) else {
         return false;
     };
-    push_named(alloc, came, program, class, place);
+    match static_field_at(program, class, place) {
+        Some(field) => push_field(alloc, came, field),
+        None => came.push(b"none"),
+    }
     match Bank::prepared(alloc, program, class) {
         Ok(mut bank) => {
             push_held(came, &bank, place);
             bank.constants();
             push_held(came, &bank, place);
         }
-        Err(_) => came.refuse(),
+        Err(_) => came.is_refused = true,
     }
     true
-}
-
-/// Has a field hold a value, narrowed to its type, if there is the field.
-fn put(bank: &mut Bank, place: usize, value: Value) {
-    if place < bank.len() {
-        let base = bank.field(place).base;
-        bank.put(place, narrowed(base, value));
-    }
-}
-
-/// Adds what all fields hold.
-fn push_values(text: &mut Text, bank: &Bank) {
-    for place in 0..bank.len() {
-        push_value(text, bank.get(place));
-    }
 }
 
 /// What the static fields of a class hold after a put.
@@ -106,10 +86,15 @@ pub(crate) fn puts(alloc: Global, program: &Program, asked: &str, came: &mut Tex
     match Bank::prepared(alloc, program, class) {
         Ok(mut bank) => {
             bank.constants();
-            put(&mut bank, place, value);
-            push_values(came, &bank);
+            if place < bank.len() {
+                let base = bank.field(place).base;
+                bank.put(place, narrowed(base, value));
+            }
+            for place in 0..bank.len() {
+                push_held(came, &bank, place);
+            }
         }
-        Err(_) => came.refuse(),
+        Err(_) => came.is_refused = true,
     }
     true
 }

@@ -6,22 +6,17 @@ use hierarchy::{BUILT_IN_COUNT, BuiltIn, ClassId, Program};
 use init_core::needs;
 use std::alloc::Global;
 
-/// Adds the names of these classes.
+/// Adds the names of these classes; `none` where the text is empty then.
 fn push_names(text: &mut Text, program: &Program, classes: &[ClassId]) {
     for class in classes {
-        if !text.bytes().is_empty() {
+        if !text.bytes.is_empty() {
             text.push(b" ");
         }
         push_class(text, program, *class);
     }
-}
-
-/// Adds the names of these classes, or that there are none.
-fn push_any_names(text: &mut Text, program: &Program, classes: &[ClassId]) {
-    if classes.is_empty() {
+    if text.bytes.is_empty() {
         text.push(b"none");
     }
-    push_names(text, program, classes);
 }
 
 /// The classes that are initialized before a class's initializer runs.
@@ -30,8 +25,8 @@ pub(crate) fn needed(alloc: Global, program: &Program, asked: &str, came: &mut T
         return false;
     };
     match needs(alloc, program, class) {
-        Ok(classes) => push_any_names(came, program, &classes),
-        Err(_) => came.refuse(),
+        Ok(classes) => push_names(came, program, &classes),
+        Err(_) => came.is_refused = true,
     }
     true
 }
@@ -54,8 +49,8 @@ pub(crate) fn built_in_names(program: &Program, asked: &str, came: &mut Text) ->
     for place in 0..BUILT_IN_COUNT {
         if let Some(class) = BuiltIn::at(place) {
             came.show_name(&class);
-            let is_asked = came.bytes() == asked.as_bytes();
-            came.clear();
+            let is_asked = came.bytes.as_slice() == asked.as_bytes();
+            came.bytes.clear();
             if is_asked {
                 push_class(came, program, program.built_in(class));
                 return true;
@@ -86,9 +81,7 @@ pub(crate) fn superinterfaces_of(program: &Program, asked: &str, came: &mut Text
     for superinterface in program.superinterfaces(class) {
         push_names(came, program, &[superinterface]);
     }
-    if came.bytes().is_empty() {
-        came.push(b"none");
-    }
+    push_names(came, program, &[]);
     true
 }
 
@@ -107,14 +100,12 @@ pub(crate) fn subtypes(program: &Program, asked: &str, came: &mut Text) -> bool 
     true
 }
 
-/// What stands between two quotes.
-fn quoted(text: &str) -> Option<&str> {
-    text.strip_prefix('"')?.strip_suffix('"')
-}
-
 /// The number of a quoted text.
 pub(crate) fn text_references(program: &Program, asked: &str, came: &mut Text) -> bool {
-    let Some(text) = quoted(asked) else {
+    let Some(text) = asked.strip_prefix('"') else {
+        return false;
+    };
+    let Some(text) = text.strip_suffix('"') else {
         return false;
     };
     match program.text_reference(text.as_bytes()) {

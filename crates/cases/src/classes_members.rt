@@ -5,7 +5,7 @@ use descriptors::{MethodType, parse_field, parse_method, write_field, write_meth
 use hierarchy::{
     BuiltIn, BuiltInMethod, ClassId, FieldId, FieldKind, Invoke, MethodId, Printed, Program,
 };
-use jasmin_text::{Field, Method};
+use jasmin_text::Field;
 use std::alloc::Global;
 
 /// The method that an instruction names.
@@ -54,32 +54,6 @@ pub(crate) fn push_field(alloc: Global, text: &mut Text, field: &Field) {
     text.push_made(write_field(alloc, &field.field_type));
 }
 
-fn field_at(program: &Program, class: ClassId, place: usize) -> Option<&Field> {
-    program.class(class)?.fields.as_slice().get(place)
-}
-
-fn method_at(program: &Program, class: ClassId, place: usize) -> Option<&Method> {
-    program.class(class)?.methods.as_slice().get(place)
-}
-
-/// Adds a field by the class that declares it, its name and its type.
-fn push_declared_field(
-    alloc: Global,
-    text: &mut Text,
-    program: &Program,
-    class: ClassId,
-    place: usize,
-) {
-    match field_at(program, class, place) {
-        Some(field) => {
-            push_class(text, program, class);
-            text.push(b"/");
-            push_field(alloc, text, field);
-        }
-        None => text.push(b"?"),
-    }
-}
-
 /// Adds a field by the class that declares it, its name and its type, or an error by its name without a package.
 fn push_found_field(
     alloc: Global,
@@ -90,7 +64,13 @@ fn push_found_field(
     match found {
         Ok(FieldId::Out) => text.push(b"java/lang/System/out Ljava/io/PrintStream;"),
         Ok(FieldId::Declared(class, place)) => {
-            push_declared_field(alloc, text, program, class, place)
+            push_class(text, program, class);
+            text.push(b"/");
+            if let Some(class) = program.class(class) {
+                if let Some(field) = class.fields.as_slice().get(place) {
+                    push_field(alloc, text, field);
+                }
+            }
         }
         Err(error) => text.show_name(&error),
     }
@@ -124,29 +104,6 @@ fn push_built_in(text: &mut Text, method: BuiltInMethod) {
     }
 }
 
-/// Adds a method by its name and descriptor, `own()V`.
-fn push_method(alloc: Global, text: &mut Text, method: Option<&Method>) {
-    match method {
-        Some(method) => {
-            text.push(method.name.as_slice());
-            text.push_made(write_method(alloc, &method.method_type));
-        }
-        None => text.push(b"?"),
-    }
-}
-
-/// Adds a method by the class that declares it, its name and its descriptor.
-fn push_declared(alloc: Global, text: &mut Text, program: &Program, method: MethodId) {
-    push_class(text, program, program.declaring_class(method));
-    text.push(b"/");
-    match method {
-        MethodId::BuiltIn(_, method) => push_built_in(text, method),
-        MethodId::Declared(class, place) => {
-            push_method(alloc, text, method_at(program, class, place))
-        }
-    }
-}
-
 /// Adds a method by the class that declares it, its name and its descriptor, or an error by its name without a package.
 pub(crate) fn push_found(
     alloc: Global,
@@ -154,18 +111,25 @@ pub(crate) fn push_found(
     program: &Program,
     found: Result<MethodId, BuiltIn>,
 ) {
-    match found {
-        Ok(method) => push_declared(alloc, text, program, method),
-        Err(error) => text.show_name(&error),
-    }
-}
-
-/// What kind of field the instruction wants.
-fn field_kind(instruction: &str) -> Option<FieldKind> {
-    match instruction {
-        "getstatic" | "putstatic" => Some(FieldKind::Static),
-        "getfield" | "putfield" => Some(FieldKind::Instance),
-        _ => None,
+    let method = match found {
+        Ok(method) => method,
+        Err(error) => {
+            text.show_name(&error);
+            return;
+        }
+    };
+    push_class(text, program, program.declaring_class(method));
+    text.push(b"/");
+    match method {
+        MethodId::BuiltIn(_, method) => push_built_in(text, method),
+        MethodId::Declared(class, place) => {
+            if let Some(class) = program.class(class) {
+                if let Some(method) = class.methods.as_slice().get(place) {
+                    text.push(method.name.as_slice());
+                    text.push_made(write_method(alloc, &method.method_type));
+                }
+            }
+        }
     }
 }
 
@@ -201,16 +165,6 @@ fn resolves_field(
     true
 }
 
-/// To which method a reference resolves.
-pub(crate) fn resolved(
-    program: &Program,
-    how: Invoke,
-    reference: &MethodReference<'_>,
-) -> Result<MethodId, BuiltIn> {
-    let name = reference.name.as_bytes();
-    program.resolve_method(how, reference.class, name, &reference.method_type)
-}
-
 /// To which method `A/own()V` resolves.
 fn resolves_method(
     alloc: Global,
@@ -221,7 +175,9 @@ fn resolves_method(
 ) -> bool {
     match method_reference(alloc, program, text) {
         Some(reference) => {
-            push_found(alloc, came, program, resolved(program, how, &reference));
+            let name = reference.name.as_bytes();
+            let found = program.resolve_method(how, reference.class, name, &reference.method_type);
+            push_found(alloc, came, program, found);
             true
         }
         None => false,
@@ -233,11 +189,16 @@ pub(crate) fn resolves(alloc: Global, program: &Program, asked: &str, came: &mut
     let Some((instruction, reference)) = asked.split_once(' ') else {
         return false;
     };
-    if let Some(kind) = field_kind(instruction) {
-        return resolves_field(alloc, program, kind, reference, came);
-    }
-    match invoke(instruction) {
-        Some(how) => resolves_method(alloc, program, how, reference, came),
-        None => false,
+    match instruction {
+        "getstatic" | "putstatic" => {
+            resolves_field(alloc, program, FieldKind::Static, reference, came)
+        }
+        "getfield" | "putfield" => {
+            resolves_field(alloc, program, FieldKind::Instance, reference, came)
+        }
+        _ => match invoke(instruction) {
+            Some(how) => resolves_method(alloc, program, how, reference, came),
+            None => false,
+        },
     }
 }

@@ -13,28 +13,23 @@ use descriptors::{
 use sequence::Refusal;
 use std::alloc::Global;
 
-/// Adds what an element is.
-fn push_element(text: &mut Text, element: &ElementType) {
-    match element {
-        ElementType::Base(base) => text.show_name(base),
-        ElementType::Class(name) => {
-            text.push(b"class ");
-            text.push(name.as_slice());
-        }
-    }
-}
-
 /// Adds a field's type, where it is written as this descriptor.
 fn push_field(alloc: Global, came: &mut Text, field: &FieldType, descriptor: &[u8]) {
     match write_field(alloc, field) {
         Ok(written) if written.as_slice() == descriptor => {
-            push_element(came, &field.element);
+            match &field.element {
+                ElementType::Base(base) => came.show_name(base),
+                ElementType::Class(name) => {
+                    came.push(b"class ");
+                    came.push(name.as_slice());
+                }
+            }
             came.push(b", ");
             came.show(&field.dimensions);
             came.push(b" dimensions");
         }
         Ok(_) => came.push(b"written otherwise"),
-        Err(_) => came.refuse(),
+        Err(_) => came.is_refused = true,
     }
 }
 
@@ -43,7 +38,7 @@ pub(crate) fn push_field_answer(alloc: Global, came: &mut Text, descriptor: &[u8
     came.push(b"a field: ");
     match parse_field(alloc, descriptor) {
         Ok(field) => push_field(alloc, came, &field, descriptor),
-        Err(Refusal::Memory) => came.refuse(),
+        Err(Refusal::Memory) => came.is_refused = true,
         Err(Refusal::Fault(fault)) => came.show(&fault),
     }
 }
@@ -62,7 +57,7 @@ fn push_copied(
             came.push(b" parameters");
         }
         Ok(_) => came.push(b"written otherwise"),
-        Err(_) => came.refuse(),
+        Err(_) => came.is_refused = true,
     }
 }
 
@@ -70,7 +65,7 @@ fn push_copied(
 fn push_method(alloc: Global, came: &mut Text, method: &MethodType, descriptor: &[u8]) {
     match method.clone() {
         Ok(copy) => push_copied(alloc, came, method, &copy, descriptor),
-        Err(_) => came.refuse(),
+        Err(_) => came.is_refused = true,
     }
 }
 
@@ -79,7 +74,7 @@ pub(crate) fn push_method_answer(alloc: Global, came: &mut Text, descriptor: &[u
     came.push(b"a method: ");
     match parse_method(alloc, descriptor) {
         Ok(method) => push_method(alloc, came, &method, descriptor),
-        Err(Refusal::Memory) => came.refuse(),
+        Err(Refusal::Memory) => came.is_refused = true,
         Err(Refusal::Fault(fault)) => came.show(&fault),
     }
 }
@@ -91,7 +86,7 @@ fn push_name(came: &mut Text, name: &ClassName, word: &[u8]) {
             came.push(b"a class name")
         }
         Ok(_) => came.push(b"a class name of other bytes"),
-        Err(_) => came.refuse(),
+        Err(_) => came.is_refused = true,
     }
 }
 
@@ -101,6 +96,6 @@ pub(crate) fn push_class_name_answer(alloc: Global, came: &mut Text, word: &[u8]
         Ok(Some(name)) => push_name(came, &name, word),
         Ok(None) if is_class_name(word) => came.push(b"a class name of other bytes"),
         Ok(None) => came.push(b"no class name"),
-        Err(_) => came.refuse(),
+        Err(_) => came.is_refused = true,
     }
 }

@@ -6,20 +6,17 @@
 //!   class that is read, which is read as the same class.
 //! - `-- canonical --`: the body is a canonical text.
 //! - `-- words --` and heads of one word: see [`words`](crate::words).
-//! - `-- each: HEAD --`: each line of the body is a case with this head.
 //!
 //! `-- around --` has a file with three dots: from here on each case is put in their place, without its last line
 //! feed. A head `-- and around --` after it has one more, and each case is judged in each. `-- around as --` is the
 //! same for canonical texts.
 
 use crate::archive::Part;
-use crate::framing::{
-    Case, Frame, cases_of, frame_of, push_framed, push_wanted, without_line_feed,
-};
+use crate::framing::{Frame, frame_of, push_framed, push_wanted, without_line_feed};
 use crate::linked::push_fault;
 use crate::report::Report;
 use crate::text::Text;
-use crate::words::{is_of_word, push_word_answer, push_words};
+use crate::words::{is_of_word, push_word_answer};
 use jasmin_reader::read_class;
 use jasmin_text::write_class;
 use std::alloc::Global;
@@ -33,28 +30,21 @@ struct Around<'a> {
     canonical: Option<&'a [u8]>,
 }
 
-/// Adds the first fault of a file, or that it is read.
-fn push_answer(alloc: Global, came: &mut Text, file: &[u8]) {
+/// Adds that a file is read, or its canonical text where that is asked for; or its first fault.
+fn push_answer(alloc: Global, came: &mut Text, file: &[u8], is_text_asked: bool) {
     match read_class(alloc, file) {
+        Ok(class) if is_text_asked => came.push_made(write_class(alloc, &class)),
         Ok(_) => came.push(b"read"),
-        Err(fault) => push_fault(came, fault),
-    }
-}
-
-/// Adds the canonical text of a file, or its first fault.
-fn push_canonical(alloc: Global, came: &mut Text, file: &[u8]) {
-    match read_class(alloc, file) {
-        Ok(class) => came.push_made(write_class(alloc, &class)),
         Err(fault) => push_fault(came, fault),
     }
 }
 
 /// Judges whether the file that is given and the canonical text that is wanted both have that canonical text.
 fn judge_canonical(alloc: Global, line: usize, report: &mut Report<'_>) {
-    push_canonical(alloc, &mut report.came, report.given.bytes());
-    if report.came.bytes() == report.wanted.bytes() {
-        report.came.clear();
-        push_canonical(alloc, &mut report.came, report.wanted.bytes());
+    push_answer(alloc, &mut report.came, &report.given.bytes, true);
+    if report.came.bytes.as_slice() == report.wanted.bytes.as_slice() {
+        report.came.bytes.clear();
+        push_answer(alloc, &mut report.came, &report.wanted.bytes, true);
     }
     report.judges(line);
 }
@@ -62,12 +52,12 @@ fn judge_canonical(alloc: Global, line: usize, report: &mut Report<'_>) {
 /// Judges a case in a frame: by its canonical text, where that is given, or else by the answer that its head demands.
 fn judge_framed(
     alloc: Global,
-    case: &Case<'_>,
+    case: &Part<'_>,
     frame: Option<Frame<'_>>,
     around: &Around<'_>,
     report: &mut Report<'_>,
 ) {
-    push_framed(&mut report.given, frame, case.body);
+    push_framed(&mut report.given, frame, &case.body);
     match around.canonical {
         Some(text) => {
             push_framed(&mut report.wanted, around.canonical_frame, text);
@@ -75,14 +65,14 @@ fn judge_framed(
         }
         None => {
             push_wanted(&mut report.wanted, case.head, frame);
-            push_answer(alloc, &mut report.came, report.given.bytes());
+            push_answer(alloc, &mut report.came, &report.given.bytes, false);
             report.judges(case.line);
         }
     }
 }
 
 /// Judges a case in each frame.
-fn judge_frames(alloc: Global, case: &Case<'_>, around: &Around<'_>, report: &mut Report<'_>) {
+fn judge_frames(alloc: Global, case: &Part<'_>, around: &Around<'_>, report: &mut Report<'_>) {
     if around.frames.is_empty() {
         judge_framed(alloc, case, None, around, report);
     }
@@ -91,34 +81,22 @@ fn judge_frames(alloc: Global, case: &Case<'_>, around: &Around<'_>, report: &mu
     }
 }
 
-/// Judges the words of a line.
-fn judge_words(alloc: Global, case: &Case<'_>, around: &Around<'_>, report: &mut Report<'_>) {
-    report.wanted.push(around.canonical.unwrap_or(b""));
-    push_words(alloc, &mut report.came, without_line_feed(case.body));
-    report.judges(case.line);
-}
-
-/// Judges what a word is.
-fn judge_word(alloc: Global, case: &Case<'_>, report: &mut Report<'_>) {
-    let word = without_line_feed(case.body);
-    report.wanted.push(case.head.as_bytes());
-    push_word_answer(alloc, &mut report.came, case.head, word);
-    report.judges(case.line);
-}
-
-/// Judges a canonical text.
-fn judge_text(alloc: Global, case: &Case<'_>, frame: Option<Frame<'_>>, report: &mut Report<'_>) {
-    push_framed(&mut report.given, frame, case.body);
-    push_framed(&mut report.wanted, frame, case.body);
-    judge_canonical(alloc, case.line, report);
-}
-
 /// Judges a case.
-fn judge_case(alloc: Global, case: &Case<'_>, around: &Around<'_>, report: &mut Report<'_>) {
+fn judge_case(alloc: Global, case: &Part<'_>, around: &Around<'_>, report: &mut Report<'_>) {
     match case.head {
-        "words" => judge_words(alloc, case, around, report),
-        "canonical" => judge_text(alloc, case, around.canonical_frame, report),
-        head if is_of_word(head) => judge_word(alloc, case, report),
+        "canonical" => {
+            push_framed(&mut report.given, around.canonical_frame, &case.body);
+            push_framed(&mut report.wanted, around.canonical_frame, &case.body);
+            judge_canonical(alloc, case.line, report);
+        }
+        head if is_of_word(head) => {
+            // (the words of a line are listed in the part after it)
+            let wanted = around.canonical.unwrap_or(head.as_bytes());
+            report.wanted.push(wanted);
+            let word = without_line_feed(&case.body);
+            push_word_answer(alloc, &mut report.came, head, word);
+            report.judges(case.line);
+        }
         _ => judge_frames(alloc, case, around, report),
     }
 }
@@ -128,26 +106,14 @@ fn add_frame<'a>(part: &'a Part<'_>, frames: &mut Vec<Frame<'a>>, report: &mut R
     match frame_of(&part.body) {
         Some(frame) => {
             if frames.push(frame).is_err() {
-                report.refuse();
+                report.text.is_refused = true;
             }
         }
         None => report.fails(part.line, b"...", &part.body),
     }
 }
 
-/// Judges the cases of a part.
-fn judge_body(alloc: Global, part: &Part<'_>, around: &Around<'_>, report: &mut Report<'_>) {
-    match cases_of(alloc, part) {
-        Ok(cases) => {
-            for case in &cases {
-                judge_case(alloc, case, around, report);
-            }
-        }
-        Err(_) => report.refuse(),
-    }
-}
-
-/// Judges the cases of a part, or takes from it what stands around those after it.
+/// Judges a part, or takes from it what stands around the cases after it.
 fn judge_part<'a>(
     alloc: Global,
     part: &'a Part<'_>,
@@ -162,15 +128,7 @@ fn judge_part<'a>(
             add_frame(part, &mut around.frames, report);
         }
         "and around" => add_frame(part, &mut around.frames, report),
-        _ => judge_body(alloc, part, around, report),
-    }
-}
-
-/// The body of the part at this index, where its head is `-- as --`.
-fn canonical_at<'a>(parts: &'a [Part<'_>], index: usize) -> Option<&'a [u8]> {
-    match parts.get(index) {
-        Some(part) if part.head == "as" => Some(&part.body),
-        _ => None,
+        _ => judge_case(alloc, part, around, report),
     }
 }
 
@@ -182,7 +140,10 @@ pub(crate) fn judge(alloc: Global, parts: &[Part<'_>], report: &mut Report<'_>) 
         canonical: None,
     };
     for (index, part) in parts.iter().enumerate() {
-        around.canonical = canonical_at(parts, index.saturating_add(1));
+        around.canonical = match parts.get(index.saturating_add(1)) {
+            Some(next) if next.head == "as" => Some(next.body.as_slice()),
+            _ => None,
+        };
         if !part.is_group {
             judge_part(alloc, part, &mut around, report);
         }

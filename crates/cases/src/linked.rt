@@ -4,24 +4,21 @@
 //! that begins with `.class` or `.interface` to the next such line. What stands up to the next such part is asked of
 //! this program: see [`classes`] and [`traces`].
 
-use crate::archive::Part;
+use crate::archive::{Part, parts_after};
 use crate::report::Report;
 use crate::text::Text;
 use crate::{classes, traces};
 use hierarchy::{LinkFault, Program, link};
 use jasmin_reader::{ReadFault, read_class};
 use jasmin_text::ClassText;
+use jasmin_words::FaultKind;
 use std::alloc::Global;
 use std::str::from_utf8;
 
-/// What is asked of programs.
-#[derive(Clone, Copy)]
-pub(crate) enum Asked {
-    /// What is known of their classes.
-    Classes,
-    /// Which texts are traces of theirs.
-    Traces,
-}
+const NO_MEMORY: ReadFault = ReadFault {
+    kind: FaultKind::NoMemory,
+    line: 0,
+};
 
 /// Adds a fault of a file in the Jasmin form, with its line.
 pub(crate) fn push_fault(text: &mut Text, fault: ReadFault) {
@@ -47,73 +44,56 @@ pub(crate) fn push_linked(text: &mut Text, linked: &Result<Program, LinkFault>) 
     }
 }
 
-/// Whether a program begins with the part.
-fn begins_program(part: &Part<'_>) -> bool {
-    !part.is_group && part.head == "classes"
-}
-
-/// Whether a file begins with the line.
-fn begins_file(line: &str) -> bool {
-    line.starts_with(".class ") || line.starts_with(".interface ")
-}
-
-/// Adds the class that a file spells, or answers its fault. Takes no file that is empty.
-fn read_file(
+/// Adds the class that a file spells, or answers its fault. A list without room is a fault of line 0.
+pub(crate) fn add_class(
     alloc: Global,
     file: &[u8],
     classes: &mut Vec<ClassText>,
-    report: &mut Report<'_>,
-) -> Option<ReadFault> {
-    if file.is_empty() {
-        return None;
-    }
+) -> Result<(), ReadFault> {
     match read_class(alloc, file) {
         Ok(class) => {
             if classes.push(class).is_err() {
-                report.refuse();
+                return Err(NO_MEMORY);
             }
-            None
+            Ok(())
         }
-        Err(fault) => Some(fault),
+        Err(fault) => Err(fault),
     }
 }
 
-/// Adds the classes of a program's files, up to the first that has a fault.
-fn read_files(
-    alloc: Global,
-    body: &str,
-    classes: &mut Vec<ClassText>,
-    report: &mut Report<'_>,
-) -> Option<ReadFault> {
+/// Adds the classes of a program's files, up to the first that has a fault. Takes no file that is empty.
+fn add_classes(alloc: Global, body: &str, classes: &mut Vec<ClassText>) -> Result<(), ReadFault> {
     let mut file = Text::new(alloc);
     for line in body.lines() {
-        if begins_file(line) {
-            let fault = read_file(alloc, file.bytes(), classes, report);
-            if fault.is_some() {
-                return fault;
-            }
-            file.clear();
+        let begins = line.starts_with(".class ") || line.starts_with(".interface ");
+        if begins && !file.bytes.is_empty() {
+            add_class(alloc, &file.bytes, classes)?;
+            file.bytes.clear();
         }
         file.push(line.as_bytes());
         file.push(b"\n");
     }
-    if file.is_refused() {
-        report.refuse();
+    if file.is_refused {
+        return Err(NO_MEMORY);
     }
-    read_file(alloc, file.bytes(), classes, report)
+    if file.bytes.is_empty() {
+        return Ok(());
+    }
+    add_class(alloc, &file.bytes, classes)
 }
 
-/// Judges what is asked of a program, whose files stand in the first part.
+/// Judges what is asked of a program, whose files stand in the first part: which texts are its traces, in a file of traces, else what
+/// is known of its classes.
 fn judge_program(
     alloc: Global,
-    asked: Asked,
+    file: &str,
     files: &Part<'_>,
     parts: &[Part<'_>],
     report: &mut Report<'_>,
 ) {
     let mut classes = Vec::new(alloc);
     let body = from_utf8(&files.body).unwrap_or("?");
-    if let Some(fault) = read_files(alloc, body, &mut classes, report) {
+    if let Err(fault) = add_classes(alloc, body, &mut classes) {
         report.wanted.push(b"files without a fault");
         push_fault(&mut report.came, fault);
         report.came.push(b" of a file");
@@ -121,29 +101,23 @@ fn judge_program(
         return;
     }
     let linked = link(alloc, classes);
-    match asked {
-        Asked::Classes => classes::judge(alloc, &linked, parts, report),
-        Asked::Traces => traces::judge(alloc, &linked, files.line, parts, report),
+    if file.contains("traces/") {
+        traces::judge(alloc, &linked, files.line, parts, report);
+    } else {
+        classes::judge(alloc, &linked, parts, report);
     }
 }
 
-/// Fails the parts that stand before the first program.
-fn fail_front(parts: &[Part<'_>], report: &mut Report<'_>) {
-    for part in parts {
-        if !part.is_group {
+/// Judges the cases of a file of this name. Parts before the first program fail.
+pub(crate) fn judge(alloc: Global, file: &str, parts: &[Part<'_>], report: &mut Report<'_>) {
+    let mut is_front = true;
+    for (index, part) in parts.iter().enumerate() {
+        if part.head == "classes" && !part.is_group {
+            is_front = false;
+            let after = parts_after(parts, index, "classes");
+            judge_program(alloc, file, part, after, report);
+        } else if is_front && !part.is_group {
             report.fails(part.line, part.head.as_bytes(), b"no program before it");
-        }
-    }
-}
-
-/// Judges the cases of a file.
-pub(crate) fn judge(alloc: Global, asked: Asked, parts: &[Part<'_>], report: &mut Report<'_>) {
-    for program in parts.chunk_by(|_, part| !begins_program(part)) {
-        match program {
-            [files, after @ ..] if begins_program(files) => {
-                judge_program(alloc, asked, files, after, report)
-            }
-            front => fail_front(front, report),
         }
     }
 }

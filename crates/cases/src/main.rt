@@ -28,7 +28,6 @@ mod words;
 
 use crate::archive::{Archive, Part};
 use crate::bench::Benchmark;
-use crate::linked::Asked;
 use crate::report::Report;
 use std::alloc::{Alloc, Global};
 use std::process::ExitCode;
@@ -47,14 +46,12 @@ fn judge<R: Threads + Wait + Sync>(
 ) {
     if file.ends_with(".txtar") {
         programs::judge(rt, alloc, parts, report)
-    } else if file.contains("classes/") {
-        linked::judge(alloc, Asked::Classes, parts, report)
     } else if file.contains("jasmin/") {
         jasmin::judge(alloc, parts, report)
-    } else if file.contains("traces/") {
-        linked::judge(alloc, Asked::Traces, parts, report)
+    } else if file.contains("classes/") || file.contains("traces/") {
+        linked::judge(alloc, file, parts, report)
     } else {
-        report.refuses(b"not in a folder of cases")
+        report.fails(0, b"a folder of cases", b"another one")
     }
 }
 
@@ -68,9 +65,9 @@ fn judge_bytes<R: Threads + Wait + Sync>(
 ) {
     let archive = Archive::read(alloc, bytes);
     if archive.is_refused {
-        report.refuses(b"out of memory");
+        report.fails(0, b"cases", b"out of memory");
     } else if let Some(line) = archive.bad_line {
-        report.refuses_line(line);
+        report.fails(line, b"a good escape", b"a bad one");
     } else {
         judge(rt, alloc, file, &archive.parts, report);
     }
@@ -84,30 +81,16 @@ fn judge_file<'a, R: Files + Alloc + Clock + Threads + Wait + Sync>(
     benchmarks: &[Benchmark],
     report: &mut Report<'a>,
 ) {
-    report.begins(file);
+    report.file = file;
     if file == "bench" {
         bench::judge(rt, alloc, benchmarks, report);
     } else {
         match fs::read(rt, file) {
             Ok(bytes) => judge_bytes(rt, alloc, file, &bytes, report),
-            Err(_) => report.refuses(b"can't be read"),
+            Err(_) => report.fails(0, b"a file", b"none that can be read"),
         }
     }
     report.ends();
-}
-
-/// Judges the files of these names, after the program's own, and answers whether all cases passed.
-fn judge_all<'a, R: Files + Alloc + Clock + Threads + Wait + Sync>(
-    rt: &R,
-    alloc: Global,
-    args: &'a [String],
-    benchmarks: &[Benchmark],
-    report: &mut Report<'a>,
-) -> bool {
-    for file in args.iter().skip(1) {
-        judge_file(rt, alloc, file.as_str(), benchmarks, report);
-    }
-    report.closes()
 }
 
 /// The words of the command line.
@@ -117,15 +100,18 @@ fn args_of(rt: &HostRuntime) -> io::Result<Vec<String>> {
 }
 
 /// Judges the files of these names, after the program's own, and prints what came of them.
-fn judge_and_print<R: Files + Alloc + Clock + Print + Threads + Wait + Sync>(
+fn judge_all<R: Files + Alloc + Clock + Print + Threads + Wait + Sync>(
     rt: &R,
     alloc: Global,
     args: &[String],
     benchmarks: &[Benchmark],
 ) -> ExitCode {
     let mut report = Report::new(alloc);
-    let has_passed = judge_all(rt, alloc, args, benchmarks, &mut report);
-    let is_written = rt.write_all(report.text()).is_ok();
+    for file in args.iter().skip(1) {
+        judge_file(rt, alloc, file.as_str(), benchmarks, &mut report);
+    }
+    let has_passed = report.closes();
+    let is_written = rt.write_all(&report.text.bytes).is_ok();
     ExitCode::from(if has_passed && is_written { 0 } else { 1 })
 }
 
@@ -137,13 +123,10 @@ fn answer<R: Files + Alloc + Clock + Print + Eprint + Threads + Wait + Sync>(
     benchmarks: &[Benchmark],
 ) -> ExitCode {
     match args {
-        [_, word, name] if word.as_str() == "bench" => {
-            bench::answer(rt, alloc, benchmarks, name.as_str(), "all")
+        [_, word, name, details @ ..] if word.as_str() == "bench" => {
+            bench::answer(rt, alloc, benchmarks, name.as_str(), details)
         }
-        [_, word, name, detail, ..] if word.as_str() == "bench" => {
-            bench::answer(rt, alloc, benchmarks, name.as_str(), detail.as_str())
-        }
-        _ => judge_and_print(rt, alloc, args, benchmarks),
+        _ => judge_all(rt, alloc, args, benchmarks),
     }
 }
 

@@ -20,7 +20,7 @@ mod checked;
 mod named_texts;
 mod threaded;
 
-use crate::archive::Part;
+use crate::archive::{Part, parts_after};
 use crate::programs::checked::judge_trace;
 use crate::programs::named_texts::Texts;
 use crate::programs::threaded::run_threaded;
@@ -47,28 +47,17 @@ fn put_copy(
     Ok(())
 }
 
-/// Makes a file for each number below this one.
-fn put_numbered(alloc: Global, count: usize, name: &str, body: &str, files: &mut Texts) {
-    for number in 0..count {
-        if put_copy(alloc, number, name, body, files).is_err() {
-            files.refuse();
-        }
-    }
-}
-
-/// Whether a part has files that are made.
-fn has_files(part: &Part<'_>) -> bool {
-    part.head.starts_with("file ") || part.head.contains(" times file ")
-}
-
 /// Makes the files that a part has.
 fn put_files(alloc: Global, part: &Part<'_>, files: &mut Texts) {
     if let Some(name) = part.head.strip_prefix("file ") {
         files.put(name, &part.body);
     } else if let Some((count, name)) = part.head.split_once(" times file ") {
-        let count = count.parse::<usize>().unwrap_or(0);
         let body = from_utf8(&part.body).unwrap_or("");
-        put_numbered(alloc, count, name, body, files);
+        for number in 0..count.parse::<usize>().unwrap_or(0) {
+            if put_copy(alloc, number, name, body, files).is_err() {
+                files.is_refused = true;
+            }
+        }
     }
 }
 
@@ -84,7 +73,7 @@ fn put_outcome(outcome: &mut Texts, out: &[u8], err: &[u8], status: u8, files: &
 fn put_wanted(wanted: &mut Texts, parts: &[Part<'_>], files: &Texts) {
     put_outcome(wanted, b"", b"", 0, files);
     for part in parts {
-        if !has_files(part) {
+        if !part.head.starts_with("file ") && !part.head.contains(" times file ") {
             wanted.put(part.head, &part.body);
         }
     }
@@ -101,8 +90,8 @@ fn words_of<'a>(alloc: Global, command: &'a str) -> Result<Vec<&'a str>, AllocEr
 
 /// Adds what a run on a thread of its own, if there was one, made otherwise, under the heads that say it.
 fn compare(threaded: &Texts, trace: Option<&str>, files: &Texts, came: &mut Texts) {
-    if threaded.is_refused() {
-        came.refuse();
+    if threaded.is_refused {
+        came.is_refused = true;
     }
     if threaded.is_empty() {
         return;
@@ -183,8 +172,8 @@ fn run<R: Threads + Wait + Sync>(
 
 /// Judges what came of a run.
 fn judge_run(line: usize, wanted: &Texts, came: &Texts, report: &mut Report<'_>) {
-    if wanted.is_refused() || came.is_refused() {
-        report.refuse();
+    if wanted.is_refused || came.is_refused {
+        report.text.is_refused = true;
     }
     wanted.write_others(came, &mut report.wanted);
     came.write_others(wanted, &mut report.came);
@@ -200,10 +189,6 @@ fn judge_case<R: Threads + Wait + Sync>(
     files: &mut Texts,
     report: &mut Report<'_>,
 ) {
-    if command.head != "command" {
-        report.fails(command.line, b"command", command.head.as_bytes());
-        return;
-    }
     for part in parts {
         put_files(alloc, part, files);
     }
@@ -212,15 +197,15 @@ fn judge_case<R: Threads + Wait + Sync>(
     put_wanted(&mut wanted, parts, files);
     match words_of(alloc, from_utf8(&command.body).unwrap_or("")) {
         Ok(words) => run(rt, alloc, &words, files, &mut came),
-        Err(_) => came.refuse(),
+        Err(_) => came.is_refused = true,
     }
-    if files.is_refused() {
-        came.refuse();
+    if files.is_refused {
+        came.is_refused = true;
     }
     judge_run(command.line, &wanted, &came, report);
 }
 
-/// Judges the cases of a file.
+/// Judges the cases of a file. A part before the first command fails.
 pub(crate) fn judge<R: Threads + Wait + Sync>(
     rt: &R,
     alloc: Global,
@@ -228,9 +213,12 @@ pub(crate) fn judge<R: Threads + Wait + Sync>(
     report: &mut Report<'_>,
 ) {
     let mut files = Texts::new(alloc);
-    for case in parts.chunk_by(|_, part| part.head != "command") {
-        if let [command, parts @ ..] = case {
-            judge_case(rt, alloc, command, parts, &mut files, report);
+    for (index, part) in parts.iter().enumerate() {
+        if part.head == "command" {
+            let after = parts_after(parts, index, "command");
+            judge_case(rt, alloc, part, after, &mut files, report);
+        } else if index == 0 {
+            report.fails(part.line, b"command", part.head.as_bytes());
         }
     }
 }

@@ -9,12 +9,13 @@ use std::alloc::Global;
 #[derive(Drop)]
 pub(crate) struct Report<'a> {
     /// The name of the file whose cases are judged.
-    file: &'a str,
+    pub(crate) file: &'a str,
     /// The cases of that file.
     cases: usize,
     passed: usize,
     failed: usize,
-    text: Text,
+    /// What the report says.
+    pub(crate) text: Text,
     /// Of the case that is judged: what it is about, where that isn't the body of a part alone.
     pub(crate) given: Text,
     /// Of that case: the answer that is wanted.
@@ -40,18 +41,6 @@ fn push_block(text: &mut Text, block: &[u8]) {
     text.push(b"\n");
 }
 
-/// Adds that another answer was wanted at a line of a file than the one that came.
-fn push_failure(text: &mut Text, file: &str, line: usize, wanted: &[u8], came: &[u8]) {
-    text.push(file.as_bytes());
-    text.push(b":");
-    text.show(&line);
-    text.push(b": wanted");
-    push_block(text, wanted);
-    text.push(b", came");
-    push_block(text, came);
-    text.push(b"\n");
-}
-
 impl<'a> Report<'a> {
     /// A report of no case.
     pub(crate) fn new(alloc: Global) -> Report<'a> {
@@ -67,78 +56,50 @@ impl<'a> Report<'a> {
         }
     }
 
-    /// Begins with the cases of a file.
-    pub(crate) fn begins(&mut self, file: &'a str) {
-        self.file = file;
-        self.cases = 0;
-    }
-
     /// Reports how many cases the file has.
     pub(crate) fn ends(&mut self) {
         self.text.push(self.file.as_bytes());
         self.text.push(b": ");
         self.text.show(&self.cases);
         self.text.push(b" cases\n");
+        self.cases = 0;
     }
 
-    /// Ends a case, whose texts make room for those of the next.
-    fn ends_case(&mut self) {
-        self.cases = self.cases.saturating_add(1);
-        self.given.clear();
-        self.wanted.clear();
-        self.came.clear();
+    /// Adds that another answer was wanted at a line of the file than the one that came.
+    fn push_failure(&mut self, line: usize) {
+        self.text.push(self.file.as_bytes());
+        self.text.push(b":");
+        self.text.show(&line);
+        self.text.push(b": wanted");
+        push_block(&mut self.text, &self.wanted.bytes);
+        self.text.push(b", came");
+        push_block(&mut self.text, &self.came.bytes);
+        self.text.push(b"\n");
     }
 
-    /// Notes that memory was refused.
-    pub(crate) fn refuse(&mut self) {
-        self.text.refuse();
-    }
-
-    /// Notes whether memory was refused to a text of the case.
-    fn note_refusal(&mut self) {
-        if self.given.is_refused() || self.wanted.is_refused() || self.came.is_refused() {
-            self.text.refuse();
-        }
-    }
-
-    /// The case at this line of the file failed: another answer was wanted than the one that came.
-    pub(crate) fn fails(&mut self, line: usize, wanted: &[u8], came: &[u8]) {
-        self.note_refusal();
-        self.failed = self.failed.saturating_add(1);
-        push_failure(&mut self.text, self.file, line, wanted, came);
-        self.ends_case();
-    }
-
-    /// The case at this line of the file passed where the answer that came is the one that is wanted.
+    /// The case at this line of the file passed where the answer that came is the one that is wanted. Its texts make room for those
+    /// of the next.
     pub(crate) fn judges(&mut self, line: usize) {
-        self.note_refusal();
-        let wanted = self.wanted.bytes();
-        let came = self.came.bytes();
-        if wanted == came {
+        if self.given.is_refused || self.wanted.is_refused || self.came.is_refused {
+            self.text.is_refused = true;
+        }
+        self.cases = self.cases.saturating_add(1);
+        if self.wanted.bytes.as_slice() == self.came.bytes.as_slice() {
             self.passed = self.passed.saturating_add(1);
         } else {
             self.failed = self.failed.saturating_add(1);
-            push_failure(&mut self.text, self.file, line, wanted, came);
+            self.push_failure(line);
         }
-        self.ends_case();
+        self.given.bytes.clear();
+        self.wanted.bytes.clear();
+        self.came.bytes.clear();
     }
 
-    /// The file has no cases that can be judged, for this reason.
-    pub(crate) fn refuses(&mut self, reason: &[u8]) {
-        self.failed = self.failed.saturating_add(1);
-        self.text.push(self.file.as_bytes());
-        self.text.push(b": ");
-        self.text.push(reason);
-        self.text.push(b"\n");
-    }
-
-    /// The file has a malformed escape in this line.
-    pub(crate) fn refuses_line(&mut self, line: usize) {
-        self.failed = self.failed.saturating_add(1);
-        self.text.push(self.file.as_bytes());
-        self.text.push(b": a bad escape in line ");
-        self.text.show(&line);
-        self.text.push(b"\n");
+    /// The case at this line of the file failed: another answer was wanted than the one that came. What is no case has line 0.
+    pub(crate) fn fails(&mut self, line: usize, wanted: &[u8], came: &[u8]) {
+        self.wanted.push(wanted);
+        self.came.push(came);
+        self.judges(line);
     }
 
     /// Reports how many cases passed and failed, and answers whether all passed.
@@ -147,11 +108,6 @@ impl<'a> Report<'a> {
         self.text.push(b" passed, ");
         self.text.show(&self.failed);
         self.text.push(b" failed\n");
-        self.failed == 0 && !self.text.is_refused()
-    }
-
-    /// What the report says.
-    pub(crate) fn text(&self) -> &[u8] {
-        self.text.bytes()
+        self.failed == 0 && !self.text.is_refused
     }
 }

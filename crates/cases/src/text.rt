@@ -8,8 +8,10 @@ use std::fmt::Write;
 /// reads the text asks once.
 #[derive(Drop)]
 pub(crate) struct Text {
-    bytes: Vec<u8>,
-    is_refused: bool,
+    /// What was added.
+    pub(crate) bytes: Vec<u8>,
+    /// Whether memory was refused.
+    pub(crate) is_refused: bool,
 }
 
 impl Text {
@@ -48,26 +50,6 @@ impl Text {
         if write!(self, "{value:?}").is_err() {
             self.is_refused = true;
         }
-    }
-
-    /// Takes all bytes away. A refusal stays noted.
-    pub(crate) fn clear(&mut self) {
-        self.bytes.clear();
-    }
-
-    /// Notes that memory was refused.
-    pub(crate) fn refuse(&mut self) {
-        self.is_refused = true;
-    }
-
-    /// Whether memory was refused.
-    pub(crate) fn is_refused(&self) -> bool {
-        self.is_refused
-    }
-
-    /// What was added.
-    pub(crate) fn bytes(&self) -> &[u8] {
-        &self.bytes
     }
 }
 

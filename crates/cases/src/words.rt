@@ -38,40 +38,31 @@ fn push_token(list: &mut Text, token: &Token<'_>) {
 }
 
 /// Adds the words of a line, one a line.
-pub(crate) fn push_words(alloc: Global, list: &mut Text, line: &[u8]) {
+fn push_words(alloc: Global, list: &mut Text, line: &[u8]) {
     match words(alloc, line) {
         Ok(tokens) => {
             for token in tokens.as_slice() {
                 push_token(list, token);
             }
         }
-        Err(_) => list.refuse(),
+        Err(_) => list.is_refused = true,
     }
 }
 
-/// Whether the head asks what a word is.
+/// Whether the head asks what a word is, or the words of a line.
 pub(crate) fn is_of_word(head: &str) -> bool {
-    head.ends_with(" name")
+    head == "words"
+        || head.ends_with(" name")
         || head.ends_with(" label")
         || head.contains(" integer")
         || head.starts_with("a field: ")
         || head.starts_with("a method: ")
 }
 
-/// Adds the integer that a word is, or that it is none.
-fn push_integer(came: &mut Text, word: &[u8]) {
-    match parse_integer(word) {
-        Some(value) => {
-            came.push(b"the integer ");
-            came.show(&value);
-        }
-        None => came.push(b"no integer"),
-    }
-}
-
-/// Adds what a word is, under a head that asks for it.
+/// Adds what a word is, or the words of a line, under a head that asks for it.
 pub(crate) fn push_word_answer(alloc: Global, came: &mut Text, head: &str, word: &[u8]) {
     match head {
+        "words" => push_words(alloc, came, word),
         "a name" | "no name" => came.push(if is_name(word) { b"a name" } else { b"no name" }),
         "a label" | "no label" => came.push(if is_label(word) {
             b"a label"
@@ -81,6 +72,12 @@ pub(crate) fn push_word_answer(alloc: Global, came: &mut Text, head: &str, word:
         "a class name" | "no class name" => push_class_name_answer(alloc, came, word),
         _ if head.starts_with("a field: ") => push_field_answer(alloc, came, word),
         _ if head.starts_with("a method: ") => push_method_answer(alloc, came, word),
-        _ => push_integer(came, word),
+        _ => match parse_integer(word) {
+            Some(value) => {
+                came.push(b"the integer ");
+                came.show(&value);
+            }
+            None => came.push(b"no integer"),
+        },
     }
 }

@@ -3,13 +3,15 @@
 
 ghost use Rattle.std.specs.Prelude.{◌<◌, ◌≤◌};
 
+use crate::bench::harness::{Failure, Watch};
 use std::alloc::{AllocError, Global};
+use std::rt::Clock;
 use std::sync::atomic::{AtomicU64, Ordering};
 use std::thread;
 use std::thread::Threads;
 
-/// The words of four locks behind a counter, laid as a table lays them: eight words fill a cache line.
-pub(crate) fn four_locks(alloc: Global) -> Result<Vec<AtomicU64>, AllocError> {
+// The words of four locks behind a counter, laid as a table lays them: eight words fill a cache line.
+fn four_locks(alloc: Global) -> Result<Vec<AtomicU64>, AllocError> {
     let mut words = Vec::new(alloc);
     for _ in 0..40 {
         words.push(AtomicU64::new(0))?;
@@ -17,21 +19,16 @@ pub(crate) fn four_locks(alloc: Global) -> Result<Vec<AtomicU64>, AllocError> {
     Ok(words)
 }
 
-// One try of a lock. One that looks first leaves the word's cache line where it is while another thread has the lock.
-fn try_once(lock: &AtomicU64, looks_first: bool) -> bool {
-    if looks_first && lock.load(Ordering::SeqCst) != 0 {
-        return false;
-    }
-    let tried = lock.compare_exchange(0, 1, Ordering::SeqCst, Ordering::SeqCst);
-    tried.is_ok()
-}
-
-// Tries a lock until it is free, as `InitTable::take` does.
+// Tries a lock until it is free, as `InitTable::take` does. A try after the first looks before, which leaves the word's cache line
+// where it is while another thread has the lock.
 fn take(lock: &AtomicU64) {
     let mut looks_first = false;
     for _ in 0..u64::MAX {
-        if try_once(lock, looks_first) {
-            return;
+        if !looks_first || lock.load(Ordering::SeqCst) == 0 {
+            let tried = lock.compare_exchange(0, 1, Ordering::SeqCst, Ordering::SeqCst);
+            if tried.is_ok() {
+                return;
+            }
         }
         looks_first = true;
         thread::yield_now();
@@ -52,24 +49,25 @@ fn rounds_of(words: &[AtomicU64], place: usize, rounds: usize)
     }
 }
 
-/// So many threads make so many rounds each.
-pub(crate) fn in_threads<R: Threads + Sync>(
+/// The time of a round of bare steps, where so many threads make so many rounds each, on so many locks, 1 to 4 of each.
+pub(crate) fn time<R: Clock + Threads + Sync>(
     rt: &R,
     alloc: Global,
-    words: &[AtomicU64],
     threads: usize,
     records: usize,
     rounds: usize,
-) -> Result<(), AllocError>
-    requires { (0 < records) × (records ≤ 4) }
-{
+) -> Result<u128, Failure> {
+    let locks = records.clamp(1, 4);
+    let kept = four_locks(alloc)?;
+    let words = kept.as_slice();
+    let watch = Watch::start(rt);
     let _ends = thread::map_indices(
         rt,
         alloc,
-        threads,
+        threads.min(4),
         &|number: usize|
-            requires { (0 < records) × (records ≤ 4) }
-        { rounds_of(words, number % records, rounds) },
+            requires { (0 < locks) × (locks ≤ 4) }
+        { rounds_of(words, number % locks, rounds) },
     )?;
-    Ok(())
+    watch.share(rt, rounds)
 }

@@ -10,7 +10,7 @@ const FRONT: &[u8] = b".class public Shape
 ";
 
 /// Methods of arithmetic and jumps on locals.
-pub(crate) const ARITHMETIC: Part = Part {
+pub(crate) const ARITHMETIC: &Part = &Part {
     front: FRONT,
     text: b"
 .method public static sum#(II)I
@@ -42,10 +42,11 @@ Done:
 .end method
 ",
     back: b"",
+    is_of_bytes: true,
 };
 
 /// Methods that make an object and call methods of other classes.
-pub(crate) const CALLS: Part = Part {
+pub(crate) const CALLS: &Part = &Part {
     front: FRONT,
     text: b"
 .method public call#(LShape;I)I
@@ -70,10 +71,11 @@ pub(crate) const CALLS: Part = Part {
 .end method
 ",
     back: b"",
+    is_of_bytes: true,
 };
 
 /// Methods that read and write fields, static ones and those of an object.
-pub(crate) const FIELDS: Part = Part {
+pub(crate) const FIELDS: &Part = &Part {
     front: FRONT,
     text: b"
 .method public count#(LShape;)V
@@ -97,10 +99,11 @@ pub(crate) const FIELDS: Part = Part {
 .end method
 ",
     back: b"",
+    is_of_bytes: true,
 };
 
 /// Methods with a switch of each kind.
-pub(crate) const SWITCHES: Part = Part {
+pub(crate) const SWITCHES: &Part = &Part {
     front: FRONT,
     text: b"
 .method public static choose#(I)I
@@ -135,10 +138,11 @@ Last:
 .end method
 ",
     back: b"",
+    is_of_bytes: true,
 };
 
 /// Methods that print strings.
-pub(crate) const STRINGS: Part = Part {
+pub(crate) const STRINGS: &Part = &Part {
     front: FRONT,
     text: b"
 .method public static print#()V
@@ -154,10 +158,11 @@ pub(crate) const STRINGS: Part = Part {
 .end method
 ",
     back: b"",
+    is_of_bytes: true,
 };
 
 /// One long method after the other with all of these. A file of a MiB has less than 1,024 of them.
-pub(crate) const MIXED: Part = Part {
+pub(crate) const MIXED: &Part = &Part {
     front: FRONT,
     text: b"
 ; Adds up what the shape counts, and prints it now and then.
@@ -236,4 +241,5 @@ Done:
 .end method
 ",
     back: b"",
+    is_of_bytes: true,
 };

@@ -4,11 +4,10 @@
 //! that a busy minute of the machine meets all three. The rounds are spread over several sweeps through all lines, so that such
 //! a minute doesn't meet all rounds of a line. The first round of each sweep warms up and doesn't count.
 //!
-//! The ratio of a line is that of the least times. In a contest for locks (`Sample::is_contended`) the least time is that of a
+//! The ratio of a line is that of the least times. In a contest for locks (`Sample::Lock`) the least time is that of a
 //! lucky round, and the sample's may be luckier than the unit's: there it is the middle one of the ratios of all rounds.
 
 use crate::bench::sample::Sample;
-use hierarchy::Program;
 use std::alloc::{AllocError, Global};
 use std::rt::Clock;
 use std::sync::Wait;
@@ -108,18 +107,14 @@ pub(crate) struct Row {
     pub repeats: usize,
 }
 
-fn add_often(count: usize) {
+// The time of one of many `fetch_add`s on a word of their own.
+fn add_time(rt: &impl Clock) -> Result<u128, Failure> {
     let word = AtomicU64::new(0);
-    for _ in 0..count {
+    let watch = Watch::start(rt);
+    for _ in 0..ADDS {
         word.fetch_add(1, Ordering::SeqCst);
     }
-}
-
-// The time of one of so many `fetch_add`s on a word of their own.
-fn add_time(rt: &impl Clock, count: usize) -> Result<u128, Failure> {
-    let watch = Watch::start(rt);
-    add_often(count);
-    watch.share(rt, count)
+    watch.share(rt, ADDS)
 }
 
 /// A number with two decimals.
@@ -143,147 +138,74 @@ impl fmt::Display for Figure {
     }
 }
 
-/// The times of a part of a sample, of its unit and of one `fetch_add`, in thousandths of a nanosecond.
-#[derive(Clone, Copy)]
-struct Times {
-    sample: u128,
-    unit: u128,
-    add: u128,
-}
-
-impl Times {
-    const LONGEST: Times = Times {
-        sample: u128::MAX,
-        unit: u128::MAX,
-        add: u128::MAX,
-    };
-
-    // The lesser of each two.
-    fn least(self, other: Times) -> Times {
-        Times {
-            sample: self.sample.min(other.sample),
-            unit: self.unit.min(other.unit),
-            add: self.add.min(other.add),
-        }
-    }
-}
-
-// The least of each time over all rounds.
-fn least_times(rounds: &[Times]) -> Times {
-    let mut least = Times::LONGEST;
-    for round in rounds {
-        least = least.least(*round);
-    }
-    least
-}
-
-// The middle one of the ratios of all rounds.
-fn middle_ratio(alloc: Global, rounds: &[Times]) -> Result<Figure, AllocError> {
-    let mut ratios = Vec::new(alloc);
-    for round in rounds {
-        ratios.push(ratio(round.sample, round.unit).hundredths)?;
-    }
-    ratios.sort_unstable();
-    let hundredths = ratios.get(ratios.len() / 2).copied().unwrap_or_default();
-    Ok(Figure { hundredths })
-}
-
-/// A line to print: the sample of a row at one of its sizes, the unit at its own, and the times of its rounds so far.
+/// A line to print: the sample of a row at one of its sizes, the unit at its own, and what is known of its rounds so far.
 #[derive(Drop)]
 struct Line<'a> {
     row: &'a Row,
     size: usize,
     unit_size: usize,
-    rounds: Vec<Times>,
+    /// The least time of a part of the sample, in thousandths of a nanosecond as the other two.
+    sample: u128,
+    /// That of its unit.
+    unit: u128,
+    /// That of one `fetch_add`.
+    add: u128,
+    /// The ratios of all rounds, in hundredths.
+    ratios: Vec<u128>,
 }
 
 impl Line<'_> {
-    // The times of one round, with the program of the sample and that of the unit.
-    fn round<R: Clock + Threads + Wait + Sync>(
-        &self,
-        rt: &R,
-        alloc: Global,
-        program: &Program,
-        unit_program: &Program,
-    ) -> Result<Times, Failure> {
-        Ok(Times {
-            sample: self.row.sample.time(rt, alloc, program, self.size)?,
-            unit: self.row.unit.time(rt, alloc, unit_program, self.unit_size)?,
-            add: add_time(rt, ADDS)?,
-        })
-    }
-
-    // Takes the rounds of one sweep, after those that warm up.
-    fn take_rounds<R: Clock + Threads + Wait + Sync>(
-        &mut self,
-        rt: &R,
-        alloc: Global,
-        program: &Program,
-        unit_program: &Program,
-    ) -> Result<(), Failure> {
-        for number in 0..self.row.repeats.saturating_add(WARM_UPS) {
-            let round = self.round(rt, alloc, program, unit_program)?;
-            if number >= WARM_UPS && self.rounds.push(round).is_err() {
-                return Err(Failure::Memory);
-            }
+    // Notes the times of a round.
+    fn note(&mut self, sample: u128, unit: u128, add: u128) -> Result<(), Failure> {
+        self.sample = self.sample.min(sample);
+        self.unit = self.unit.min(unit);
+        self.add = self.add.min(add);
+        if self.ratios.push(ratio(sample, unit).hundredths).is_err() {
+            return Err(Failure::Memory);
         }
         Ok(())
     }
 
-    // The same, once the program of the sample is linked.
-    fn sweep_with<R: Clock + Threads + Wait + Sync>(
-        &mut self,
-        rt: &R,
-        alloc: Global,
-        program: &Program,
-    ) -> Result<(), Failure> {
-        match self.row.unit.program(alloc, self.unit_size) {
-            Ok(unit_program) => self.take_rounds(rt, alloc, program, &unit_program),
-            Err(failure) => Err(failure),
-        }
-    }
-
-    // Takes the rounds of one sweep.
+    // Takes the rounds of one sweep, after those that warm up.
     fn sweep<R: Clock + Threads + Wait + Sync>(
         &mut self,
         rt: &R,
         alloc: Global,
     ) -> Result<(), Failure> {
-        match self.row.sample.program(alloc, self.size) {
-            Ok(program) => self.sweep_with(rt, alloc, &program),
-            Err(failure) => Err(failure),
+        for number in 0..self.row.repeats.saturating_add(WARM_UPS) {
+            let sample = self.row.sample.time(rt, alloc, self.size)?;
+            let unit = self.row.unit.time(rt, alloc, self.unit_size)?;
+            let add = add_time(rt)?;
+            if number >= WARM_UPS {
+                self.note(sample, unit, add)?;
+            }
         }
+        Ok(())
     }
 
     // How often the time of the unit is in that of the sample.
-    fn beside(&self, alloc: Global, least: Times) -> Result<Figure, AllocError> {
-        if self.row.sample.is_contended() {
-            middle_ratio(alloc, &self.rounds)
-        } else {
-            Ok(ratio(least.sample, least.unit))
+    fn beside(&mut self) -> Figure {
+        match &self.row.sample {
+            Sample::Lock(..) => {
+                self.ratios.sort_unstable();
+                let middle = self.ratios.len() / 2;
+                let hundredths = self.ratios.get(middle).copied().unwrap_or_default();
+                Figure { hundredths }
+            }
+            _ => ratio(self.sample, self.unit),
         }
     }
 
-    // Prints how often the time of the unit is in that of the sample, the time of the sample, and how often that of a
-    // `fetch_add` is in it; of bytes also how many millions are done in a second.
-    fn print(&self, rt: &impl Print, least: Times, beside: Figure) -> io::Result<()> {
+    // Prints how often the time of the unit is in that of the sample, the time of the sample, how often that of a `fetch_add` is in
+    // it, and how many millions of parts are done in a second: of bytes, MB.
+    fn print(&mut self, rt: &impl Print) -> io::Result<()> {
+        let beside = self.beside();
         let size = self.size;
         let what = self.row.what;
-        let nanos = ratio(least.sample, 1000);
-        let adds = ratio(least.sample, least.add);
-        if self.row.sample.is_of_bytes() {
-            let rate = ratio(MILLION_A_SECOND, least.sample);
-            println!(rt; "{size} {what}: {beside} ({nanos} ns, {adds} fetch_adds, {rate} MB/s)")
-        } else {
-            println!(rt; "{size} {what}: {beside} ({nanos} ns, {adds} fetch_adds)")
-        }
-    }
-
-    // Prints the line.
-    fn end(&self, rt: &impl Print, alloc: Global) -> Result<(), Failure> {
-        let least = least_times(&self.rounds);
-        let beside = self.beside(alloc, least)?;
-        Ok(self.print(rt, least, beside)?)
+        let nanos = ratio(self.sample, 1000);
+        let adds = ratio(self.sample, self.add);
+        let rate = ratio(MILLION_A_SECOND, self.sample);
+        println!(rt; "{size} {what}: {beside} ({nanos} ns, {adds} fetch_adds, {rate} M/s)")
     }
 }
 
@@ -300,7 +222,10 @@ fn add_lines<'a>(
             row,
             size: size.saturating_mul(times),
             unit_size: row.unit_size.unwrap_or(*size).saturating_mul(times),
-            rounds: Vec::new(alloc),
+            sample: u128::MAX,
+            unit: u128::MAX,
+            add: u128::MAX,
+            ratios: Vec::new(alloc),
         };
         if lines.push(line).is_err() {
             return Err(Failure::Memory);
@@ -335,8 +260,8 @@ pub(crate) fn measure<R: Clock + Print + Threads + Wait + Sync>(
     for _ in 0..SWEEPS {
         sweep(rt, alloc, &mut lines)?;
     }
-    for line in &lines {
-        line.end(rt, alloc)?;
+    for line in lines.iter_mut() {
+        line.print(rt)?;
     }
     Ok(())
 }
@@ -348,8 +273,8 @@ pub(crate) fn try_out<R: Clock + Threads + Wait + Sync>(
     rows: &[Row],
 ) -> Result<(), Failure> {
     for row in rows {
-        row.sample.time_alone(rt, alloc, LITTLE)?;
-        row.unit.time_alone(rt, alloc, LITTLE)?;
+        row.sample.time(rt, alloc, LITTLE)?;
+        row.unit.time(rt, alloc, LITTLE)?;
     }
     Ok(())
 }

@@ -4,22 +4,18 @@
 //! threads do the same again and again: they find the upper class initialized (step 4 of JLS SE 8 12.4.2), or do so and read or
 //! write its field, or print.
 
-ghost use Rattle.std.specs.Prelude.{◌≡◌, ◌<◌};
-ghost use Rattle.init_core.specs.Numbers.{IsInRange};
-
 use crate::bench::files::Files;
 use crate::bench::harness::{Failure, Row, Watch};
-use crate::bench::sample::{Sample, Scene};
-use crate::bench::traces;
-use hierarchy::{ClassId, Program, Value};
-use init_core::{CLASS_NUMBERS, Event, Kind, THREADS};
+use crate::bench::sample::Sample;
+use crate::bench::traces::trace_time;
+use hierarchy::{ClassId, Program};
+use init_core::Event;
 use judge::{Verdict, check};
-use sequence::Text;
 use std::alloc::{AllocError, Global};
 use std::rt::Clock;
+use trace_reader::read_trace;
 
 /// What both threads do, over and over.
-#[derive(Clone, Copy)]
 pub(crate) enum Story {
     /// They look at an initialized class.
     Looks,
@@ -30,7 +26,6 @@ pub(crate) enum Story {
 }
 
 /// What is done with all events.
-#[derive(Clone, Copy)]
 pub(crate) enum Work {
     /// They are judged: an event.
     Judge,
@@ -46,160 +41,86 @@ pub(crate) enum Work {
 pub(crate) const ROWS: &[Row] = &[
     Row {
         what: "looks, one judged, beside a pass",
-        sample: Sample::With(Scene::Events(Work::Judge, Story::Looks)),
+        sample: Sample::Events(Work::Judge, Story::Looks),
         sizes: &[1_000_000],
         most: 1,
-        unit: Sample::With(Scene::Events(Work::Pass, Story::Looks)),
+        unit: Sample::Events(Work::Pass, Story::Looks),
         unit_size: None,
         repeats: 3,
     },
     Row {
         what: "looks with reads and writes, one judged, beside a pass",
-        sample: Sample::With(Scene::Events(Work::Judge, Story::Fields)),
+        sample: Sample::Events(Work::Judge, Story::Fields),
         sizes: &[1_000_000],
         most: 1,
-        unit: Sample::With(Scene::Events(Work::Pass, Story::Fields)),
+        unit: Sample::Events(Work::Pass, Story::Fields),
         unit_size: None,
         repeats: 3,
     },
     Row {
         what: "prints, one judged, beside a pass",
-        sample: Sample::With(Scene::Events(Work::Judge, Story::Prints)),
+        sample: Sample::Events(Work::Judge, Story::Prints),
         sizes: &[1_000_000],
         most: 1,
-        unit: Sample::With(Scene::Events(Work::Pass, Story::Prints)),
+        unit: Sample::Events(Work::Pass, Story::Prints),
         unit_size: None,
         repeats: 3,
     },
 ];
 
-const UPPER_FILE: &[u8] = b".class A\n.field static total I\n";
-
-const MAIN_FILE: &[u8] = b".class M\n.super A\n";
-
 // Classes have the numbers of their files.
-const UPPER: ClassId = ClassId { number: 0 };
-
 const MAIN: ClassId = ClassId { number: 1 };
 
 /// Adds the files of the two classes.
 pub(crate) fn add_files(files: &mut Files) {
-    files.add_file(UPPER_FILE);
-    files.add_file(MAIN_FILE);
+    files.add_file(b".class A\n.field static total I\n", 0, 0);
+    files.add_file(b".class M\n.super A\n", 0, 0);
 }
 
-/// Events, one after the other.
-#[derive(Drop)]
-struct Events {
-    alloc: Global,
-    list: Vec<Event>,
-    is_refused: bool,
-}
+// Thread 0 initializes both classes, thread 1 finds them initialized and writes the field.
+const FRONT: &[u8] = b"0 t0 step6 M
+1 t0 step6 A
+2 t0 step9 A
+3 t0 step10 A
+4 t0 step9 M
+5 t0 step10 M
+6 t1 step4 M
+7 t1 step4 A
+8 t1 put A total:I 7
+";
 
-fn print_of(alloc: Global, thread: usize, text: &[u8]) -> Result<Event, AllocError>
-    requires { thread < THREADS }
-{
-    Event::print(alloc, thread, Text::copied(alloc, text)?)
-}
+// How many events the front has.
+const FRONT_EVENTS: usize = 9;
 
-fn read() -> Kind
-    ensures { IsInRange result }
-{
-    Kind::Gets {
-        field: 0,
-        value: Value::Int(7),
+// The events of the front, and what both threads do, once.
+fn first_events(alloc: Global, program: &Program, story: &Story) -> Result<Vec<Event>, Failure> {
+    let turn: &[u8] = match story {
+        Story::Looks => b"9 t0 step4 A\n10 t1 step4 A\n",
+        Story::Fields =>
+            b"9 t0 step4 A\n10 t0 get A total:I 7\n11 t1 step4 A\n12 t1 put A total:I 7\n",
+        Story::Prints => {
+            b"9 t0 print \"a line of forty bytes, and then it ends\\n\"\n10 t1 print \"short\\n\"\n"
+        }
+    };
+    let mut trace = Files::new(alloc);
+    trace.add(FRONT, 0, 0);
+    trace.add(turn, 0, 0);
+    let trace = trace.text()?;
+    match read_trace(alloc, program, 2, &trace) {
+        Ok(events) => Ok(events),
+        Err(_) => Err(Failure::Program),
     }
 }
 
-fn written() -> Kind
-    ensures { IsInRange result }
-{
-    Kind::Puts {
-        field: 0,
-        value: Value::Int(7),
-    }
-}
-
-fn events_a_turn(story: Story) -> usize
-    ensures { 0 < result }
-{
-    match story {
-        Story::Looks | Story::Prints => 2,
-        Story::Fields => 4,
-    }
-}
-
-impl Events {
-    // Adds an event, or notes that memory was refused.
-    fn add(&mut self, event: Event) {
-        if self.list.push(event).is_err() {
-            self.is_refused = true;
+// Adds so many events: copies of those behind the front, from the first on, so that what both threads do comes again and again.
+fn repeat(events: &mut Vec<Event>, count: usize) -> Result<(), AllocError> {
+    for place in FRONT_EVENTS..count.saturating_add(FRONT_EVENTS) {
+        if let Some(event) = events.get(place) {
+            let copy = event.clone()?;
+            events.push(copy)?;
         }
     }
-
-    fn add_at(&mut self, thread: usize, class: ClassId, kind: Kind)
-        requires thread { thread < THREADS }
-        requires class { class.number < CLASS_NUMBERS }
-        requires kind { IsInRange kind }
-    {
-        self.add(Event::new(thread, class, kind));
-    }
-
-    fn add_print(&mut self, thread: usize, text: &[u8])
-        requires { thread < THREADS }
-    {
-        match print_of(self.alloc, thread, text) {
-            Ok(event) => self.add(event),
-            Err(_) => self.is_refused = true,
-        }
-    }
-
-    // Thread 0 initializes both classes, thread 1 finds them initialized and writes the field.
-    fn add_front(&mut self) {
-        self.add_at(0, MAIN, Kind::Begins);
-        self.add_at(0, UPPER, Kind::Begins);
-        self.add_at(0, UPPER, Kind::Runs);
-        self.add_at(0, UPPER, Kind::Completes);
-        self.add_at(0, MAIN, Kind::Runs);
-        self.add_at(0, MAIN, Kind::Completes);
-        self.add_at(1, MAIN, Kind::FindsInitialized);
-        self.add_at(1, UPPER, Kind::FindsInitialized);
-        self.add_at(1, UPPER, written());
-    }
-
-    // What both threads do, once.
-    fn add_turn(&mut self, story: Story) {
-        match story {
-            Story::Looks => {
-                self.add_at(0, UPPER, Kind::FindsInitialized);
-                self.add_at(1, UPPER, Kind::FindsInitialized);
-            }
-            Story::Fields => {
-                self.add_at(0, UPPER, Kind::FindsInitialized);
-                self.add_at(0, UPPER, read());
-                self.add_at(1, UPPER, Kind::FindsInitialized);
-                self.add_at(1, UPPER, written());
-            }
-            Story::Prints => {
-                self.add_print(0, b"a line of forty bytes, and then it ends\n");
-                self.add_print(1, b"short\n");
-            }
-        }
-    }
-
-    // So many events, after those of the front. That memory was refused is told where they are taken.
-    fn of(alloc: Global, story: Story, count: usize) -> Events {
-        let mut events = Events {
-            alloc,
-            list: Vec::new(alloc),
-            is_refused: false,
-        };
-        events.add_front();
-        for _ in 0..count / events_a_turn(story) {
-            events.add_turn(story);
-        }
-        events
-    }
+    Ok(())
 }
 
 fn judge_time(
@@ -215,17 +136,13 @@ fn judge_time(
     }
 }
 
-fn thread_sum(events: &[Event]) -> usize {
+// The pass adds up the numbers of the threads.
+fn pass_time(rt: &impl Clock, events: &[Event]) -> Result<u128, Failure> {
+    let watch = Watch::start(rt);
     let mut sum: usize = 0;
     for event in events {
         sum = sum.wrapping_add(event.thread());
     }
-    sum
-}
-
-fn pass_time(rt: &impl Clock, events: &[Event]) -> Result<u128, Failure> {
-    let watch = Watch::start(rt);
-    let sum = thread_sum(events);
     let share = watch.share(rt, events.len())?;
     if sum == 0 {
         return Err(Failure::Program);
@@ -238,22 +155,16 @@ pub(crate) fn time(
     rt: &impl Clock,
     alloc: Global,
     program: &Program,
-    work: Work,
-    story: Story,
+    work: &Work,
+    story: &Story,
     count: usize,
 ) -> Result<u128, Failure> {
-    let Events {
-        list,
-        is_refused,
-        ..
-    } = &Events::of(alloc, story, count);
-    if *is_refused {
-        return Err(Failure::Memory);
-    }
+    let mut events = first_events(alloc, program, story)?;
+    repeat(&mut events, count)?;
     match work {
-        Work::Judge => judge_time(rt, alloc, program, list),
-        Work::Pass => pass_time(rt, list),
-        Work::Write => traces::write_time(rt, alloc, program, list),
-        Work::PassTrace => traces::pass_time(rt, alloc, program, list),
+        Work::Judge => judge_time(rt, alloc, program, &events),
+        Work::Pass => pass_time(rt, &events),
+        Work::Write => trace_time(rt, alloc, program, &events, false),
+        Work::PassTrace => trace_time(rt, alloc, program, &events, true),
     }
 }

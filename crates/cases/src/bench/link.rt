@@ -4,7 +4,7 @@
 use crate::bench::files::Files;
 use crate::bench::harness::{Failure, Row, Watch};
 use crate::bench::needs;
-use crate::bench::sample::{Sample, Scene};
+use crate::bench::sample::Sample;
 use hierarchy::{ClassId, Invoke, Program};
 use std::alloc::Global;
 use std::rt::Clock;
@@ -13,7 +13,6 @@ use std::rt::Clock;
 const LOOK_UPS: usize = 16;
 
 /// What a program has many of.
-#[derive(Clone, Copy)]
 pub(crate) enum Shape {
     /// Members: so many classes with as many members each, each below the one before it.
     Members,
@@ -49,10 +48,10 @@ pub(crate) const ROWS: &[Row] = &[
     },
     Row {
         what: "methods of one name, one resolved, beside names of their own",
-        sample: Sample::With(Scene::Resolve(Shape::OneName)),
+        sample: Sample::Resolve(Shape::OneName),
         sizes: &[1024],
         most: 1,
-        unit: Sample::With(Scene::Resolve(Shape::OwnNames)),
+        unit: Sample::Resolve(Shape::OwnNames),
         unit_size: None,
         repeats: 2,
     },
@@ -113,23 +112,6 @@ fn add_method(files: &mut Files, name: usize, number: usize) {
     files.add(b")V\n.end method\n", 0, 0);
 }
 
-// Adds so many classes, each with so many members, and answers how many members they have.
-fn add_classes(files: &mut Files, count: usize) -> usize {
-    for number in 0..count {
-        add_class(files, number, count);
-    }
-    count.saturating_mul(count)
-}
-
-// Adds so many interfaces, and answers how many names of superinterfaces they have.
-fn add_interfaces(files: &mut Files, count: usize) -> usize {
-    let mut names: usize = 0;
-    for number in 0..count {
-        names = names.saturating_add(add_interface(files, number));
-    }
-    names
-}
-
 // Adds one class of so many methods without equal descriptors, and answers how many.
 fn add_methods(files: &mut Files, count: usize, is_equal: bool) -> usize {
     files.add(b".class C\n", 0, 0);
@@ -141,10 +123,21 @@ fn add_methods(files: &mut Files, count: usize, is_equal: bool) -> usize {
 }
 
 /// Adds the files of a program, and answers how many parts they have.
-pub(crate) fn add_files(files: &mut Files, shape: Shape, size: usize) -> usize {
+pub(crate) fn add_files(files: &mut Files, shape: &Shape, size: usize) -> usize {
     match shape {
-        Shape::Members => add_classes(files, size),
-        Shape::Interfaces => add_interfaces(files, size),
+        Shape::Members => {
+            for number in 0..size {
+                add_class(files, number, size);
+            }
+            size.saturating_mul(size)
+        }
+        Shape::Interfaces => {
+            let mut names: usize = 0;
+            for number in 0..size {
+                names = names.saturating_add(add_interface(files, number));
+            }
+            names
+        }
         Shape::Ladder => {
             needs::add_files(files, size);
             size
@@ -186,14 +179,18 @@ pub(crate) fn resolve_time(rt: &impl Clock, program: &Program) -> Result<u128, F
     watch.share(rt, found)
 }
 
-/// How long it takes to link a part of a program of that size.
+/// How long it takes to link a part of a program of that size, once its files are read.
 pub(crate) fn time(
     rt: &impl Clock,
     alloc: Global,
-    shape: Shape,
+    shape: &Shape,
     size: usize,
 ) -> Result<u128, Failure> {
     let mut files = Files::new(alloc);
     let parts = add_files(&mut files, shape, size);
-    files.link_time(rt, parts)
+    let watch = Watch::start(rt);
+    match files.program() {
+        Ok(_program) => watch.share(rt, parts),
+        Err(failure) => Err(failure),
+    }
 }

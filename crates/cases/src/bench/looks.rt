@@ -8,14 +8,13 @@
 ghost use Rattle.std.specs.Prelude.{◌<◌};
 
 use crate::bench::harness::{Failure, Row, Watch};
-use crate::bench::sample::{Sample, Scene};
+use crate::bench::sample::Sample;
 use hierarchy::{ClassId, Program, Value};
 use init_core::{ClassRecord, Label};
 use std::alloc::{AllocError, Global};
 use std::rt::Clock;
 
 /// What is done, over and over.
-#[derive(Clone, Copy)]
 pub(crate) enum Use {
     /// Another thread looks.
     LooksInVain,
@@ -31,16 +30,16 @@ pub(crate) enum Use {
 pub(crate) const ROWS: &[Row] = &[
     Row {
         what: "looks in vain, beside 125000",
-        sample: Sample::With(Scene::Use(Use::LooksInVain)),
+        sample: Sample::Use(Use::LooksInVain),
         sizes: &[250_000, 500_000, 1_000_000],
         most: 1,
-        unit: Sample::With(Scene::Use(Use::LooksInVain)),
+        unit: Sample::Use(Use::LooksInVain),
         unit_size: Some(125_000),
         repeats: 12,
     },
     Row {
         what: "looks, beside pushes",
-        sample: Sample::With(Scene::Use(Use::Looks)),
+        sample: Sample::Use(Use::Looks),
         sizes: &[125_000, 250_000, 500_000, 1_000_000],
         most: 1,
         unit: Sample::Pushes,
@@ -49,7 +48,7 @@ pub(crate) const ROWS: &[Row] = &[
     },
     Row {
         what: "reads, beside pushes",
-        sample: Sample::With(Scene::Use(Use::Reads)),
+        sample: Sample::Use(Use::Reads),
         sizes: &[125_000, 250_000, 500_000, 1_000_000],
         most: 1,
         unit: Sample::Pushes,
@@ -58,7 +57,7 @@ pub(crate) const ROWS: &[Row] = &[
     },
     Row {
         what: "writes, beside pushes",
-        sample: Sample::With(Scene::Use(Use::Writes)),
+        sample: Sample::Use(Use::Writes),
         sizes: &[125_000, 250_000, 500_000, 1_000_000],
         most: 1,
         unit: Sample::Pushes,
@@ -92,7 +91,7 @@ fn look(record: &mut ClassRecord, thread: usize) -> Result<(), AllocError>
     Ok(())
 }
 
-fn use_once(record: &mut ClassRecord, usage: Use) -> Result<(), AllocError> {
+fn use_once(record: &mut ClassRecord, usage: &Use) -> Result<(), AllocError> {
     match usage {
         Use::LooksInVain => look(record, 1),
         Use::Looks => look(record, 0),
@@ -105,7 +104,7 @@ fn use_once(record: &mut ClassRecord, usage: Use) -> Result<(), AllocError> {
 fn use_time(
     rt: &impl Clock,
     record: &mut ClassRecord,
-    usage: Use,
+    usage: &Use,
     count: usize,
 ) -> Result<u128, Failure> {
     look(record, 0)?;
@@ -133,7 +132,7 @@ pub(crate) fn time(
     rt: &impl Clock,
     alloc: Global,
     program: &Program,
-    usage: Use,
+    usage: &Use,
     count: usize,
 ) -> Result<u128, Failure> {
     match ClassRecord::new(alloc, program, ClassId { number: 0 }) {

@@ -5,7 +5,7 @@
 
 use crate::bench::files::Files;
 use crate::bench::harness::{Failure, Row, Watch};
-use crate::bench::sample::{Sample, Scene};
+use crate::bench::sample::Sample;
 use hierarchy::{ClassId, Program};
 use init_core::needs;
 use std::alloc::Global;
@@ -17,37 +17,30 @@ const CALLS: usize = 200;
 /// Ladders of doubled heights.
 pub(crate) const ROWS: &[Row] = &[Row {
     what: "rungs, a rung, beside 32",
-    sample: Sample::With(Scene::Needs),
+    sample: Sample::Needs,
     sizes: &[64, 128, 256],
     most: 1,
-    unit: Sample::With(Scene::Needs),
+    unit: Sample::Needs,
     unit_size: Some(32),
     repeats: 8,
 }];
 
-// Adds both interfaces of the rung below, if there is one, as superinterfaces.
-fn add_below(files: &mut Files, rung: usize) {
-    if rung > 0 {
-        files.add(b".implements A#\n.implements B#\n", rung - 1, 0);
-    }
-}
+// An interface on a rung with one below, with a default method: there are two on each.
+const A_RUNG: &[u8] =
+    b".interface A#\n.implements A@\n.implements B@\n.method m()V\nreturn\n.end method\n";
 
-// Adds an interface on a rung, with a default method.
-fn add_interface(files: &mut Files, head: &[u8], rung: usize) {
-    files.add(head, rung, 0);
-    add_below(files, rung);
-    files.add(b".method m()V\nreturn\n.end method\n", 0, 0);
-    files.end();
-}
+const B_RUNG: &[u8] =
+    b".interface B#\n.implements A@\n.implements B@\n.method m()V\nreturn\n.end method\n";
 
-/// Adds a ladder of so many rungs, and a class on its top, which is the first.
+/// Adds a ladder of so many rungs, one at least, and a class on its top, which is the first.
 pub(crate) fn add_files(files: &mut Files, rungs: usize) {
-    files.add(b".class Top\n", 0, 0);
-    add_below(files, rungs);
-    files.end();
-    for rung in 0..rungs {
-        add_interface(files, b".interface A#\n", rung);
-        add_interface(files, b".interface B#\n", rung);
+    let top = rungs.saturating_sub(1);
+    files.add_file(b".class Top\n.implements A#\n.implements B#\n", top, 0);
+    files.add_file(b".interface A0\n.method m()V\nreturn\n.end method\n", 0, 0);
+    files.add_file(b".interface B0\n.method m()V\nreturn\n.end method\n", 0, 0);
+    for rung in 1..rungs {
+        files.add_file(A_RUNG, rung, rung - 1);
+        files.add_file(B_RUNG, rung, rung - 1);
     }
 }
 

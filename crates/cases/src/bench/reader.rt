@@ -2,7 +2,7 @@
 //! code, beside one pass over the bytes of the same file, which counts the ends of its lines.
 
 use crate::bench::code::{ARITHMETIC, CALLS, FIELDS, MIXED, STRINGS, SWITCHES};
-use crate::bench::files::{Files, pass_time as text_pass_time};
+use crate::bench::files::{self, Files};
 use crate::bench::harness::{Failure, Row, Watch};
 use crate::bench::sample::Sample;
 use jasmin_reader::read_class;
@@ -10,44 +10,50 @@ use std::alloc::Global;
 use std::rt::Clock;
 
 /// What a file has many of: its parts stand between a front and a back.
-#[derive(Clone, Copy)]
 pub(crate) struct Part {
     pub front: &'static [u8],
     /// `#` is the number of the part, and `@` how many parts are left.
     pub text: &'static [u8],
     pub back: &'static [u8],
+    /// Whether the size of the file is about so many bytes, and not so many parts.
+    pub is_of_bytes: bool,
 }
 
-const LABELS: Part = Part {
+const LABELS: &Part = &Part {
     front: b".class A\n.method static m()V\n",
     text: b"L#:\n",
     back: b"return\n.end method\n",
+    is_of_bytes: false,
 };
 
-const WORDS: Part = Part {
+const WORDS: &Part = &Part {
     front: b".class",
     text: b" public",
     back: b" A\n",
+    is_of_bytes: false,
 };
 
-const COMMENTS: Part = Part {
+const COMMENTS: &Part = &Part {
     front: b".class A\n",
     text: b"; a comment of some length\n",
     back: b"",
+    is_of_bytes: false,
 };
 
 // At most 16,384 keys count in a method.
-const KEYS: Part = Part {
+const KEYS: &Part = &Part {
     front: b".class A\n.method static m()V\nlookupswitch\n",
     text: b"@ : a\n",
     back: b"default : a\na:\nreturn\n.end method\n",
+    is_of_bytes: false,
 };
 
 // At most 1,024 methods count in a class.
-const METHODS: Part = Part {
+const METHODS: &Part = &Part {
     front: b".class A\n",
     text: b".method static m#()V\niconst_1\npop\nreturn\n.end method\n",
     back: b"",
+    is_of_bytes: false,
 };
 
 /// Each part twice and four times as many parts as the first file; then code of about so many bytes.
@@ -99,62 +105,67 @@ pub(crate) const ROWS: &[Row] = &[
     },
     Row {
         what: "bytes of methods of arithmetic, one read, beside a pass",
-        sample: Sample::ReadBytes(ARITHMETIC),
+        sample: Sample::Read(ARITHMETIC),
         sizes: &[65_536],
         most: 1,
-        unit: Sample::PassBytes(ARITHMETIC),
+        unit: Sample::Pass(ARITHMETIC),
         unit_size: None,
         repeats: 4,
     },
     Row {
         what: "bytes of methods that call, one read, beside a pass",
-        sample: Sample::ReadBytes(CALLS),
+        sample: Sample::Read(CALLS),
         sizes: &[65_536],
         most: 1,
-        unit: Sample::PassBytes(CALLS),
+        unit: Sample::Pass(CALLS),
         unit_size: None,
         repeats: 4,
     },
     Row {
         what: "bytes of methods with fields, one read, beside a pass",
-        sample: Sample::ReadBytes(FIELDS),
+        sample: Sample::Read(FIELDS),
         sizes: &[65_536],
         most: 1,
-        unit: Sample::PassBytes(FIELDS),
+        unit: Sample::Pass(FIELDS),
         unit_size: None,
         repeats: 4,
     },
     Row {
         what: "bytes of methods with switches, one read, beside a pass",
-        sample: Sample::ReadBytes(SWITCHES),
+        sample: Sample::Read(SWITCHES),
         sizes: &[65_536],
         most: 1,
-        unit: Sample::PassBytes(SWITCHES),
+        unit: Sample::Pass(SWITCHES),
         unit_size: None,
         repeats: 4,
     },
     Row {
         what: "bytes of methods with strings, one read, beside a pass",
-        sample: Sample::ReadBytes(STRINGS),
+        sample: Sample::Read(STRINGS),
         sizes: &[65_536],
         most: 1,
-        unit: Sample::PassBytes(STRINGS),
+        unit: Sample::Pass(STRINGS),
         unit_size: None,
         repeats: 4,
     },
     Row {
         what: "bytes of long methods with all of these, one read, beside a pass",
-        sample: Sample::ReadBytes(MIXED),
+        sample: Sample::Read(MIXED),
         sizes: &[65_536, 1_048_576],
         most: 1,
-        unit: Sample::PassBytes(MIXED),
+        unit: Sample::Pass(MIXED),
         unit_size: None,
         repeats: 4,
     },
 ];
 
-// A file of so many parts.
-fn file_of(alloc: Global, part: Part, parts: usize) -> Result<Vec<u8>, Failure> {
+// A file of so many parts, or of about so many bytes.
+fn file_of(alloc: Global, part: &Part, size: usize) -> Result<Vec<u8>, Failure> {
+    let parts = if part.is_of_bytes {
+        (size / part.text.len().max(1)).saturating_add(1)
+    } else {
+        size
+    };
     let mut files = Files::new(alloc);
     files.add(part.front, 0, 0);
     for number in 0..parts {
@@ -164,48 +175,28 @@ fn file_of(alloc: Global, part: Part, parts: usize) -> Result<Vec<u8>, Failure> 
     files.text()
 }
 
-// A file of about so many bytes.
-fn file_of_bytes(alloc: Global, part: Part, bytes: usize) -> Result<Vec<u8>, Failure> {
-    let parts = bytes / part.text.len().max(1);
-    file_of(alloc, part, parts.saturating_add(1))
-}
-
-// How long it takes to read a file, for each of so many parts.
-fn read_time(rt: &impl Clock, alloc: Global, text: &[u8], parts: usize) -> Result<u128, Failure> {
-    let watch = Watch::start(rt);
-    match read_class(alloc, text) {
-        Ok(_text) => watch.share(rt, parts),
-        Err(_) => Err(Failure::Program),
-    }
-}
-
-/// How long a part of a file of so many is read.
+/// How long a part of a file of that size is read, or a byte of it.
 pub(crate) fn time(
     rt: &impl Clock,
     alloc: Global,
-    part: Part,
+    part: &Part,
     size: usize,
 ) -> Result<u128, Failure> {
-    read_time(rt, alloc, &file_of(alloc, part, size)?, size)
-}
-
-/// How long a byte of a file of about so many is read.
-pub(crate) fn byte_time(
-    rt: &impl Clock,
-    alloc: Global,
-    part: Part,
-    bytes: usize,
-) -> Result<u128, Failure> {
-    let file = file_of_bytes(alloc, part, bytes)?;
-    read_time(rt, alloc, &file, file.len())
+    let file = file_of(alloc, part, size)?;
+    let parts = if part.is_of_bytes { file.len() } else { size };
+    let watch = Watch::start(rt);
+    match read_class(alloc, &file) {
+        Ok(_class) => watch.share(rt, parts),
+        Err(_) => Err(Failure::Program),
+    }
 }
 
 /// How long one pass takes a byte of that file.
 pub(crate) fn pass_time(
     rt: &impl Clock,
     alloc: Global,
-    part: Part,
-    bytes: usize,
+    part: &Part,
+    size: usize,
 ) -> Result<u128, Failure> {
-    text_pass_time(rt, &file_of_bytes(alloc, part, bytes)?)
+    files::pass_time(rt, &file_of(alloc, part, size)?)
 }

@@ -5,12 +5,12 @@
 //! class is the same for all, and all but one thread wait. A time is that of a whole run, threads started and joined and
 //! journals merged, divided by all events.
 
-ghost use Rattle.std.specs.Prelude.{◌≡◌, ◌<◌, true};
+ghost use Rattle.std.specs.Prelude.{◌≡◌, true};
 ghost use Rattle.bodies.specs.Runs.{AreMains};
 
 use crate::bench::files::Files;
 use crate::bench::harness::{Failure, Row, Watch};
-use crate::bench::sample::{Sample, Scene};
+use crate::bench::sample::Sample;
 use bodies::NoCode;
 use guest_threads::{Gate, NoGate, run_threads};
 use hierarchy::{ClassId, Program};
@@ -25,11 +25,7 @@ use trace::Limits;
 
 const LENGTH: usize = 30;
 
-/// The class whose initializer is held.
-pub(crate) const HELD_FILE: &[u8] = b".class A";
-
 /// What the chains of several threads have in common.
-#[derive(Clone, Copy)]
 pub(crate) enum Chains {
     /// Nothing.
     Own,
@@ -43,38 +39,38 @@ pub(crate) enum Chains {
 pub(crate) const ROWS: &[Row] = &[
     Row {
         what: "threads, classes of their own, an event, beside 1",
-        sample: Sample::With(Scene::Run(Chains::Own)),
+        sample: Sample::Run(Chains::Own),
         sizes: &[1, 2, 4, 8, 16],
         most: 1,
-        unit: Sample::With(Scene::Run(Chains::Own)),
+        unit: Sample::Run(Chains::Own),
         unit_size: Some(1),
         repeats: 20,
     },
     Row {
         what: "threads, the same interfaces, an event, beside 1",
-        sample: Sample::With(Scene::Run(Chains::SameInterfaces)),
+        sample: Sample::Run(Chains::SameInterfaces),
         sizes: &[1, 2, 4, 8, 16],
         most: 1,
-        unit: Sample::With(Scene::Run(Chains::SameInterfaces)),
+        unit: Sample::Run(Chains::SameInterfaces),
         unit_size: Some(1),
         repeats: 20,
     },
     Row {
         what: "threads, the same main class, an event, beside 1",
-        sample: Sample::With(Scene::Run(Chains::Same)),
+        sample: Sample::Run(Chains::Same),
         sizes: &[1, 2, 4, 8, 16],
         most: 1,
-        unit: Sample::With(Scene::Run(Chains::Same)),
+        unit: Sample::Run(Chains::Same),
         unit_size: Some(1),
         repeats: 20,
     },
 ];
 
+const INTERFACE: &[u8] = b".interface I#_@\n.method m()V\nreturn\n.end method\n";
+
 fn add_interfaces(files: &mut Files, family: usize) {
     for number in 0..LENGTH {
-        files.add(b".interface I#_@\n", family, number);
-        files.add(b".method m()V\nreturn\n.end method\n", 0, 0);
-        files.end();
+        files.add_file(INTERFACE, family, number);
     }
 }
 
@@ -96,21 +92,17 @@ fn add_chain(files: &mut Files, chain: usize, family: usize) {
     }
 }
 
-// Adds the files of a thread that no earlier thread has.
-fn add_thread(files: &mut Files, chains: Chains, thread: usize) {
-    match chains {
-        Chains::Own => {
-            add_interfaces(files, thread);
-            add_chain(files, thread, thread);
-        }
-        Chains::SameInterfaces => {
-            if thread == 0 {
-                add_interfaces(files, 0);
+/// Adds the files of so many threads: of each those that no earlier thread has.
+pub(crate) fn add_files(files: &mut Files, chains: &Chains, threads: usize) {
+    for thread in 0..threads {
+        match chains {
+            Chains::Own => {
+                add_interfaces(files, thread);
+                add_chain(files, thread, thread);
             }
-            add_chain(files, thread, 0);
-        }
-        Chains::Same => {
-            if thread == 0 {
+            Chains::SameInterfaces if thread > 0 => add_chain(files, thread, 0),
+            Chains::Same if thread > 0 => {}
+            _ => {
                 add_interfaces(files, 0);
                 add_chain(files, 0, 0);
             }
@@ -118,31 +110,18 @@ fn add_thread(files: &mut Files, chains: Chains, thread: usize) {
     }
 }
 
-/// Adds the files of so many threads.
-pub(crate) fn add_files(files: &mut Files, chains: Chains, threads: usize) {
-    for thread in 0..threads {
-        add_thread(files, chains, thread);
-    }
-}
-
-// The number of the last class of a thread's chain: classes have the numbers of their files.
-fn main_number(chains: Chains, thread: usize) -> usize
-    requires { thread < 16 }
-{
-    match chains {
-        Chains::Own => thread * 2 * LENGTH + 2 * LENGTH - 1,
-        Chains::SameInterfaces => thread * LENGTH + 2 * LENGTH - 1,
-        Chains::Same => 2 * LENGTH - 1,
-    }
-}
-
-// The main classes of sixteen threads.
-fn mains_of(chains: Chains) -> [ClassId; 16] {
+// The main classes of sixteen threads: the last classes of their chains. Classes have the numbers of their files.
+fn mains_of(chains: &Chains) -> [ClassId; 16] {
+    let own_files = match chains {
+        Chains::Own => 2 * LENGTH,
+        Chains::SameInterfaces => LENGTH,
+        Chains::Same => 0,
+    };
     let mut mains = [ClassId { number: 0 }; 16];
+    let mut number = 2 * LENGTH - 1;
     for thread in 0..16 {
-        mains[thread] = ClassId {
-            number: main_number(chains, thread),
-        };
+        mains[thread] = ClassId { number };
+        number = number.saturating_add(own_files);
     }
     mains
 }
@@ -196,7 +175,7 @@ pub(crate) fn time<R: Clock + Threads + Wait + Sync>(
     rt: &R,
     alloc: Global,
     program: &Program,
-    chains: Chains,
+    chains: &Chains,
     threads: usize,
 ) -> Result<u128, Failure> {
     let mains = mains_of(chains);
@@ -204,13 +183,19 @@ pub(crate) fn time<R: Clock + Threads + Wait + Sync>(
     run_time(rt, alloc, program, mains, &NoGate)
 }
 
-/// The time of a run of sixteen threads whose one main class is held, an event. How much processor time that takes is the
-/// caller's to measure.
-pub(crate) fn held_time<R: Clock + Threads + Wait + Sync>(
+/// A run of sixteen threads whose one main class is held for a second: the time of an event. How much processor time that takes is
+/// the caller's to measure.
+pub(crate) fn hold<R: Clock + Threads + Wait + Sync>(
     rt: &R,
     alloc: Global,
-    program: &Program,
 ) -> Result<u128, Failure> {
-    let mains = [ClassId { number: 0 }; 16];
-    run_time(rt, alloc, program, &mains, &Holding { rt })
+    let mut files = Files::new(alloc);
+    files.add_file(b".class A", 0, 0);
+    match files.program() {
+        Ok(program) => {
+            let mains = [ClassId { number: 0 }; 16];
+            run_time(rt, alloc, &program, &mains, &Holding { rt })
+        }
+        Err(failure) => Err(failure),
+    }
 }

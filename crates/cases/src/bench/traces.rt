@@ -2,10 +2,10 @@
 //!
 //! The events are those that `judging` makes. The pass counts the ends of the lines.
 
-use crate::bench::files::pass_time as text_pass_time;
+use crate::bench::files::pass_time;
 use crate::bench::harness::{Failure, Row, Watch};
 use crate::bench::judging::{Story, Work};
-use crate::bench::sample::{Sample, Scene};
+use crate::bench::sample::Sample;
 use hierarchy::Program;
 use init_core::Event;
 use std::alloc::Global;
@@ -16,56 +16,45 @@ use trace::write_trace;
 pub(crate) const ROWS: &[Row] = &[
     Row {
         what: "looks, a byte written, beside a pass",
-        sample: Sample::With(Scene::Events(Work::Write, Story::Looks)),
+        sample: Sample::Events(Work::Write, Story::Looks),
         sizes: &[100_000, 1_000_000],
         most: 1,
-        unit: Sample::With(Scene::Events(Work::PassTrace, Story::Looks)),
+        unit: Sample::Events(Work::PassTrace, Story::Looks),
         unit_size: None,
         repeats: 3,
     },
     Row {
         what: "looks with reads and writes, a byte written, beside a pass",
-        sample: Sample::With(Scene::Events(Work::Write, Story::Fields)),
+        sample: Sample::Events(Work::Write, Story::Fields),
         sizes: &[100_000, 1_000_000],
         most: 1,
-        unit: Sample::With(Scene::Events(Work::PassTrace, Story::Fields)),
+        unit: Sample::Events(Work::PassTrace, Story::Fields),
         unit_size: None,
         repeats: 3,
     },
     Row {
         what: "prints, a byte written, beside a pass",
-        sample: Sample::With(Scene::Events(Work::Write, Story::Prints)),
+        sample: Sample::Events(Work::Write, Story::Prints),
         sizes: &[100_000, 1_000_000],
         most: 1,
-        unit: Sample::With(Scene::Events(Work::PassTrace, Story::Prints)),
+        unit: Sample::Events(Work::PassTrace, Story::Prints),
         unit_size: None,
         repeats: 3,
     },
 ];
 
-/// The time of writing a byte of the trace of these events.
-pub(crate) fn write_time(
+/// The time of writing a byte of the trace of these events, or of one pass over it.
+pub(crate) fn trace_time(
     rt: &impl Clock,
     alloc: Global,
     program: &Program,
     events: &[Event],
+    is_pass: bool,
 ) -> Result<u128, Failure> {
     let watch = Watch::start(rt);
     match write_trace(alloc, program, events) {
+        Ok(text) if is_pass => pass_time(rt, &text),
         Ok(text) => watch.share(rt, text.len()),
-        Err(_) => Err(Failure::Memory),
-    }
-}
-
-/// The time of going over a byte of that trace.
-pub(crate) fn pass_time(
-    rt: &impl Clock,
-    alloc: Global,
-    program: &Program,
-    events: &[Event],
-) -> Result<u128, Failure> {
-    match write_trace(alloc, program, events) {
-        Ok(text) => text_pass_time(rt, &text),
         Err(_) => Err(Failure::Memory),
     }
 }

@@ -34,7 +34,7 @@ fn check<R: Threads + Wait + Sync>(
     let mut err = Vec::new(alloc);
     let _ = serve_with(rt, alloc, words, files, &mut said, &mut err);
     if said.append(&mut err).is_err() {
-        came.refuse();
+        came.is_refused = true;
     } else if said.as_slice() != b"legal\n".as_slice() {
         came.put("verdict", &said);
     }
@@ -57,6 +57,6 @@ pub(crate) fn judge_trace<R: Threads + Wait + Sync>(
     }
     match words_to_check(alloc, run, mains, trace) {
         Ok(words) => check(rt, alloc, &words, files, came),
-        Err(_) => came.refuse(),
+        Err(_) => came.is_refused = true,
     }
 }

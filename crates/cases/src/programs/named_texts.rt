@@ -1,7 +1,5 @@
 //! Texts by name: files in memory, and what came of a run over them.
 
-ghost use Rattle.std.specs.Prelude.{◌≤◌, vec_len, IfOk};
-
 use crate::text::Text;
 use cli::{Named, NamedFault};
 use std::alloc::{AllocError, Global};
@@ -14,7 +12,8 @@ use std::collections::BTreeMap;
 pub(crate) struct Texts {
     alloc: Global,
     by_name: BTreeMap<String, Vec<u8>>,
-    is_refused: bool,
+    /// Whether memory was refused.
+    pub(crate) is_refused: bool,
 }
 
 impl Texts {
@@ -65,16 +64,6 @@ impl Texts {
         }
     }
 
-    /// Notes that memory was refused.
-    pub(crate) fn refuse(&mut self) {
-        self.is_refused = true;
-    }
-
-    /// Whether memory was refused.
-    pub(crate) fn is_refused(&self) -> bool {
-        self.is_refused
-    }
-
     /// Whether there are none.
     pub(crate) fn is_empty(&self) -> bool {
         self.by_name.is_empty()
@@ -88,17 +77,14 @@ impl Texts {
         }
     }
 
-    fn holds(&self, name: &str, text: &[u8]) -> bool {
-        match self.by_name.get(name) {
-            Some(held) => held.as_slice() == text,
-            None => false,
-        }
-    }
-
     /// Writes each text that isn't among the others, with its name.
     pub(crate) fn write_others(&self, others: &Texts, out: &mut Text) {
         for (name, text) in self.by_name.iter() {
-            if !others.holds(name.as_str(), text.as_slice()) {
+            let is_held = match others.by_name.get(name.as_str()) {
+                Some(held) => held.as_slice() == text.as_slice(),
+                None => false,
+            };
+            if !is_held {
                 out.push(b"-- ");
                 out.push(name.as_bytes());
                 out.push(b" --\n");

@@ -1,11 +1,11 @@
 //! The runs of a program's one main class on a thread of its own, beside which its ordered run is held.
 
+use crate::linked::add_class;
 use crate::programs::named_texts::Texts;
 use cli::{Named, Run, write_outcomes};
 use guest_threads::{NoGate, run_threads};
 use hierarchy::{ClassId, LinkFault, Program, link};
 use interpreter::{SharedInterpreter, SharedObjects};
-use jasmin_reader::read_class;
 use jasmin_text::ClassText;
 use std::alloc::Global;
 use std::sync::Wait;
@@ -15,50 +15,22 @@ use trace::{Limits, Report, write_trace};
 /// The most bytes of a file.
 const MOST_BYTES: usize = 1_048_576;
 
-/// Adds the class that a file spells, and answers whether it spells one.
-fn add_class(
-    alloc: Global,
-    name: &str,
-    files: &mut Texts,
-    classes: &mut Vec<ClassText>,
-    ran: &mut Texts,
-) -> bool {
-    let Ok(bytes) = files.read(alloc, name, MOST_BYTES) else {
-        return false;
-    };
-    match read_class(alloc, &bytes) {
-        Ok(class) => {
-            if classes.push(class).is_err() {
-                ran.refuse();
-            }
-            true
-        }
-        Err(_) => false,
-    }
-}
-
 /// Adds the classes that the files spell, and answers whether each spells one.
 fn add_classes(
     alloc: Global,
     names: &[&str],
     files: &mut Texts,
     classes: &mut Vec<ClassText>,
-    ran: &mut Texts,
 ) -> bool {
     for name in names {
-        if !add_class(alloc, name, files, classes, ran) {
+        let Ok(file) = files.read(alloc, name, MOST_BYTES) else {
+            return false;
+        };
+        if add_class(alloc, &file, classes).is_err() {
             return false;
         }
     }
     true
-}
-
-/// How many instructions may be begun.
-fn steps_of(text: Option<&str>) -> u32 {
-    match text {
-        Some(text) => text.parse::<u32>().unwrap_or(0),
-        None => 1_000_000,
-    }
 }
 
 /// Adds what comes of a run: its output, its lines on standard error, and its trace.
@@ -87,12 +59,12 @@ fn run_main<R: Threads + Wait + Sync>(
     let sleeps = limits.patience == 0;
     let body = SharedInterpreter::new(rt, alloc, &shared, 0, limits.steps, sleeps);
     if bodies.push(body).is_err() {
-        ran.refuse();
+        ran.is_refused = true;
         return;
     }
     match run_threads(rt, alloc, program, &[main], bodies, limits, &NoGate) {
         Ok(report) => put_report(alloc, program, &report, ran),
-        Err(_) => ran.refuse(),
+        Err(_) => ran.is_refused = true,
     }
 }
 
@@ -108,7 +80,10 @@ fn run_linked<R: Threads + Wait + Sync>(
     let (Ok(program), Some(name)) = (linked, run.mains) else {
         return;
     };
-    let steps = steps_of(run.steps);
+    let steps = match run.steps {
+        Some(text) => text.parse::<u32>().unwrap_or(0),
+        None => 1_000_000,
+    };
     if let Some(main) = program.class_named(name.as_bytes()) {
         run_main(
             rt,
@@ -130,7 +105,7 @@ fn run_linked<R: Threads + Wait + Sync>(
 }
 
 /// Runs the one main class that a command line asks for on a thread of its own, once with any patience and once with the least.
-/// There are no texts of a run where it asks for something else, or where a file is at fault.
+/// There are no texts of a run where it asks for something else, where a file is at fault, or where memory is refused to a class.
 pub(crate) fn run_threaded<R: Threads + Wait + Sync>(
     rt: &R,
     alloc: Global,
@@ -140,7 +115,7 @@ pub(crate) fn run_threaded<R: Threads + Wait + Sync>(
     hasty: &mut Texts,
 ) {
     let mut classes = Vec::new(alloc);
-    if run.mains.is_some() && add_classes(alloc, &run.files, files, &mut classes, patient) {
+    if run.mains.is_some() && add_classes(alloc, &run.files, files, &mut classes) {
         run_linked(rt, alloc, &link(alloc, classes), run, patient, hasty);
     }
 }
