@@ -3,7 +3,8 @@
 What has nearly the longest path of others after it leads. The other proofs and the tests run beside it at a lower priority, and edits
 at a still lower one. So each takes what those before it leave: no task has work for all processors all the time. What leads alone has
 three jobs where it has much work, what leads beside others two, as has what has a longer path than what is left for each processor; and
-each has more where processors would be idle: several jobs take the processors 15 to 50 % longer than one."""
+each has more where processors would be idle: several jobs take the processors 15 to 50 % longer than one. Where a task may have one
+job, only what has the longest path has more, as many as the others leave."""
 import os
 from concurrent.futures import FIRST_COMPLETED, ThreadPoolExecutor, wait
 
@@ -38,14 +39,14 @@ class Lanes:
         self.pool = ThreadPoolExecutor(number, initializer=step_back, initargs=(priority,))
 
 
-def run(tasks, given, processors, memory, memory_for, fewest=1):
+def run(tasks, given, processors, memory, memory_for, fewest=lambda key: 1):
     """Runs each task once those that it waits for have ended, and adds what each gave to what is given. A task is what it waits
-    for, its work, and a call that gets what was given and how many jobs it may use, of which all but edits have at least the
-    fewest; so many jobs take the memory that `memory_for` says."""
+    for, its work, and a call that gets what was given and how many jobs it may use, of which all but edits have at least as many as
+    `fewest` says, 1 or 2; so many jobs take the memory that `memory_for` says."""
     behind = paths(tasks)
     most_work = max((work for _, work, _ in tasks.values()), default=0)
     # (several tasks may lead, each with several jobs)
-    lead, front, back = Lanes(2 * processors, LEAD), Lanes(max(processors, fewest), FRONT), Lanes(processors, BACK)
+    lead, front, back = Lanes(2 * processors, LEAD), Lanes(max(processors, 2), FRONT), Lanes(processors, BACK)
     left, running = [*tasks], {}
 
     def is_ready(key):
@@ -61,12 +62,15 @@ def run(tasks, given, processors, memory, memory_for, fewest=1):
         would use the processors."""
         if lanes is back:
             return 1
-        if 4 * tasks[key][1] < most_work:
-            return fewest
         beside = [it for it in [*left, *(it for it, _, _ in running.values())] if it != key and is_ready(it)]
+        if fewest(key) == 1:
+            leads = behind[key] >= max((behind[it] for it in beside), default=0)
+            return max(1, processors - len(beside)) if leads else 1
+        if 4 * tasks[key][1] < most_work:
+            return fewest(key)
         is_waited_for = processors * behind[key] > sum(tasks[it][1] for it in left)
         leads_alone = lanes is lead and not any(lanes_of(it) is lead for it in beside)
-        return max(fewest, processors - len(beside), 3 if leads_alone else 2 if lanes is lead or is_waited_for else 1)
+        return max(fewest(key), processors - len(beside), 3 if leads_alone else 2 if lanes is lead or is_waited_for else 1)
 
     def start():
         """Starts what there is room for: first what gathers the results of a crate's edits, so that the crate is kept, then proofs
@@ -79,7 +83,7 @@ def run(tasks, given, processors, memory, memory_for, fewest=1):
                 taken = sum(memory_for(it) for _, it, _ in running.values())
                 while jobs and running and taken + memory_for(jobs) > memory:
                     jobs -= 1
-                if jobs >= (1 if lanes is back else fewest):
+                if jobs >= (1 if lanes is back else fewest(key)):
                     left.remove(key)
                     lanes.idle -= jobs
                     running[lanes.pool.submit(tasks[key][2], given, jobs)] = key, jobs, lanes

@@ -62,6 +62,10 @@ class Gate:
         """The folder of what this run proved of the crate."""
         return f"{self.work}/{crate.name}"
 
+    def leaves_modules(self, crate):
+        """Whether the crate's proof shall leave modules for its edits. (A program's edits are few, and start from nothing.)"""
+        return bool(crate.makes_rlib() and self.rt.edits_of(crate)[0])
+
     def judge(self):
         """Runs the kit's gate so, and answers its exit status."""
         # (the kit's script keeps what it proved in a store of its own, and adds tasks for edits by a call of their own)
@@ -100,8 +104,7 @@ class Gate:
                         gate.store.bring_back(self)
                     return 0
                 os.makedirs(gate.kept(self), exist_ok=True)
-                if tests or self.is_program or not rt.edits_of(self)[0]:
-                    # (a program's edits are few, and start from nothing)
+                if tests or not gate.leaves_modules(self):
                     return super().ci(flags, tests)
                 if flags == ["--jobs", "1"]:
                     # (the second try after a check that was killed for want of memory: by one job, no modules would be written)
@@ -158,8 +161,8 @@ class Gate:
                 own.update(self.edit_tasks(crate, waits, lines))
         given = self.taken_at_once(own)
         with modules.below(f"{self.work}/made"):
-            # (with one job the prover writes no modules for the edits, and holds all of a large program at once)
-            lanes.run(own, given, *kit.lanes(self.rt), kit.memory_for, fewest=2)
+            # (with one job the prover writes no modules for the edits)
+            lanes.run(own, given, *kit.lanes(self.rt), kit.memory_for, lambda key: 2 if self.leaves_modules(self.crates[key[0]]) else 1)
         for crate in self.crates.values():
             self.count(crate, given)
         return given
