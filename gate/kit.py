@@ -28,14 +28,14 @@ def load():
 
 
 def weight(rt, crate):
-    """The lines of a crate, and some of those that it stands on: its proof takes about so long."""
+    """The lines of a crate, those of code three times, and some of those that it stands on: its proof takes about so long."""
     below = sum(lines_of(rt, it) for it in crate.below())
-    return lines_of(rt, crate) + below // 10
+    return lines_of(rt, crate) + below // 20
 
 
 def lines_of(rt, crate):
-    files = rt.rtlib.files_of(crate.folder)
-    return sum(rt.rtlib.text_of(it).count("\n") for it in files if it.endswith((".rt", ".antt")))
+    files = [*rt.rtlib.files_of(crate.folder)]
+    return sum(times * rt.rtlib.text_of(it).count("\n") for times, end in ((3, ".rt"), (1, ".antt")) for it in files if it.endswith(end))
 
 
 def memory_for(jobs):

@@ -1,10 +1,9 @@
 """Tasks side by side, in the place of the kit's `in_lanes`.
 
 What has nearly the longest path of others after it leads. The other proofs and the tests run beside it at a lower priority, and edits
-at a still lower one. So each takes what those before it leave: no task has work for all processors all the time. What leads alone has
-three jobs where it has much work, what leads beside others two, as has what has a longer path than what is left for each processor; and
-each has more where processors would be idle: several jobs take the processors 15 to 50 % longer than one. Where a task may have one
-job, only what has the longest path has more, as many as the others leave."""
+at a still lower one. So each takes what those before it leave: no task has work for all processors all the time. Only what has nearly the
+longest path of what could run has more jobs than it needs: two where that path is longer than what is left for each processor, and as
+many as the others leave idle. Several jobs take the processors 20 to 50 % longer than one."""
 import os
 from concurrent.futures import FIRST_COMPLETED, ThreadPoolExecutor, wait
 
@@ -44,7 +43,6 @@ def run(tasks, given, processors, memory, memory_for, fewest=lambda key: 1):
     for, its work, and a call that gets what was given and how many jobs it may use, of which all but edits have at least as many as
     `fewest` says, 1 or 2; so many jobs take the memory that `memory_for` says."""
     behind = paths(tasks)
-    most_work = max((work for _, work, _ in tasks.values()), default=0)
     # (several tasks may lead, each with several jobs)
     lead, front, back = Lanes(2 * processors, LEAD), Lanes(max(processors, 2), FRONT), Lanes(processors, BACK)
     left, running = [*tasks], {}
@@ -58,19 +56,15 @@ def run(tasks, given, processors, memory, memory_for, fewest=lambda key: 1):
         return lead if 5 * behind[key] >= 4 * max(behind[it] for it in tasks if it not in given) else front
 
     def jobs_for(key, lanes):
-        """How many jobs the task may use: more than the fewest where it has much work that the end waits for, or where nothing else
-        would use the processors."""
+        """How many jobs the task may use: more than the fewest where its path is nearly the longest of those that could run now."""
         if lanes is back:
             return 1
-        beside = [it for it in [*left, *(it for it, _, _ in running.values())] if it != key and is_ready(it)]
-        if fewest(key) == 1:
-            leads = behind[key] >= max((behind[it] for it in beside), default=0)
-            return max(1, processors - len(beside)) if leads else 1
-        if 4 * tasks[key][1] < most_work:
+        now = [behind[it] for it in [*left, *(it for it, _, _ in running.values())] if is_ready(it)]
+        leading = [it for it in now if 10 * it >= 9 * max(now)]
+        if behind[key] not in leading:
             return fewest(key)
         is_waited_for = processors * behind[key] > sum(tasks[it][1] for it in left)
-        leads_alone = lanes is lead and not any(lanes_of(it) is lead for it in beside)
-        return max(fewest(key), processors - len(beside), 3 if leads_alone else 2 if lanes is lead or is_waited_for else 1)
+        return max(fewest(key), 2 if is_waited_for else 1, (processors - len(now) + len(leading)) // len(leading))
 
     def start():
         """Starts what there is room for: first what gathers the results of a crate's edits, so that the crate is kept, then proofs

@@ -158,7 +158,7 @@ class Gate:
             elif key[1] == "tests":
                 own[key] = waits, work if lines else 0, self.timed("tests", key, call)
             else:
-                own.update(self.edit_tasks(crate, waits, lines))
+                own.update(self.edit_tasks(crate, waits))
         given = self.taken_at_once(own)
         with modules.below(f"{self.work}/made"):
             # (with one job the prover writes no modules for the edits)
@@ -191,8 +191,10 @@ class Gate:
                     say(f"{' '.join(map(str, key))}: {took:.0f} s{f', {jobs} jobs' if jobs > 1 else ''}")
         return called
 
-    def edit_tasks(self, crate, waits, lines):
+    def edit_tasks(self, crate, waits):
         good, bad = self.rt.edits_of(crate)
+        # (all shares together take some half of what the proof takes)
+        work = kit.weight(self.rt, crate) // (2 * self.rt.processors())
         shares, made = [], {}
         proof = crate.name, "proof"
 
@@ -201,7 +203,7 @@ class Gate:
 
         for at in range(self.rt.processors() if good and not self.known[crate.name] else 0):
             key = crate.name, "edits", at
-            made[key] = [proof], lines, self.timed("edits", key, share)
+            made[key] = [proof], work, self.timed("edits", key, share)
             shares.append(key)
 
         def gather(given, jobs):
