@@ -1,7 +1,7 @@
 //! What the words of the command line ask for, and the exit status of a fault. Runs of the whole program are cases of
 //! the crate `cases`.
 
-use cli::{Asked, Fault, Run, parse};
+use cli::{Asked, Fault, parse};
 use std::alloc::Global;
 
 const WORDS: &[&str] = &[
@@ -22,18 +22,16 @@ const WORDS: &[&str] = &[
 ];
 
 /// Whether the words of a run are those that were given.
-fn is_as_said(run: &Run<'_>) -> bool {
-    run.mains == Some("A,B")
-        && run.trace == Some("made")
-        && run.order == Some("0,1,1")
-        && run.patience == Some("7")
-        && run.steps == Some("10")
-        && run.files.as_slice() == ["a.j", "b.j", "--c.j"].as_slice()
-}
-
 fn is_parsed(alloc: Global) -> bool {
-    match parse(alloc, WORDS) {
-        Ok(Asked::Run(run)) => is_as_said(&run),
+    match &parse(alloc, WORDS) {
+        Ok(Asked::Run(run)) => {
+            run.mains == Some("A,B")
+                && run.trace == Some("made")
+                && run.order == Some("0,1,1")
+                && run.patience == Some("7")
+                && run.steps == Some("10")
+                && run.files.as_slice() == ["a.j", "b.j", "--c.j"].as_slice()
+        }
         _ => false,
     }
 }

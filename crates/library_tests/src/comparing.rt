@@ -111,43 +111,6 @@ fn add_next(
     Ok(())
 }
 
-/// Adds the events that a thread can make after these choices, which make so many.
-fn add_all(
-    alloc: Global,
-    program: &Program,
-    case: &Case,
-    path: &[Choice],
-    thread: usize,
-    count: usize,
-    found: &mut Found,
-    made: &mut Vec<Made>,
-) -> Result<(), AllocError> {
-    for action in &ACTIONS {
-        let choice = (thread, *action);
-        add_next(alloc, program, case, path, choice, count, found, made)?;
-    }
-    Ok(())
-}
-
-/// Compares them on each event after this list, where World makes these.
-fn compare_events(
-    alloc: Global,
-    classes: usize,
-    case: &Case,
-    list: &[Made],
-    made: &[Made],
-    found: &mut Found,
-) {
-    for class in 0..classes {
-        let of_first = count_differences(alloc, case, list, made, 0, class);
-        let of_second = count_differences(alloc, case, list, made, 1, class);
-        found.differ = found
-            .differ
-            .saturating_add(of_first)
-            .saturating_add(of_second);
-    }
-}
-
 /// Compares World with the twin after the list of these choices.
 fn compare_at(
     alloc: Global,
@@ -159,23 +122,18 @@ fn compare_at(
     let list = events_of(alloc, program, &case.mains, path)?;
     let mut made = Vec::new(alloc);
     let count = list.len();
-    add_all(alloc, program, case, path, 0, count, found, &mut made)?;
-    add_all(alloc, program, case, path, 1, count, found, &mut made)?;
+    for thread in 0..2 {
+        for action in &ACTIONS {
+            let choice = (thread, *action);
+            add_next(alloc, program, case, path, choice, count, found, &mut made)?;
+        }
+    }
     found.lists = found.lists.saturating_add(1);
-    compare_events(alloc, program.len(), case, &list, &made, found);
-    Ok(())
-}
-
-/// Compares them after the lists of these choices.
-fn compare_all(
-    alloc: Global,
-    program: &Program,
-    case: &Case,
-    paths: &[Vec<Choice>],
-    found: &mut Found,
-) -> Result<(), AllocError> {
-    for path in paths {
-        compare_at(alloc, program, case, path.as_slice(), found)?;
+    for thread in 0..2 {
+        for class in 0..program.len() {
+            let differ = count_differences(alloc, case, &list, &made, thread, class);
+            found.differ = found.differ.saturating_add(differ);
+        }
     }
     Ok(())
 }
@@ -194,7 +152,9 @@ pub(crate) fn is_as_compared(
     let mut paths = Vec::new(alloc);
     paths.push(Vec::new(alloc))?;
     for _ in 0..case.depth {
-        compare_all(alloc, program, case, paths.as_slice(), &mut found)?;
+        for path in paths.as_slice() {
+            compare_at(alloc, program, case, path.as_slice(), &mut found)?;
+        }
         paths = mem::replace(&mut found.longer, Vec::new(alloc));
     }
     Ok(found.lists == case.lists && found.differ == case.differ)

@@ -151,18 +151,16 @@ fn go(frames: &mut Frames, run: &Run, step: u64) -> (u64, Reason) {
     (done, Reason::Other)
 }
 
-/// Whether the innermost frame stands at a place, with this on top.
-fn stands(frames: &Frames, place: usize, top: Cell) -> bool {
-    match frames.at() {
-        Some(at) => at.place == place && frames.operand(0).unwrap_or(Cell::Unset) == top,
-        None => false,
-    }
-}
-
 /// Whether the run in the innermost frame comes to what it must.
 fn comes_to(frames: &mut Frames, run: &Run, step: u64) -> bool {
     let (done, reason) = go(frames, run, step);
-    done == run.done && reason == run.reason && stands(frames, run.place, run.top)
+    let top = frames.operand(0).unwrap_or(Cell::Unset);
+    match frames.at() {
+        Some(at) => {
+            done == run.done && reason == run.reason && at.place == run.place && top == run.top
+        }
+        None => false,
+    }
 }
 
 /// Whether a run comes to what it must, where its instructions are asked for at once and where each is asked for alone.
@@ -212,21 +210,17 @@ const SUBTRACT: Run = Run {
     top: Cell::Int(4),
 };
 
-/// Leaves the innermost frame with its result, and goes on past the call.
-fn come_back(frames: &mut Frames) {
+/// Whether a call gives its result to the place after it.
+pub(crate) fn calls(frames: &mut Frames, code: &MethodCode) -> bool {
+    let is_called = begin(frames, 0, code, &[]).is_ok() && comes_to(frames, &CALL, 100);
+    let returns = call(frames, 1, code, 2).is_ok() && comes_to(frames, &SUBTRACT, 100);
+    // The innermost frame is left with its result, and its caller goes on past the call.
     let result = frames.operand(0).unwrap_or(Cell::Unset);
     if frames.has_room_below() {
         frames.leave();
         push(frames, result);
         frames.step_over();
     }
-}
-
-/// Whether a call gives its result to the place after it.
-pub(crate) fn calls(frames: &mut Frames, code: &MethodCode) -> bool {
-    let is_called = begin(frames, 0, code, &[]).is_ok() && comes_to(frames, &CALL, 100);
-    let returns = call(frames, 1, code, 2).is_ok() && comes_to(frames, &SUBTRACT, 100);
-    come_back(frames);
     let after = FramePlace {
         class: 0,
         method: 0,

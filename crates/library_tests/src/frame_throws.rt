@@ -56,15 +56,13 @@ pub(crate) fn comes_out(
         Some(class) if stand(frames, code, throw).is_ok() => {
             let reference = 6;
             let caught = frames.catch(program, Thrown { reference, class });
-            caught == throw.caught && is_left(frames, throw)
+            caught == throw.caught
+                && frames.at() == throw.at
+                && frames.operand(0) == throw.top
+                && frames.len() == throw.left
         }
         _ => false,
     }
-}
-
-/// Whether these frames are left.
-fn is_left(frames: &Frames, throw: &Throw) -> bool {
-    frames.at() == throw.at && frames.operand(0) == throw.top && frames.len() == throw.left
 }
 
 /// Two frames are left.

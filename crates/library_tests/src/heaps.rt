@@ -117,30 +117,21 @@ fn is_full(program: &Program, heap: &mut Heap) -> bool {
 
 const MONITOR: Monitor = Monitor::Object(7);
 
-/// Whether thread 1 enters the monitor twice, and thread 2 doesn't.
-fn enters(monitors: &mut Monitors) -> bool {
+/// Whether a monitor is held by one thread, as often as it entered it, and left by that thread alone.
+fn is_held(alloc: Global) -> bool {
+    let mut monitors = Monitors::new(alloc);
     let holder = Holder {
         thread: 1,
         count: 2,
     };
-    monitors.enter(1, MONITOR) == Ok(Entry::Entered)
+    let is_entered = monitors.enter(1, MONITOR) == Ok(Entry::Entered)
         && monitors.enter(1, MONITOR) == Ok(Entry::Entered)
         && monitors.enter(2, MONITOR) == Ok(Entry::Busy)
-        && monitors.holder(MONITOR) == Some(holder)
-}
-
-/// Whether thread 1 leaves the monitor, and thread 2 doesn't.
-fn leaves(monitors: &mut Monitors) -> bool {
+        && monitors.holder(MONITOR) == Some(holder);
     let left = monitors.exit(1, MONITOR);
     let not_left = monitors.exit(2, MONITOR);
     monitors.release_all(1);
-    left && !not_left && monitors.holder(MONITOR).is_none()
-}
-
-/// Whether a monitor is held by one thread, as often as it entered it.
-fn is_held(alloc: Global) -> bool {
-    let mut monitors = Monitors::new(alloc);
-    enters(&mut monitors) && leaves(&mut monitors)
+    is_entered && left && !not_left && monitors.holder(MONITOR).is_none()
 }
 
 /// Whether a part of a new heap is right, over a program without classes.

@@ -29,15 +29,12 @@ fn bytes_are_compared(rt: HostRuntime) {
     assert!(rt; is_itself(rt.alloc()) == Ok(true));
 }
 
-fn notes(alloc: Global, texts: &mut Texts) -> bool {
+/// Whether each text has its place, in the order in which they are noted, and no other text has one.
+fn have_places(alloc: Global, texts: &mut Texts) -> bool {
     texts.note(alloc, b"main").is_ok()
         && texts.note(alloc, b"<clinit>").is_ok()
         && texts.note(alloc, b"main").is_ok()
-}
-
-/// Whether each text has its place, in the order in which they were noted, and no other text has one.
-fn have_places(texts: &Texts) -> bool {
-    texts.len() == 2
+        && texts.len() == 2
         && texts.place(b"main") == Some(0)
         && texts.place(b"<clinit>") == Some(1)
         && texts.place(b"run").is_none()
@@ -48,5 +45,5 @@ fn have_places(texts: &Texts) -> bool {
 #[test]
 fn texts_are_noted_once(rt: HostRuntime) {
     let mut texts = Texts::new(rt.alloc());
-    assert!(rt; notes(rt.alloc(), &mut texts) && have_places(&texts));
+    assert!(rt; have_places(rt.alloc(), &mut texts));
 }

@@ -30,16 +30,6 @@ fn chained(alloc: Global, class: usize) -> Result<String, AllocError> {
     Ok(file)
 }
 
-/// Adds an interface of the chain.
-fn add_interface(
-    alloc: Global,
-    interface: usize,
-    classes: &mut Vec<ClassText>,
-) -> Result<(), AllocError> {
-    let file = format!(in alloc; ".interface I{interface}\n.method m()V\nreturn\n.end method")?;
-    add(alloc, file.as_bytes(), classes)
-}
-
 /// The classes of a long chain, from the top, and then their interfaces.
 fn long_chain(alloc: Global) -> Result<Vec<ClassText>, AllocError> {
     let mut classes = Vec::new(alloc);
@@ -47,7 +37,8 @@ fn long_chain(alloc: Global) -> Result<Vec<ClassText>, AllocError> {
         add(alloc, chained(alloc, class)?.as_bytes(), &mut classes)?;
     }
     for interface in 0..INTERFACES {
-        add_interface(alloc, interface, &mut classes)?;
+        let file = format!(in alloc; ".interface I{interface}\n.method m()V\nreturn\n.end method")?;
+        add(alloc, file.as_bytes(), &mut classes)?;
     }
     Ok(classes)
 }

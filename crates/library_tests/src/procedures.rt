@@ -18,7 +18,7 @@ fn is_completed(procedure: &Procedure, outcome: Outcome) -> bool {
     procedure.next() == Next::Idle && procedure.last() == Some(Completed { class, outcome })
 }
 
-/// A second look finds the class erroneous.
+/// A second look finds the class erroneous. What was completed last can be forgotten.
 fn refuses(alloc: Global, program: &Program, procedure: &mut Procedure) -> Result<bool, AllocError>
     requires { procedure.old ≡ standing [] None }
 {
@@ -27,7 +27,11 @@ fn refuses(alloc: Global, program: &Program, procedure: &mut Procedure) -> Resul
     let waits = Answer::Decided(Decision::Waits { first: true });
     let next = procedure.advance(alloc, program, waits)?;
     procedure.advance(alloc, program, Answer::Decided(Decision::FindsErroneous))?;
-    Ok(idle == Next::Idle && next == Next::Look(CLASS))
+    let refused = program.built_in(BuiltIn::NoClassDefFoundError);
+    let was_completed = is_completed(procedure, Outcome::Abrupt(refused));
+    procedure.forget_last();
+    let is_forgotten = procedure.last().is_none();
+    Ok(idle == Next::Idle && next == Next::Look(CLASS) && was_completed && is_forgotten)
 }
 
 /// Memory runs out behind step 6.
@@ -38,7 +42,8 @@ fn gives_up(alloc: Global, program: &Program, procedure: &mut Procedure) -> Resu
     procedure.request(CLASS)?;
     let next = procedure.advance(alloc, program, Answer::GaveUp { error, begun: true })?;
     procedure.advance(alloc, program, Answer::Ended)?;
-    Ok(next == Next::End(CLASS, Ending::SuperFails(error)))
+    let was_completed = is_completed(procedure, Outcome::Ended(error));
+    Ok(next == Next::End(CLASS, Ending::SuperFails(error)) && was_completed)
 }
 
 /// A thread gives up where it waits.
@@ -55,35 +60,31 @@ fn waits_and_gives_up(
     let next = procedure.advance(alloc, program, waits)?;
     let begun = false;
     procedure.advance(alloc, program, Answer::GaveUp { error, begun })?;
-    Ok(next == Next::Look(CLASS))
+    Ok(next == Next::Look(CLASS) && is_completed(procedure, Outcome::Ended(error)))
 }
 
-/// A body is begun once.
-fn runs_a_body(procedure: &mut Procedure) -> bool {
+/// A body is begun once, and throws.
+fn throws(procedure: &mut Procedure) -> bool {
     let was_running = procedure.is_running();
     if let Next::Body(CLASS) = procedure.next() {
         if !procedure.is_running() {
             procedure.run_body();
         }
     }
-    procedure.is_running() && !was_running
-}
-
-/// A body throws.
-fn throws(procedure: &mut Procedure) -> bool {
+    let is_running = procedure.is_running();
     if let Next::Body(CLASS) = procedure.next() {
         procedure.end_body(Outcome::Abrupt(ERROR));
     }
-    procedure.next() == Next::End(CLASS, Ending::Fails(ERROR))
+    is_running && !was_running && procedure.next() == Next::End(CLASS, Ending::Fails(ERROR))
 }
 
-/// The body of a class without needs comes after step 6.
+/// The body of a class without needs comes after step 6, and throws.
 fn begins(alloc: Global, program: &Program, procedure: &mut Procedure) -> Result<bool, AllocError>
     requires { procedure.old ≡ standing [] None }
 {
     procedure.request(CLASS)?;
     let next = procedure.advance(alloc, program, Answer::Decided(Decision::Begins))?;
-    Ok(next == Next::Body(CLASS))
+    Ok(next == Next::Body(CLASS) && throws(procedure))
 }
 
 /// What a procedure is asked and told.
@@ -95,7 +96,7 @@ pub(crate) enum Course {
     Throws,
 }
 
-/// Whether the procedure stands as its answers say until it is completed.
+/// Whether the procedure stands as its answers say, and is completed as it must be.
 fn goes(
     alloc: Global,
     program: &Program,
@@ -112,27 +113,6 @@ fn goes(
     }
 }
 
-/// Whether the procedure is completed as it must be.
-fn ends(program: &Program, procedure: &mut Procedure, course: Course) -> bool {
-    match course {
-        Course::Refuses => {
-            let refused = program.built_in(BuiltIn::NoClassDefFoundError);
-            let was_completed = is_completed(procedure, Outcome::Abrupt(refused));
-            procedure.forget_last();
-            was_completed && procedure.last().is_none()
-        }
-        Course::GivesUp => {
-            let error = program.built_in(BuiltIn::OutOfMemoryError);
-            is_completed(procedure, Outcome::Ended(error))
-        }
-        Course::WaitsAndGivesUp => {
-            let error = program.built_in(BuiltIn::InternalError);
-            is_completed(procedure, Outcome::Ended(error))
-        }
-        Course::Throws => runs_a_body(procedure) && throws(procedure),
-    }
-}
-
 /// Whether a new procedure goes this course.
 pub(crate) fn is_gone(
     alloc: Global,
@@ -140,8 +120,7 @@ pub(crate) fn is_gone(
     course: Course,
 ) -> Result<bool, AllocError> {
     let mut procedure = Procedure::new(alloc);
-    let goes = goes(alloc, program, &mut procedure, course)?;
-    Ok(goes && ends(program, &mut procedure, course))
+    goes(alloc, program, &mut procedure, course)
 }
 
 const SOLO: &[&[u8]] = &[b".class Solo"];

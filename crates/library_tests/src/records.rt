@@ -303,33 +303,23 @@ pub(crate) fn is_told(alloc: Global, program: &Program, story: &Story) -> bool {
     }
 }
 
-/// Whether two events do the same.
-fn are_alike(event: &Event, other: &Event) -> Result<bool, AllocError> {
-    let kind = event.kind()?;
-    Ok(kind == other.kind()?)
-}
-
 /// Whether the copy of an event is like it.
-fn is_copied(event: &Event) -> bool {
-    match event.clone() {
-        Ok(copy) => {
-            copy.thread() == event.thread()
-                && copy.class() == event.class()
-                && are_alike(&copy, event) == Ok(true)
-        }
-        Err(_) => false,
-    }
+fn is_copied(event: &Event) -> Result<bool, AllocError> {
+    let copy = event.clone()?;
+    let kind = copy.kind()?;
+    let is_alike = kind == event.kind()?;
+    Ok(is_alike && copy.thread() == event.thread() && copy.class() == event.class())
 }
 
 /// Whether a print of a text is copied.
 fn is_print_copied(alloc: Global) -> Result<bool, AllocError> {
     let text = Text::copied(alloc, b"2\n")?;
     let printed = Event::print(alloc, 2, text)?;
-    Ok(is_copied(&printed) && printed.text() == Some(b"2\n".as_slice()))
+    Ok(is_copied(&printed)? && printed.text() == Some(b"2\n".as_slice()))
 }
 
 #[test]
 fn events_are_copied(rt: HostRuntime) {
     assert!(rt; is_print_copied(rt.alloc()) == Ok(true));
-    assert!(rt; is_copied(&Event::new(1, ClassId { number: 0 }, Kind::Fails(ERROR))));
+    assert!(rt; is_copied(&Event::new(1, ClassId { number: 0 }, Kind::Fails(ERROR))) == Ok(true));
 }

@@ -6,11 +6,11 @@ use std::io;
 use std::sync::Wait;
 use std::thread::Threads;
 
-/// Files that each hold a class Solo, but for `None.j`, which isn't there, and `empty`. Memory is refused for reading `starved.j`
-/// and for writing `starved`, and `locked` can't be written.
+/// Files that each hold a class Solo, but for `None.j`, which isn't there, `empty`, and `broken off`, the trace of a run that was. Memory
+/// is refused for reading `starved.j` and for writing `starved`, and `locked` can't be written.
 #[derive(Drop)]
-struct RefusingFiles {
-    is_written: bool,
+pub(crate) struct RefusingFiles {
+    pub(crate) is_written: bool,
 }
 
 impl Named for RefusingFiles {
@@ -23,6 +23,8 @@ impl Named for RefusingFiles {
         }
         let text = if name == "empty" {
             b"".as_slice()
+        } else if name == "broken off" {
+            b"0 t0 step6 Solo\n1 t0 step9 Solo\n".as_slice()
         } else {
             b".class Solo".as_slice()
         };
@@ -116,22 +118,13 @@ const BY_FILES: &[(&[&str], &[u8])] = &[
     ),
 ];
 
-/// Whether these words are refused so, and nothing is written on the output.
-fn is_refused_by_files<R: Threads + Wait + Sync>(
-    rt: &R,
-    alloc: Global,
-    words: &[&str],
-    line: &[u8],
-) -> bool {
-    let mut out = Vec::new(alloc);
-    is_refused(rt, alloc, words, &mut out, line) && out.is_empty()
-}
-
+/// Nothing is written on the output.
 #[test]
 fn refused_by_files(rt: HostRuntime) {
     for (place, (words, line)) in BY_FILES.iter().enumerate() {
+        let mut out = Vec::new(rt.alloc());
         assert!(rt;
-            is_refused_by_files(&rt, rt.alloc(), words, line),
+            is_refused(&rt, rt.alloc(), words, &mut out, line) && out.is_empty(),
             "row {place}"
         );
     }

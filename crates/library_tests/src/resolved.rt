@@ -152,17 +152,6 @@ const DECLARED_OPS: &[Seen] = &[
     ("ireturn", 0, 0, 0),
 ];
 
-/// Whether these are the instructions.
-fn are(ops: &[Op], wanted: &[Seen]) -> bool {
-    for (place, row) in wanted.iter().enumerate() {
-        match ops.get(place) {
-            Some(op) if seen(*op) == *row => {}
-            _ => return false,
-        }
-    }
-    ops.len() == wanted.len()
-}
-
 /// Whether a type is that of ints.
 fn is_int(found: Option<&ResolvedType>) -> bool {
     match found {
@@ -171,23 +160,6 @@ fn is_int(found: Option<&ResolvedType>) -> bool {
         }
         None => false,
     }
-}
-
-/// The method with limits, parameters and a result.
-fn is_as_declared(code: &MethodCode) -> bool {
-    !code.synchronized
-        && code.stack == 7
-        && code.locals == 9
-        && code.parameters.len() == 2
-        && is_int(code.parameters.as_slice().first())
-        && matches!(
-            code.parameters.as_slice().get(1),
-            Some(ResolvedType {
-                dimensions: 0,
-                element: Element::Any,
-            })
-        )
-        && is_int(code.result.as_ref())
 }
 
 /// The types of the static fields, and the places of the methods that start.
@@ -213,18 +185,38 @@ fn has_places(program: &Program) -> bool {
 
 /// Whether a method has these instructions.
 fn has_ops(program: &Program, class: usize, place: usize, wanted: &[Seen]) -> bool {
-    match method(program, class, place) {
-        Some(code) => are(code.ops.as_slice(), wanted),
-        None => false,
+    let Some(code) = method(program, class, place) else {
+        return false;
+    };
+    let ops = code.ops.as_slice();
+    for (at, row) in wanted.iter().enumerate() {
+        match ops.get(at) {
+            Some(op) if seen(*op) == *row => {}
+            _ => return false,
+        }
     }
+    ops.len() == wanted.len()
 }
 
 /// Whether the methods have their limits and types, and the one that takes a monitor says so.
 fn has_methods(program: &Program) -> bool {
-    match (method(program, 0, 2), method(program, 0, 3)) {
-        (Some(declared), Some(locked)) => is_as_declared(declared) && locked.synchronized,
-        _ => false,
-    }
+    let (Some(code), Some(locked)) = (method(program, 0, 2), method(program, 0, 3)) else {
+        return false;
+    };
+    code.stack == 7
+        && code.locals == 9
+        && code.parameters.len() == 2
+        && is_int(code.parameters.as_slice().first())
+        && matches!(
+            code.parameters.as_slice().get(1),
+            Some(ResolvedType {
+                dimensions: 0,
+                element: Element::Any,
+            })
+        )
+        && is_int(code.result.as_ref())
+        && !code.synchronized
+        && locked.synchronized
 }
 
 /// Whether the first class has two static fields.

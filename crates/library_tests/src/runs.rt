@@ -70,12 +70,6 @@ fn is_whole(report: &Report) -> bool {
     true
 }
 
-fn tell<G: Gate>(gate: &G, events: &[Event]) {
-    for event in events {
-        gate.at(event);
-    }
-}
-
 /// The run of these main classes, if there is one. Another gate is told of its events afterwards.
 fn run<R: Threads + Wait + Sync, G: Gate + Sync, A: Gate>(
     rt: &R,
@@ -92,7 +86,9 @@ fn run<R: Threads + Wait + Sync, G: Gate + Sync, A: Gate>(
     match run_threads(rt, alloc, program, mains, bodies, Limits::USUAL, gate) {
         Ok(report) => {
             let events = report.events.as_slice();
-            tell(afterwards, events);
+            for event in events {
+                afterwards.at(event);
+            }
             Some(Ran {
                 is_whole: is_whole(&report),
                 threads: report.outcomes.len(),
@@ -190,22 +186,6 @@ impl Tally {
         }
     }
 
-    /// An event by another thread counts as something else of the last one.
-    fn add(&self, event: &Event) {
-        let thread = event.thread();
-        let is_own = match event.class() {
-            Some(class) => class.number == thread && thread < 2,
-            None => false,
-        };
-        let step = match step_of(event) {
-            Step::Begins if is_own => 0,
-            Step::Runs if is_own => 1,
-            Step::Completes if is_own => 2,
-            _ => 3,
-        };
-        self.counts[thread.min(1) * 4 + step].fetch_add(1, Ordering::SeqCst);
-    }
-
     /// Whether each thread made steps 6, 9 and 10 of the class of its own number once, and nothing else was told.
     fn is_each_once(&self) -> bool {
         for (place, wanted) in EACH_ONCE.iter().enumerate() {
@@ -219,8 +199,20 @@ impl Tally {
 }
 
 impl Gate for Tally {
+    /// An event by another thread counts as something else of the last one.
     fn at(&self, event: &Event) {
-        self.add(event);
+        let thread = event.thread();
+        let is_own = match event.class() {
+            Some(class) => class.number == thread && thread < 2,
+            None => false,
+        };
+        let step = match step_of(event) {
+            Step::Begins if is_own => 0,
+            Step::Runs if is_own => 1,
+            Step::Completes if is_own => 2,
+            _ => 3,
+        };
+        self.counts[thread.min(1) * 4 + step].fetch_add(1, Ordering::SeqCst);
     }
 }
 
@@ -253,7 +245,7 @@ impl<'a, C> Meeting<'a, C> {
 
 impl<'a, C: Clock> Gate for Meeting<'a, C> {
     fn at(&self, event: &Event) {
-        self.told.add(event);
+        self.told.at(event);
         if let Step::Runs = step_of(event) {
             self.running.fetch_add(1, Ordering::SeqCst);
             for _ in 0..self.turns {

@@ -237,8 +237,13 @@ fn throwable(program: &Program, class: ClassId) -> BuiltIn {
     }
 }
 
-fn act_of(program: &Program, kind: &Kind) -> Act {
-    match kind {
+fn made_of(program: &Program, event: &Event) -> Result<Made, AllocError> {
+    let class = match event.class() {
+        Some(class) => class.number,
+        None => 0,
+    };
+    let kind = event.kind()?;
+    let act = match &kind {
         Kind::Waits => Act::Waits,
         Kind::Recurs => Act::Recurs,
         Kind::FindsInitialized => Act::FindsInitialized,
@@ -248,15 +253,7 @@ fn act_of(program: &Program, kind: &Kind) -> Act {
         Kind::Completes => Act::Completes,
         Kind::Fails(class) => Act::Fails(throwable(program, *class)),
         _ => Act::Runs,
-    }
-}
-
-fn made_of(program: &Program, event: &Event) -> Result<Made, AllocError> {
-    let class = match event.class() {
-        Some(class) => class.number,
-        None => 0,
     };
-    let act = act_of(program, &event.kind()?);
     let thread = event.thread();
     Ok(Made { thread, class, act })
 }

@@ -152,18 +152,13 @@ fn found_at(
     }
 }
 
-/// Finds the word from one place on, where the words behind it were found.
-fn find_at(all_needs: &[&[usize]], list: &[Made], words: &mut [Word], from: usize, class: usize) {
-    let word = found_at(all_needs, list, words, from, class);
-    if from < words.len() {
-        words[from] = word;
-    }
-}
-
-/// Finds the word from each place on, from the list's end.
+/// Finds the word from each place on, from the list's end, by the words behind it.
 fn find_all(all_needs: &[&[usize]], list: &[Made], words: &mut [Word]) {
     for from in (0..list.len()).rev() {
-        find_at(all_needs, list, words, from, list[from].class);
+        let word = found_at(all_needs, list, words, from, list[from].class);
+        if from < words.len() {
+            words[from] = word;
+        }
     }
 }
 
@@ -174,17 +169,12 @@ pub(crate) fn begins_thread_word(
     main: usize,
     list: &[Made],
 ) -> Result<bool, AllocError> {
-    let mut found = vec![in alloc; Word::None; list.len()]?;
-    find_all(all_needs, list, &mut found);
-    Ok(is_thread_word(list, &found, main))
-}
-
-/// Whether the list begins the word, by the words that were found.
-fn is_thread_word(list: &[Made], words: &[Word], main: usize) -> bool {
-    match word_at(list, words, 0, main) {
-        Word::None => false,
-        Word::Begun => true,
-        Word::Normal(to) => is_open_at(words, behind_items(words, to)),
-        Word::Abrupt(to, _) => to >= list.len(),
+    let mut words = vec![in alloc; Word::None; list.len()]?;
+    find_all(all_needs, list, &mut words);
+    match word_at(list, &words, 0, main) {
+        Word::None => Ok(false),
+        Word::Begun => Ok(true),
+        Word::Normal(to) => Ok(is_open_at(&words, behind_items(&words, to))),
+        Word::Abrupt(to, _) => Ok(to >= list.len()),
     }
 }

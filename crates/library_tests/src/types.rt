@@ -71,19 +71,12 @@ fn are_one(alloc: Global, bytes: &[u8], others: &[u8]) -> Result<bool, AllocErro
     Ok(name == ClassName::parse(alloc, others)?)
 }
 
-/// The letter again, if it is one of a type.
-fn letter_of(letter: u8) -> Option<u8> {
-    match BaseType::of_letter(letter) {
-        Some(of) => Some(of.letter()),
-        None => None,
-    }
-}
-
 /// Whether each of these is the letter of a type, and the type's letter.
 fn are_letters(letters: &[u8]) -> bool {
     for letter in letters {
-        if letter_of(*letter) != Some(*letter) {
-            return false;
+        match BaseType::of_letter(*letter) {
+            Some(of) if of.letter() == *letter => {}
+            _ => return false,
         }
     }
     true

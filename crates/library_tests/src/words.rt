@@ -25,20 +25,16 @@ const WRITTEN: [(Written, &[u8]); 2] = [
     ),
 ];
 
-fn write(text: &mut Writer, written: Written) {
-    match written {
-        Written::Integers => {
-            push_integer(text, -2_147_483_648);
-            push_integer(text, 0);
-            push_decimal(text, 65_535);
-        }
-        Written::Quoted(bytes) => push_quoted(text, bytes),
-    }
-}
-
 fn is_written(alloc: Global, written: Written, wanted: &[u8]) -> bool {
     let mut text = Writer::new(alloc);
-    write(&mut text, written);
+    match written {
+        Written::Integers => {
+            push_integer(&mut text, -2_147_483_648);
+            push_integer(&mut text, 0);
+            push_decimal(&mut text, 65_535);
+        }
+        Written::Quoted(bytes) => push_quoted(&mut text, bytes),
+    }
     match text.into_text() {
         Ok(text) => text.as_slice() == wanted,
         Err(_) => false,
@@ -52,20 +48,13 @@ fn writes_integers_and_strings(rt: HostRuntime) {
     }
 }
 
-/// Whether the name has these bytes and equals its copy.
-fn is_kept(name: &MemberName, bytes: &[u8]) -> bool {
-    match name.clone() {
-        Ok(copy) => *name == copy && name.as_slice() == bytes,
-        Err(_) => false,
-    }
-}
-
+/// Whether these bytes are a name, which has them and equals its copy.
 fn is_name(alloc: Global, bytes: &[u8]) -> Result<bool, AllocError> {
-    match MemberName::parse(alloc, bytes) {
-        Ok(Some(name)) => Ok(is_kept(&name, bytes)),
-        Ok(None) => Ok(false),
-        Err(error) => Err(error),
-    }
+    let Some(name) = MemberName::parse(alloc, bytes)? else {
+        return Ok(false);
+    };
+    let copy = name.clone()?;
+    Ok(name == copy && name.as_slice() == bytes)
 }
 
 #[test]
