@@ -14,21 +14,12 @@ use Rattle.init_core.specs.declared.frames.Phase.TheVariants.{Looking, Needing, 
 use Rattle.init_core.specs.declared.procedure.Answer.{Answer}
 use Rattle.init_core.specs.declared.procedure.Answer.TheVariants as answer
 use Rattle.init_core.specs.declared.procedure.Next.TheVariants as next
-use Rattle.init_core.specs.Advance.{Advances, ends_class, gives_up_look, gives_up_body, Fits, LeavesAt, knows_all, IsAtEnd, MayRequest, after_word, is_running, next_of, thread_ended}
+use Rattle.init_core.specs.Advance.{Advances, ends_class, gives_up_look, gives_up_body, Fits, LeavesAt, knows_all, MayRequest, after_word, is_running, next_of, thread_ended}
 use Rattle.init_core.specs.Decisions.{event}
 use Rattle.init_core.specs.Leads.{frame, standing, kind_of_ending, outcome_of, LeadsOf, idle, looking, not_run, running, ending_by}
 use Rattle.init_core.specs.ProcedureWord.{Maker, IsMachineError, IsOfFiles, given_up}
 use Rattle.init_core.specs.Standing.{Standing}
 use Rattle.init_core.specs.Stands.{NamesFiles, ending_error}
-
--- the innermost procedure asks for something
-abbrev pub AsksIn : Phase → Type 0
-AsksIn (Needing rest) = ⊥
-AsksIn phase = Unit {0}
-
-abbrev pub AreAsking : List Frame → Type 0
-AreAsking [] = Unit {0}
-AreAsking (f ∷ fs) = AsksIn f.phase
 
 -- the innermost class is c, in this phase
 pub record IsAt (s : Standing) (c : ClassId) (phase : Phase) : Type 0 where
@@ -102,16 +93,6 @@ module _ (p : LinkedProgram) (t : ℕ) (s : Standing) (c : ClassId) where
   -- the step that ends a class was made
   pub ends : (m : Standing) (k : Ending) → next_of s.frames ≡ next.End c k → ((d : ClassId) (j : Ending) (by_machine : Bool) (fs : List Frame) → s.frames ≡ frame d (EndingBy j by_machine) ∷ fs → m ≡ after_word fs d (outcome_of j by_machine)) → Advances p t s answer.Ended (event t c (kind_of_ending k) ∷ []) m
   ends m k q is = let l = ends_at s c k q in rw (is c k l.0 l.1.below l.1.frames) (as_is (EndingBy k l.0) answer.Ended (event t c (kind_of_ending k) ∷ []) _ l.1 ends_class)
-
-at_end_in : (c : ClassId) (k : Ending) (phase : Phase) (b : ClassId) (fs : List Frame) → next_of (frame b phase ∷ fs) ≡ next.End c k → IsAtEnd (frame b phase ∷ fs)
-at_end_in c k (EndingBy j m) b fs q = tt
-at_end_in c k (Looking w) b fs q = cc
-at_end_in c k (Needing rest) b fs q = cc
-at_end_in c k (Running ran) b fs q = cc
-
-pub is_at_end : (c : ClassId) (k : Ending) (fs : List Frame) → next_of fs ≡ next.End c k → IsAtEnd fs
-is_at_end c k [] q = cc
-is_at_end c k (f ∷ fs) q = at_end_in c k f.phase f.class fs q
 
 -- where an answer is told that may be told
 pub may_tell : (p : LinkedProgram) (s : Standing) (a : Answer) → ((t : ℕ) → (z : Standing) × Advances p t s a [] z) → Fits p s a

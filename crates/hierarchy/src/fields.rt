@@ -5,7 +5,7 @@ ghost use Rattle.hierarchy.specs.Ops.{is_static_field};
 ghost use Rattle.hierarchy.specs.Ancestry.{first_given, superclasses};
 ghost use Rattle.hierarchy.specs.ClassNumbers.{classes_in};
 ghost use Rattle.hierarchy.specs.MemberOrder.{key_of_field, AreSortedPlaces};
-ghost use Rattle.hierarchy.specs.Fields.{field_order, field_from, is_class_element as is_class_element_of, is_out, built_in_field, declared_field, resolved_field};
+ghost use Rattle.hierarchy.specs.Fields.{field_order, field_from, is_class_element as is_class_element_of, built_in_field, declared_field, resolved_field};
 
 use crate::built_in::BuiltIn;
 use crate::class::ClassId;
@@ -93,15 +93,6 @@ pub(crate) fn is_class_element(name: &[u8], element: &ElementType) -> bool
     }
 }
 
-/// Whether these are the name and descriptor of java/lang/System's field.
-fn names_out(name: &[u8], field_type: &FieldType) -> bool
-    ensures { result ≡ is_out name.now field_type.now }
-{
-    name == b"out".as_slice()
-        && field_type.dimensions == 0
-        && is_class_element(b"java/io/PrintStream", &field_type.element)
-}
-
 /// The field of that name and descriptor that a built-in class declares.
 fn field_of_built_in(
     class: Option<BuiltIn>,
@@ -112,7 +103,10 @@ fn field_of_built_in(
 {
     match class {
         Some(BuiltIn::System) => {
-            if names_out(name, field_type) {
+            if name == b"out".as_slice()
+                && field_type.dimensions == 0
+                && is_class_element(b"java/io/PrintStream", &field_type.element)
+            {
                 Some(DeclaredField {
                     id: FieldId::Out,
                     is_static: true,

@@ -66,31 +66,11 @@ fn compare_parameters(parameters: &[FieldType], others: &[FieldType]) -> Orderin
     }
 }
 
-/// A field beside one of that name and type.
-pub(crate) fn compare_field(field: &Field, name: &[u8], field_type: &FieldType) -> Ordering
-    ensures { result ≡ key_cmp (key_of_field field.now) (field_key name.now field_type.now) }
-{
-    match field.name.as_slice().cmp(name) {
-        Ordering::Equal => compare_types(&field.field_type, field_type),
-        decided => decided,
-    }
-}
-
 fn compare_method_types(method_type: &MethodType, other: &MethodType) -> Ordering
     ensures { result ≡ key_cmp (result_numbers method_type.now.result ∷ map type_numbers method_type.now.parameters) (result_numbers other.now.result ∷ map type_numbers other.now.parameters) }
 {
     match compare_results(method_type, other) {
         Ordering::Equal => compare_parameters(method_type.parameters(), other.parameters()),
-        decided => decided,
-    }
-}
-
-/// A method beside one of that name and type.
-pub(crate) fn compare_method(method: &Method, name: &[u8], method_type: &MethodType) -> Ordering
-    ensures { result ≡ key_cmp (key_of_method method.now) (method_key name.now method_type.now) }
-{
-    match method.name.as_slice().cmp(name) {
-        Ordering::Equal => compare_method_types(&method.method_type, method_type),
         decided => decided,
     }
 }
@@ -105,7 +85,10 @@ pub(crate) fn compare_field_at(
     ensures { result ≡ key_cmp (key_at key_of_field fields.now place) (field_key name.now field_type.now) }
 {
     match fields.get(place) {
-        Some(field) => compare_field(field, name, field_type),
+        Some(field) => match field.name.as_slice().cmp(name) {
+            Ordering::Equal => compare_types(&field.field_type, field_type),
+            decided => decided,
+        },
         None => Ordering::Less,
     }
 }
@@ -120,7 +103,10 @@ pub(crate) fn compare_method_at(
     ensures { result ≡ key_cmp (key_at key_of_method methods.now place) (method_key name.now method_type.now) }
 {
     match methods.get(place) {
-        Some(method) => compare_method(method, name, method_type),
+        Some(method) => match method.name.as_slice().cmp(name) {
+            Ordering::Equal => compare_method_types(&method.method_type, method_type),
+            decided => decided,
+        },
         None => Ordering::Less,
     }
 }

@@ -1,7 +1,7 @@
 //! Method resolution.
 
 ghost use Rattle.std.specs.Prelude.{◌≡◌};
-ghost use Rattle.hierarchy.specs.MethodResolution.{method_of_superinterfaces, kind_of, found_method, may_name as may_be_named_by, declaring_class, is_init as has_init_name, suits as suits_as, is_inherited_init, resolved_method};
+ghost use Rattle.hierarchy.specs.MethodResolution.{kind_of, found_method, may_name as may_be_named_by, declaring_class, is_init as has_init_name, suits as suits_as, is_inherited_init, resolved_method};
 
 use crate::built_in::BuiltIn;
 use crate::class::ClassId;
@@ -77,22 +77,6 @@ impl Program {
         }
     }
 
-    /// The one maximally specific superinterface method that isn't abstract, else the first superinterface method
-    /// that is neither private nor static.
-    fn method_of_superinterfaces(
-        &self,
-        name: &[u8],
-        method_type: &MethodType,
-        id: ClassId,
-    ) -> Option<DeclaredMethod>
-        ensures { result ≡ method_of_superinterfaces self.now name.now method_type.now id }
-    {
-        match self.concrete_specific(name, method_type, id) {
-            Found::One(method) => Some(method),
-            _ => self.first_superinterface_method(name, method_type, id),
-        }
-    }
-
     /// The method that is looked up.
     fn found_method(
         &self,
@@ -108,7 +92,10 @@ impl Program {
         };
         match above {
             Some(method) => Some(method),
-            None => self.method_of_superinterfaces(name, method_type, id),
+            None => match self.concrete_specific(name, method_type, id) {
+                Found::One(method) => Some(method),
+                _ => self.first_superinterface_method(name, method_type, id),
+            },
         }
     }
 

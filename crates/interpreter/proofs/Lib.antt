@@ -2,7 +2,6 @@ pub mod AtOnce
 pub mod CodeBodies
 pub mod Entering
 pub mod InterfaceCalls
-pub mod Leading
 pub mod NotDone
 pub mod OfClass
 pub mod OnTop

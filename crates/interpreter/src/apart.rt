@@ -11,17 +11,9 @@ impl Interpreter {
         self.frames.len() < 512 && !matches!(self.op(program), Some(Op::New(_)))
     }
 
-    /// Whether an instruction comes to the same whatever was made by others: an active use, a jump, or a return from a method that
-    /// took no monitor. What was made by others fits no type here, so an instruction that takes it is never told apart.
-    fn leads_alone(&self, program: &Program, at: FramePlace, code: &MethodCode, op: Op) -> bool {
-        match lead_of(&self.frames, &self.heap, program, at, code, op) {
-            Some(Lead::Uses(_)) | Some(Lead::Jumps(_)) => true,
-            Some(Lead::Returns(_)) => self.taken_here().is_none(),
-            _ => false,
-        }
-    }
-
-    /// Whether what comes after the instructions that the innermost frame did by itself asks nothing of the heap and the monitors.
+    /// Whether what comes after the instructions that the innermost frame did by itself asks nothing of the heap and the monitors: an
+    /// active use, a jump, or a return from a method that took no monitor comes to the same whatever was made by others. What was made by
+    /// others fits no type here, so an instruction that takes it is never told apart.
     pub(crate) fn goes_on_alone(
         &self,
         program: &Program,
@@ -29,14 +21,17 @@ impl Interpreter {
         code: &MethodCode,
         stop: Stop,
     ) -> bool {
-        match stop {
-            Stop::LeadsOut(op) => match op {
-                Op::GetStatic(_, _) | Op::PutStatic(_, _) | Op::InvokeStatic(_, _) => {
-                    self.leads_alone(program, at, code, op)
-                }
-                Op::Switch | Op::Return | Op::ReturnInt => self.leads_alone(program, at, code, op),
-                _ => false,
-            },
+        let Stop::LeadsOut(op) = stop else {
+            return false;
+        };
+        match op {
+            Op::GetStatic(_, _) | Op::PutStatic(_, _) | Op::InvokeStatic(_, _) => {}
+            Op::Switch | Op::Return | Op::ReturnInt => {}
+            _ => return false,
+        }
+        match lead_of(&self.frames, &self.heap, program, at, code, op) {
+            Some(Lead::Uses(_)) | Some(Lead::Jumps(_)) => true,
+            Some(Lead::Returns(_)) => self.taken_here().is_none(),
             _ => false,
         }
     }

@@ -3,7 +3,7 @@
 ghost use Rattle.std.specs.Prelude.{◌≡◌, ◌↔◌, IfSome, IsTrue};
 ghost use Rattle.heap.specs.Contents.{element_type};
 ghost use Rattle.heap.specs.Objects.{base_of_type};
-ghost use Rattle.interpreter.specs.ArrayLeads.{IsStorable, Stores, StoresIn, element_by, has_kind as has_kind_of, is_stored as is_stored_by, length_lead, load_from as load_from_array, load_lead, loaded as loaded_by, new_array_lead, serves as serves_elements, stored as stored_by};
+ghost use Rattle.interpreter.specs.ArrayLeads.{IsStorable, Stores, StoresIn, element_by, has_kind as has_kind_of, is_stored as is_stored_by, length_lead, load_from as load_from_array, load_lead, new_array_lead, serves as serves_elements, stored as stored_by};
 
 use crate::fitting::{cell_of, value_of};
 use crate::index::Index;
@@ -95,15 +95,6 @@ pub(crate) fn typed_element(
     }
 }
 
-fn loaded(found: Option<Value>) -> Lead
-    ensures { result ≡ loaded_by found }
-{
-    match found {
-        Some(value) => Lead::Gives(2, cell_of(value)),
-        None => Lead::Throws(BuiltIn::ArrayIndexOutOfBoundsException),
-    }
-}
-
 fn load_from(
     heap: &Heap,
     program: &Program,
@@ -117,10 +108,12 @@ fn load_from(
         Some(Cell::Null) => Lead::Throws(BuiltIn::NullPointerException),
         Some(Cell::Reference(number)) => {
             let (held, found) = typed_element(heap, program, number, index);
-            if serves(kind, held) {
-                loaded(found)
-            } else {
-                VERIFY
+            if !serves(kind, held) {
+                return VERIFY;
+            }
+            match found {
+                Some(value) => Lead::Gives(2, cell_of(value)),
+                None => Lead::Throws(BuiltIn::ArrayIndexOutOfBoundsException),
             }
         }
         _ => VERIFY,

@@ -128,18 +128,6 @@ fn put_out(
     when(fits, Lead::Drops(1))
 }
 
-fn give_back(
-    frames: &Frames,
-    heap: &Heap,
-    program: &Program,
-    at: FramePlace,
-    code: &MethodCode,
-) -> Lead
-    ensures { LeadsTo program.now heap.now frames.now at code.now op.Return result }
-{
-    when(code.result.is_none(), Lead::Returns(None))
-}
-
 /// What an instruction comes to that leads out of its frame; none where the program's code isn't resolved. Takes no memory.
 pub(crate) fn lead_of(
     frames: &Frames,
@@ -203,7 +191,7 @@ pub(crate) fn lead_of(
         }
         Op::ReturnInt => Some(return_int(frames, heap, program, at, code)),
         Op::ReturnReference => Some(return_reference(frames, heap, program, at, code)),
-        Op::Return => Some(give_back(frames, heap, program, at, code)),
+        Op::Return => Some(when(code.result.is_none(), Lead::Returns(None))),
         // (every other instruction stays within its frame)
         _ => None,
     }

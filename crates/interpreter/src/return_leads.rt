@@ -1,8 +1,8 @@
 //! What returns with a value come to (JVMS SE 8 6.5 ireturn, areturn).
 
-ghost use Rattle.std.specs.Prelude.{◌≡◌, ◌↔◌, IsTrue};
+ghost use Rattle.std.specs.Prelude.{◌↔◌, IsTrue};
 ghost use Rattle.hierarchy.specs.declared.op.Op.TheVariants as op;
-ghost use Rattle.interpreter.specs.Leads.{IsResult, LeadsTo, MayReturn, return_int_lead, return_reference_lead};
+ghost use Rattle.interpreter.specs.Leads.{IsResult, LeadsTo, MayReturn};
 
 use crate::fitting::fits;
 use crate::lead::{Lead, VERIFY, when};
@@ -43,15 +43,6 @@ fn may_return(
     }
 }
 
-fn return_int_by(may: bool, value: Option<Cell>) -> Lead
-    ensures { result ≡ return_int_lead may value }
-{
-    match value {
-        Some(Cell::Int(_)) => when(may, Lead::Returns(value)),
-        _ => VERIFY,
-    }
-}
-
 pub(crate) fn return_int(
     frames: &Frames,
     heap: &Heap,
@@ -62,15 +53,9 @@ pub(crate) fn return_int(
     ensures { LeadsTo program.now heap.now frames.now at code.now op.ReturnInt result }
 {
     let value = frames.operand(0);
-    return_int_by(may_return(frames, heap, program, at, code, value), value)
-}
-
-fn return_reference_by(may: bool, value: Option<Cell>) -> Lead
-    ensures { result ≡ return_reference_lead may value }
-{
+    let may = may_return(frames, heap, program, at, code, value);
     match value {
-        Some(Cell::Null) => when(may, Lead::Returns(value)),
-        Some(Cell::Reference(_)) => when(may, Lead::Returns(value)),
+        Some(Cell::Int(_)) => when(may, Lead::Returns(value)),
         _ => VERIFY,
     }
 }
@@ -85,5 +70,10 @@ pub(crate) fn return_reference(
     ensures { LeadsTo program.now heap.now frames.now at code.now op.ReturnReference result }
 {
     let value = frames.operand(0);
-    return_reference_by(may_return(frames, heap, program, at, code, value), value)
+    let may = may_return(frames, heap, program, at, code, value);
+    match value {
+        Some(Cell::Null) => when(may, Lead::Returns(value)),
+        Some(Cell::Reference(_)) => when(may, Lead::Returns(value)),
+        _ => VERIFY,
+    }
 }

@@ -1,7 +1,7 @@
 //! The targets of switches.
 
 ghost use Rattle.std.specs.Prelude.{◌≡◌, Some, None};
-ghost use Rattle.interpreter.specs.Leads.{case_target, jump_lead, switch_lead, target_at as target_behind, target_of};
+ghost use Rattle.interpreter.specs.Leads.{case_target, switch_lead, target_at as target_behind, target_of};
 ghost use Rattle.interpreter.specs.Methods.{instruction_at as text_at};
 
 use crate::lead::{Lead, VERIFY};
@@ -61,21 +61,15 @@ fn target(program: &Program, at: FramePlace, key: i32) -> Option<u16>
     }
 }
 
-fn jump_to(target: Option<u16>) -> Lead
-    ensures { result ≡ jump_lead target }
-{
-    match target {
-        Some(to) => Lead::Jumps(to),
-        None => VERIFY,
-    }
-}
-
 /// What the switch at a place comes to, by the operand on top.
 pub(crate) fn switch(program: &Program, at: FramePlace, value: Option<Cell>) -> Lead
     ensures { result ≡ switch_lead program.now at value }
 {
     match value {
-        Some(Cell::Int(key)) => jump_to(target(program, at, key)),
+        Some(Cell::Int(key)) => match target(program, at, key) {
+            Some(to) => Lead::Jumps(to),
+            None => VERIFY,
+        },
         _ => VERIFY,
     }
 }

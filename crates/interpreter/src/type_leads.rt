@@ -1,7 +1,7 @@
 //! What checks of types, athrow and the words on monitors come to (JVMS SE 8 6.5).
 
 ghost use Rattle.std.specs.Prelude.{◌≡◌, ◌↔◌, IsTrue};
-ghost use Rattle.interpreter.specs.TypeLeads.{Casts, IsThrowableIn, TellsInstance, ThrowsFrom, cast_lead, instance_lead, missing_cast_lead, missing_instance_lead, monitor_lead, throw_lead};
+ghost use Rattle.interpreter.specs.TypeLeads.{Casts, IsThrowableIn, TellsInstance, ThrowsFrom, missing_cast_lead, missing_instance_lead, monitor_lead, throw_lead};
 ghost use Rattle.interpreter.specs.declared.lead.Lead.TheVariants as lead;
 
 use crate::fitting::is_instance_in;
@@ -11,9 +11,15 @@ use frames::{Cell, Thrown};
 use heap::Heap;
 use hierarchy::{BuiltIn, Program, ResolvedType};
 
-fn cast_by(is: bool, value: Option<Cell>) -> Lead
-    ensures { result ≡ cast_lead is value }
+pub(crate) fn cast(
+    heap: &Heap,
+    program: &Program,
+    wanted: ResolvedType,
+    value: Option<Cell>,
+) -> Lead
+    ensures { Casts program.now heap.now wanted value result }
 {
+    let is = is_instance_in(heap, program, wanted, value);
     match value {
         Some(Cell::Null) => Lead::Drops(0),
         Some(Cell::Reference(_)) => {
@@ -27,39 +33,12 @@ fn cast_by(is: bool, value: Option<Cell>) -> Lead
     }
 }
 
-pub(crate) fn cast(
-    heap: &Heap,
-    program: &Program,
-    wanted: ResolvedType,
-    value: Option<Cell>,
-) -> Lead
-    ensures { Casts program.now heap.now wanted value result }
-{
-    cast_by(is_instance_in(heap, program, wanted, value), value)
-}
-
 pub(crate) fn cast_missing(value: Option<Cell>) -> Lead
     ensures { result ≡ missing_cast_lead value }
 {
     match value {
         Some(Cell::Null) => Lead::Drops(0),
         _ => Lead::Throws(BuiltIn::NoClassDefFoundError),
-    }
-}
-
-fn instance_by(is: bool, value: Option<Cell>) -> Lead
-    ensures { result ≡ instance_lead is value }
-{
-    match value {
-        Some(Cell::Null) => Lead::Gives(1, Cell::Int(0)),
-        Some(Cell::Reference(_)) => {
-            if is {
-                Lead::Gives(1, Cell::Int(1))
-            } else {
-                Lead::Gives(1, Cell::Int(0))
-            }
-        }
-        _ => VERIFY,
     }
 }
 
@@ -71,7 +50,18 @@ pub(crate) fn instance(
 ) -> Lead
     ensures { TellsInstance program.now heap.now wanted value result }
 {
-    instance_by(is_instance_in(heap, program, wanted, value), value)
+    let is = is_instance_in(heap, program, wanted, value);
+    match value {
+        Some(Cell::Null) => Lead::Gives(1, Cell::Int(0)),
+        Some(Cell::Reference(_)) => {
+            if is {
+                Lead::Gives(1, Cell::Int(1))
+            } else {
+                Lead::Gives(1, Cell::Int(0))
+            }
+        }
+        _ => VERIFY,
+    }
 }
 
 pub(crate) fn instance_missing(value: Option<Cell>) -> Lead
