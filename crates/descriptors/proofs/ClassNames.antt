@@ -2,7 +2,8 @@
 use Rattle.std.proofs.Common.{◌≡◌, ℕ, suc, ◌+◌, Bool, true, false, ◌&&◌, ◌||◌, cond, eqb, inl, inr, List, [], ◌∷◌, ◌++◌, length, refl, sym, ap, ◌∙◌, arith}
 use Rattle.std.specs.List.{list_all}
 use Rattle.std.proofs.lemmas.Bool.{eqb-true, and_parts}
-use Rattle.descriptors.specs.ClassName.{is_name_byte, with_byte, segments, is_some_byte, is_segment, is_class_name, IsClassName}
+use Rattle.descriptors.specs.ClassName.{is_name_byte, segments, is_segment, is_class_name, IsClassName}
+use Rattle.sequence.specs.Parts.{with_byte, is_some_byte}
 use Rattle.descriptors.specs.Reading.{name_len}
 use Rattle.descriptors.proofs.Steps.{chosen}
 

@@ -13,7 +13,7 @@ use crate::values::decide_value;
 use hierarchy::{BuiltIn, Op};
 
 /// What an instruction comes to. All but `Done` leave the frame as it is.
-#[derive(Clone, Copy, PartialEq, Eq)]
+#[derive(Clone, Copy)]
 pub(crate) enum Flow {
     /// The instruction is done.
     Done,

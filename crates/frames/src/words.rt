@@ -1,7 +1,7 @@
 //! What instructions of one kind do differently.
 
 /// Which ints a jump compares so.
-#[derive(Clone, Copy, PartialEq, Eq)]
+#[derive(Clone, Copy)]
 pub(crate) enum Comparison {
     Equal,
     NotEqual,
@@ -12,7 +12,7 @@ pub(crate) enum Comparison {
 }
 
 /// What an instruction makes of two ints.
-#[derive(Clone, Copy, PartialEq, Eq)]
+#[derive(Clone, Copy)]
 pub(crate) enum Arithmetic {
     Add,
     Subtract,
@@ -26,14 +26,14 @@ pub(crate) enum Arithmetic {
 }
 
 /// What an instruction makes of two ints, where the second isn't zero.
-#[derive(Clone, Copy, PartialEq, Eq)]
+#[derive(Clone, Copy)]
 pub(crate) enum Division {
     Divide,
     Remainder,
 }
 
 /// What an instruction makes of an int.
-#[derive(Clone, Copy, PartialEq, Eq)]
+#[derive(Clone, Copy)]
 pub(crate) enum Conversion {
     Negate,
     ToByte,

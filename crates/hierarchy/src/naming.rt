@@ -7,20 +7,20 @@ use jasmin_text::{ClassKind, ClassParts};
 use std::alloc::{AllocError, Global};
 use texts::Texts;
 
-/// The first class whose name lies under java/, as no file's class may have.
+/// Whether a file's class may not have this name.
+fn is_under_java(name: &[u8]) -> bool
+    ensures { result ≡ is_reserved name.now }
+{
+    name.starts_with(b"java/")
+}
+
+/// The first class whose name lies under java/.
 pub(crate) fn first_reserved(texts: &[ClassParts]) -> Option<usize>
     ensures { result ≡ position (λ t. is_reserved t.name) texts.now }
 {
-    let mut place = 0;
-    let mut rest = texts;
-    while let [text, after @ ..] = rest {
-        if text.name.as_slice().starts_with(b"java/") {
-            return Some(place);
-        }
-        place += 1;
-        rest = after;
-    }
-    None
+    texts
+        .iter()
+        .position(|text| is_under_java(text.name.as_slice()))
 }
 
 /// The first class that has the name of one before it; else all names are noted.

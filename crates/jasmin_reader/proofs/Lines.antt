@@ -10,7 +10,8 @@ use Rattle.sequence.specs.declared.refusal.Refusal.TheVariants as refusal
 use Rattle.jasmin_words.specs.Lexing.{words_of}
 use Rattle.sequence.specs.Gives.{Fails}
 use Rattle.jasmin_reader.specs.Reading.{line_at}
-use Rattle.jasmin_text.specs.Lines.{line_len, with_byte, lines_of}
+use Rattle.jasmin_text.specs.Lines.{line_len, lines_of}
+use Rattle.sequence.specs.Parts.{with_byte}
 use Rattle.jasmin_reader.specs.File.{then_lines, rest_at, finished, Tells, fault_of}
 
 pub lines_are : (bytes : List ℕ) → 0 < length bytes → lines_of bytes ≡ take (line_len bytes) bytes ∷ lines_of (drop 1 (drop (line_len bytes) bytes))

@@ -1,10 +1,7 @@
 -- What single words stand for, both ways: integers, descriptors, members, words of tables.
-use Rattle.std.proofs.Common.{◌≡◌, ℕ, zero, suc, ◌^◌, ◌<◌, ◌≤◌, inl, inr, ℤ, pos, negsuc, neg_ℤ, int_le, Bool, true, false, not, eqb, nat_le, List, [], ◌∷◌, length, Option, Some, None, IfSome, Result, Ok, Err, refl, sym, ap, ◌∙◌, arith, codes, eqb-true, lt-ltb, leb-true, le-leb}
+use Rattle.std.proofs.Common.{◌≡◌, ℕ, inl, inr, ℤ, pos, negsuc, int_le, Bool, true, false, not, eqb, nat_le, List, [], ◌∷◌, length, Option, Some, None, IfSome, Result, Ok, Err, refl, sym, ap, ◌∙◌, arith, codes, eqb-true, lt-ltb, leb-true, le-leb}
 use Rattle.std.specs.List.{list_all, AllByRecursion}
-use Rattle.std.specs.Str.Parse.{digits_value}
 use Rattle.std.proofs.lemmas.Bool.{and_from, cases_Bool, not-false, false_from_ne_true, and_parts, not-true, cond-false}
-use Rattle.std.proofs.lemmas.Int.Digits.{digits_value-lt}
-use Rattle.std.proofs.Math.Nat.{pow-le-pow_right}
 use Rattle.std.proofs.lemmas.Slice.Eq.{bytes_eq-Decides}
 use Rattle.std.specs.Str.{bytes_eq}
 use Rattle.descriptors.specs.Signature.{Signature}
@@ -16,12 +13,13 @@ use Rattle.descriptors.specs.declared.field.FieldType.{FieldType}
 use Rattle.descriptors.proofs.FieldLaws.{field_found}
 use Rattle.jasmin_words.specs.declared.fault.FaultKind.{FaultKind}
 use Rattle.jasmin_words.specs.declared.fault.FaultKind.TheVariants as fault
-use Rattle.jasmin_words.specs.Integers.{magnitude_of, of_bits, integer_of, IsInteger, decimal, minus, bits}
+use Rattle.jasmin_words.specs.Integers.{magnitude_of, integer_of, IsInteger}
 use Rattle.jasmin_words.specs.Lexing.{fits}
 use Rattle.jasmin_words.specs.Names.{is_label}
 use Rattle.jasmin_words.proofs.Numbers.{integer_is}
 use Rattle.sequence.proofs.Results.{in_at, bind_ok, some_ok, given, test_passed, not_refused}
 use Rattle.jasmin_text.specs.Forms.{form_at, forms, directive_at, directives}
+use Rattle.jasmin_text.proofs.Integers.{integer_int as word_int}
 use Rattle.jasmin_text.specs.Grammar.{IsIntIn, IsNumberIn, IsMethodWord, short_low}
 use Rattle.jasmin_text.specs.MemberWords.{member_in, before_type, type_part}
 use Rattle.jasmin_text.specs.Spellable.{is_int, is_short, is_type, is_element_type, is_result_type, is_field_type, is_method_type}
@@ -67,24 +65,9 @@ pub number_read : (low high : ℕ) (above : FaultKind) (w : List ℕ) (n : ℕ) 
 unfolding number_in
 number_read low high above w n h = rw (h.value, h.from, h.to) refl
 
-bits_int : (n : ℕ) → n < 4294967296 → is_int (of_bits n) ≡ true
-bits_int n h = grind arith
-
-negated_int : (n : ℕ) → n ≤ 2147483648 → is_int (neg_ℤ (pos n)) ≡ true
-negated_int zero h = refl
-negated_int (suc n) h = lt-ltb n 2147483648 (omega (arith, h))
-
 -- an integer that is read can be spelled
 pub integer_int : (w : List ℕ) (z : ℤ) → integer_of w ≡ Some z → is_int z ≡ true
-integer_int w z e = by w z (in_at (IsInteger w) (integer_of w) z (integer_is w) e)
-  where
-    by : (w : List ℕ) (z : ℤ) → IsInteger w z → is_int z ≡ true
-    by w z (decimal {digits} h less) = lt-ltb (digits_value 10 digits) 2147483648 less
-    by w z (minus {digits} h most) = negated_int (digits_value 10 digits) most
-    by w z (bits {digits} h short) =
-        let less = digits_value-lt 16 digits h.1 in
-        let power : 16 ^ length digits ≤ 16 ^ 8 = pow-le-pow_right (omega arith) short in
-        bits_int (digits_value 16 digits) (omega arith)
+integer_int w z e = word_int w z (in_at (IsInteger w) (integer_of w) z (integer_is w) e)
 
 pub short_within : (z : ℤ) → int_le short_low z ≡ true → int_le z (pos 32767) ≡ true → is_short z ≡ true
 short_within (pos n) low high = lt-ltb n 32768 (let h = leb-true n 32767 high in omega arith)

@@ -2,25 +2,9 @@
 
 ghost use Rattle.std.specs.Prelude.{◌≡◌};
 ghost use Rattle.jasmin_reader.specs.Table.{base_at};
-ghost use Rattle.jasmin_text.specs.Tables.{find_row, rows};
 
 use descriptors::BaseType;
-use jasmin_text::table::AccessWord;
-use jasmin_words::name::same;
-
-/// What stands beside the word in a table.
-fn find<T: Copy>(word: &[u8], table: &[(&[u8], T)]) -> Option<T>
-    ensures { result ≡ find_row word.now (rows table.now) }
-{
-    let mut rest = table;
-    while let [(name, row), after @ ..] = rest {
-        if same(word, name) {
-            return Some(*row);
-        }
-        rest = after;
-    }
-    None
-}
+use jasmin_text::table::{AccessWord, find};
 
 /// A word before the name of a class.
 #[derive(Clone, Copy)]

@@ -12,7 +12,8 @@ use Rattle.descriptors.specs.Spelling.{field_spelling, method_spelling}
 use Rattle.descriptors.proofs.FieldLaws.{field_only}
 use Rattle.descriptors.specs.declared.field.FieldType.{FieldType}
 use Rattle.jasmin_words.specs.Lexing.{Item, Word, Equals, Text, fits}
-use Rattle.jasmin_words.specs.Names.{is_name_byte, is_some_byte, is_member_name}
+use Rattle.jasmin_words.specs.Names.{is_name_byte, is_member_name}
+use Rattle.sequence.specs.Parts.{is_some_byte}
 use Rattle.jasmin_words.specs.Spelling.{Ends, is_word_byte, IsWord}
 use Rattle.jasmin_words.proofs.Numbers.{written_again}
 use Rattle.jasmin_text.specs.Keywords.{spelled}

@@ -1,6 +1,7 @@
 pub mod Marks
 pub mod Body
 pub mod WordBytes
+pub mod Integers
 pub mod FormWords
 pub mod Written
 pub mod Rows

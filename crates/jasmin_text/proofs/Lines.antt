@@ -4,7 +4,8 @@ use Rattle.std.specs.List.{list_all, flat_map}
 use Rattle.std.proofs.lemmas.Bool.{and_parts, not-true}
 use Rattle.std.proofs.lemmas.Simd.{map-map}
 use Rattle.jasmin_text.specs.Canonical.{ended_all}
-use Rattle.jasmin_text.specs.Lines.{with_byte, lines_of}
+use Rattle.jasmin_text.specs.Lines.{lines_of}
+use Rattle.sequence.specs.Parts.{with_byte}
 use Rattle.jasmin_text.specs.Grammar.{Row, AreRows, none, more}
 use Rattle.jasmin_text.proofs.Written.{is_inner, IsInner, IsLine}
 

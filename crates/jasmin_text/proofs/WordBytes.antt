@@ -10,7 +10,8 @@ use Rattle.std.proofs.lemmas.Fmt.{decimal_is_IsNumeral}
 use Rattle.std.proofs.lemmas.List.Folds.{list_all-append}
 use Rattle.std.proofs.lemmas.Slice.Eq.{bytes_eq-Decides}
 use Rattle.std.specs.Str.{bytes_eq}
-use Rattle.descriptors.specs.ClassName.{is_name_byte, with_byte, segments, is_some_byte, is_segment, is_class_name}
+use Rattle.descriptors.specs.ClassName.{is_name_byte, segments, is_segment, is_class_name}
+use Rattle.sequence.specs.Parts.{with_byte, is_some_byte}
 use Rattle.descriptors.specs.Letters.{letter_of}
 use Rattle.descriptors.specs.Signature.{Signature}
 use Rattle.descriptors.specs.Spelling.{element_spelling, field_spelling, result_spelling, method_spelling}
@@ -20,7 +21,7 @@ use Rattle.descriptors.specs.declared.field.ElementType.{ElementType}
 use Rattle.descriptors.specs.declared.field.ElementType.TheVariants.{Base, Class}
 use Rattle.descriptors.specs.declared.field.FieldType.{FieldType}
 use Rattle.jasmin_words.specs.Spelling.{is_word_byte}
-use Rattle.jasmin_words.specs.Names.{is_name_byte as is_member_byte, is_some_byte as is_some_name, is_member_name}
+use Rattle.jasmin_words.specs.Names.{is_name_byte as is_member_byte, is_member_name}
 use Rattle.jasmin_text.specs.Canonical.{label_text}
 use Rattle.jasmin_text.specs.Spellable.{is_element_type, is_type, is_result_type, is_method_type}
 use Rattle.jasmin_text.proofs.Conditions.{nine, all_weaker}
@@ -76,10 +77,10 @@ one_of false false false P h x y z = absurd cc
 pub member_name_word : (name : List ℕ) → is_member_name name ≡ true → IsWordText name
 unfolding is_member_name
 member_name_word name h =
-    one_of (bytes_eq name (codes "<init>")) (bytes_eq name (codes "<clinit>")) (is_some_name name && list_all is_member_byte name) (IsWordText name) h
+    one_of (bytes_eq name (codes "<init>")) (bytes_eq name (codes "<clinit>")) (is_some_byte name && list_all is_member_byte name) (IsWordText name) h
     (λ e. subst IsWordText (sym ((bytes_eq-Decides name (codes "<init>")).0 e)) refl)
     (λ e. subst IsWordText (sym ((bytes_eq-Decides name (codes "<clinit>")).0 e)) refl)
-    (λ e. all_weaker is_member_byte is_word_byte name member_byte (and_parts (is_some_name name) (list_all is_member_byte name) e).1)
+    (λ e. all_weaker is_member_byte is_word_byte name member_byte (and_parts (is_some_byte name) (list_all is_member_byte name) e).1)
 
 -- ---- descriptors
 

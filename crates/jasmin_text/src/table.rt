@@ -55,7 +55,8 @@ pub const ACCESS_WORDS: [(&[u8], AccessWord); 19] = [
     (b"native", AccessWord::LeftOut),
 ];
 
-pub(crate) fn find<T: Copy>(word: &[u8], table: &[(&[u8], T)]) -> Option<T>
+/// What stands beside the word in the table's first row of it.
+pub fn find<T: Copy>(word: &[u8], table: &[(&[u8], T)]) -> Option<T>
     ensures { result ≡ find_row word.now (rows table.now) }
 {
     let mut rest = table;

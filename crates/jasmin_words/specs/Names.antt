@@ -2,15 +2,12 @@
 use Rattle.std.specs.Prelude.{◌≡◌, ℕ, Bool, true, false, not, ◌&&◌, ◌||◌, List, [], ◌∷◌, nat_lt, ◌==◌, codes}
 use Rattle.std.specs.List.{list_all}
 use Rattle.std.specs.Str.{bytes_eq}
+use Rattle.sequence.specs.Parts.{is_some_byte}
 use Rattle.jasmin_words.specs.Spelling.{is_word_byte}
 
 -- a byte of a word, and none of . ; [ / ( ) < >
 abbrev pub is_name_byte : ℕ → Bool
 is_name_byte b = is_word_byte b && not (b == 46) && not (b == 59) && not (b == 91) && not (b == 47) && not (b == 40) && not (b == 41) && not (b == 60) && not (b == 62)
-
-abbrev pub is_some_byte : List ℕ → Bool
-is_some_byte [] = false
-is_some_byte (b ∷ bs) = true
 
 -- JVMS SE 8 4.2.2: <init>, <clinit>, or one byte or more that may stand in a name
 unfoldable pub is_member_name : List ℕ → Bool

@@ -3,10 +3,11 @@
 ghost use Rattle.std.specs.Prelude.{◌≡◌, length, IfOk};
 
 use descriptors::{
-    BaseType, ClassName, DescriptorFault, ElementType, FieldType, MethodType, field_text_is_one,
+    BaseType, ClassName, DescriptorFault, FieldType, MethodType, field_text_is_one,
     method_text_is_one, parse_field, parse_method,
 };
 use sequence::{Refusal, Sequence};
+use statics::base_of;
 use std::alloc::{AllocError, Global};
 
 /// The parameters `[ILa/B;`.
@@ -33,15 +34,12 @@ fn is_of_text(alloc: Global, method: &MethodType, text: &[u8]) -> Option<bool> {
     }
 }
 
-/// Whether the method has two parameters and gives a boolean.
+/// Whether the method has two parameters, of which the first is of no base type, and gives a boolean.
 fn is_boolean(method: &MethodType) -> bool {
-    match method.result() {
-        Some(
-            FieldType {
-                element: ElementType::Base(BaseType::Boolean),
-                dimensions: 0,
-            },
-        ) => method.parameters().len() == 2,
+    match (method.result(), method.parameters()) {
+        (Some(outcome), [array, _]) => {
+            base_of(outcome) == Some(BaseType::Boolean) && base_of(array).is_none()
+        }
         _ => false,
     }
 }

@@ -1,5 +1,6 @@
 //! Names, integers and strings by themselves, and the kinds of faults.
 
+use jasmin_text::table::find;
 use jasmin_words::fault::FaultKind;
 use jasmin_words::integer::{push_decimal, push_integer};
 use jasmin_words::name::{MemberName, same};
@@ -46,6 +47,12 @@ fn writes_integers_and_strings(rt: HostRuntime) {
     for (written, wanted) in WRITTEN {
         assert!(rt; is_written(rt.alloc(), written, wanted));
     }
+}
+
+#[test]
+fn finds_the_first_row_of_a_word(rt: HostRuntime) {
+    let table: [(&[u8], u8); 3] = [(b"a", 1), (b"b", 2), (b"b", 3)];
+    assert!(rt; find(b"b", &table) == Some(2) && find(b"c", &table).is_none());
 }
 
 /// Whether these bytes are a name, which has them and equals its copy.

@@ -19,7 +19,8 @@ pub struct StaticField {
 }
 
 /// The base type of a field's type, or none where the field holds references.
-fn base_of(field_type: &FieldType) -> Option<BaseType>
+/// The base type that a field of this type holds; none where it holds references.
+pub fn base_of(field_type: &FieldType) -> Option<BaseType>
     ensures { result ≡ base_in field_type.now }
 {
     match &field_type.element {

@@ -1,21 +1,18 @@
 -- Numbers that are written are read again, and what is read as a number is its decimal.
-use Rattle.std.proofs.Common.{◌≡◌, ℕ, zero, suc, ◌+◌, ◌-◌, ◌<◌, ◌≤◌, ◌^◌, true, eqb, nat_lt, List, [], ◌∷◌, length, Option, Some, None, Ok, refl, sym, ap, ◌∙◌, arith}
+use Rattle.std.proofs.Common.{◌≡◌, ℕ, ◌+◌, ◌-◌, ◌<◌, ◌≤◌, ◌^◌, true, eqb, nat_lt, List, [], ◌∷◌, length, Option, Some, None, Ok, refl, sym, ap, ◌∙◌, arith}
 use Rattle.std.proofs.lemmas.Bool.{eqb-true, ltb-true, lt-ltb}
 use Rattle.std.proofs.lemmas.Fmt.{decimal_nonempty, decimal_digit}
-use Rattle.std.proofs.lemmas.Int.Digits.{digits_value-lt}
-use Rattle.std.proofs.Math.Nat.{pow-le-pow_right}
-use Rattle.std.specs.Str.Parse.{digits_value}
 use Rattle.std.specs.Fmt.{decimal, signed_decimal}
 use Rattle.std.specs.Int.{w32}
-use Rattle.std.specs.Prelude.{ℤ, pos, negsuc, neg_ℤ, FitsSigned, slice_index_or}
+use Rattle.std.specs.Prelude.{ℤ, pos, negsuc, FitsSigned, slice_index_or}
 use Rattle.std.proofs.lemmas.Slice.Eq.{bytes_eq-Decides}
 use Rattle.std.specs.Str.{bytes_eq}
-use Rattle.jasmin_words.specs.Integers.{integer_of, of_bits, IsInteger, decimal as in_decimal, minus, bits}
+use Rattle.jasmin_words.specs.Integers.{integer_of, IsInteger}
 use Rattle.jasmin_words.proofs.Numbers.{written_again, integer_is}
 use Rattle.sequence.proofs.Results.{Holds, guard_holds, cond_holds, HoldsIn, guard_in}
 use Rattle.jasmin_text.proofs.WordBytes.{decimal_word}
-use Rattle.jasmin_text.specs.Spellable.{is_int}
 use Rattle.jasmin_text.proofs.AccessLines.{int_of}
+use Rattle.jasmin_text.proofs.Integers.{integer_int}
 use Rattle.trace_reader.specs.Numbers.{spelled_so, int_in, from_zero, number_in, is_digit, is_number, number_at, known_thread, thread_at}
 use Rattle.trace_reader.proofs.LineWords.{IsLineWord, unbroken_word}
 
@@ -79,21 +76,6 @@ pub thread_again : (threads t : ℕ) → t < threads → t < 2147483648 → thre
 unfolding thread_at
 thread_again threads t less small = rw (natural_again t small, lt-ltb t threads less) refl
 
-bits_int : (n : ℕ) → n < 4294967296 → is_int (of_bits n) ≡ true
-bits_int n h = grind arith
-
-negated_int : (n : ℕ) → n ≤ 2147483648 → is_int (neg_ℤ (pos n)) ≡ true
-negated_int zero h = refl
-negated_int (suc n) h = lt-ltb n 2147483648 (omega (arith, h))
-
-integer_fits : (word : List ℕ) (n : ℤ) → IsInteger word n → is_int n ≡ true
-integer_fits word n (in_decimal {digits} h less) = lt-ltb (digits_value 10 digits) 2147483648 less
-integer_fits word n (minus {digits} h less) = negated_int (digits_value 10 digits) less
-integer_fits word n (bits {digits} h short) =
-    let less = digits_value-lt 16 digits h.1 in
-    let power : 16 ^ length digits ≤ 16 ^ 8 = pow-le-pow_right (omega arith) short in
-    bits_int (digits_value 16 digits) (omega arith)
-
 -- what a word spells has 32 bits
 pub int_word_fits : (word : List ℕ) → HoldsIn (λ n. FitsSigned w32 n) (int_in word)
 unfolding int_in
@@ -101,4 +83,4 @@ int_word_fits word = at (integer_of word) (integer_is word)
   where
     at : (o : Option ℤ) → HoldsIn (IsInteger word) o → HoldsIn (λ n. FitsSigned w32 n) (spelled_so word o)
     at None h = tt
-    at (Some n) h = guard_in (λ n. FitsSigned w32 n) (bytes_eq word (signed_decimal n)) _ (λ _. int_of n (integer_fits word n h))
+    at (Some n) h = guard_in (λ n. FitsSigned w32 n) (bytes_eq word (signed_decimal n)) _ (λ _. int_of n (integer_int word n h))

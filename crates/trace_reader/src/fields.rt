@@ -6,7 +6,7 @@ ghost use Rattle.std.specs.Str.{bytes_eq};
 ghost use Rattle.descriptors.specs.Spelling.{field_spelling, element_spelling};
 ghost use Rattle.hierarchy.specs.Ops.{is_static_field};
 ghost use Rattle.sequence.specs.Gives.{Gives};
-ghost use Rattle.statics.specs.Statics.{base_in, static_fields};
+ghost use Rattle.statics.specs.Statics.{static_fields};
 ghost use Rattle.trace.specs.TraceText.{field_in_trace};
 ghost use Rattle.trace_reader.specs.Fields.{field_from, field_at, value_in, value_at, reference_in};
 ghost use Rattle.trace_reader.specs.Prefixes.{behind};
@@ -18,7 +18,7 @@ use descriptors::{BaseType, ElementType, FieldType};
 use hierarchy::{ClassId, Program, Value};
 use jasmin_text::Field;
 use sequence::Refusal;
-use statics::narrowed_int;
+use statics::{base_of, narrowed_int};
 
 /// The numbers of references in a trace are below this.
 const MOST_REFERENCES: u32 = 1_000_000;
@@ -92,16 +92,6 @@ fn spells_field(field: &Field, word: &[u8]) -> bool
     match behind_bytes(field.name.as_slice(), word) {
         Some(rest) => spells_type_behind_colon(&field.field_type, rest),
         None => false,
-    }
-}
-
-/// The base type of a field's type, or none where the field holds references.
-fn base_of(field_type: &FieldType) -> Option<BaseType>
-    ensures { result ≡ base_in field_type.now }
-{
-    match &field_type.element {
-        ElementType::Base(base) if field_type.dimensions == 0 => Some(*base),
-        _ => None,
     }
 }
 
