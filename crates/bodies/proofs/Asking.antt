@@ -21,6 +21,15 @@ use Rattle.init_core.specs.ProcedureWord.{Maker, IsMachineError, IsOfFiles, give
 use Rattle.init_core.specs.Standing.{Standing}
 use Rattle.init_core.specs.Stands.{NamesFiles, ending_error}
 
+-- the innermost procedure asks for something
+abbrev pub AsksIn : Phase → Type 0
+AsksIn (Needing rest) = ⊥
+AsksIn phase = Unit {0}
+
+abbrev pub AreAsking : List Frame → Type 0
+AreAsking [] = Unit {0}
+AreAsking (f ∷ fs) = AsksIn f.phase
+
 -- the innermost class is c, in this phase
 pub record IsAt (s : Standing) (c : ClassId) (phase : Phase) : Type 0 where
   pub below : List Frame

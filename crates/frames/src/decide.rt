@@ -1,9 +1,8 @@
 //! What an instruction does to its frame.
 
-ghost use Rattle.std.specs.Prelude.{◌≡◌, ◌≢◌, ◌<◌, ◌≤◌, ◌+◌, ◌^◌, length};
+ghost use Rattle.std.specs.Prelude.{◌<◌, ◌≤◌, ◌+◌, ◌^◌, length};
 ghost use Rattle.frames.specs.Frame.{frame_in};
-ghost use Rattle.frames.specs.Rows.{row, plan_of};
-ghost use Rattle.frames.specs.declared.decide.Flow.TheVariants as flow;
+ghost use Rattle.frames.specs.Rows.{Decides, row};
 
 use crate::cell::Cell;
 use crate::ints::{decide_arithmetic, decide_bits};
@@ -39,9 +38,7 @@ pub(crate) fn decide(
     requires within { top.old ≤ length stack.old }
     requires limit { limit ≤ length stack.old }
     requires place { place.old + 1 < 2 ^ 64 }
-    ensures row { row op (frame_in locals.old stack.old limit top.old place.old) ≡ plan_of result (frame_in locals.new stack.new limit top.new place.new) }
-    ensures kept { result ≢ flow.Done → frame_in locals.new stack.new limit top.new place.new ≡ frame_in locals.old stack.old limit top.old place.old }
-    ensures near { place.new ≤ place.old + 65536 }
+    ensures decided { Decides (row op) (frame_in locals.old stack.old limit top.old place.old) result (frame_in locals.new stack.new limit top.new place.new) }
     ensures within { top.new ≤ length stack.new }
 {
     match op {

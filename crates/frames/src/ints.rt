@@ -1,10 +1,9 @@
 //! Ints are computed with (JVMS SE 8 6.5).
 
 ghost use Rattle.std.specs.Prelude.{◌≡◌, ◌≢◌, ◌<◌, ◌≤◌, ◌+◌, ◌^◌, length, pos, true};
-ghost use Rattle.frames.specs.Frame.{frame_in, operands};
+ghost use Rattle.frames.specs.Frame.{frame_in};
 ghost use Rattle.frames.specs.Kinds.{is_arithmetic, is_of_bits};
-ghost use Rattle.frames.specs.Rows.{row, plan_of, computes, divides, converts, result_of, quotient_of, converted};
-ghost use Rattle.frames.specs.declared.decide.Flow.TheVariants as flow;
+ghost use Rattle.frames.specs.Rows.{Decides, row, computes, divides, converts, result_of, quotient_of, converted};
 
 use crate::cell::Cell;
 use crate::decide::{Flow, VERIFY};
@@ -47,9 +46,7 @@ fn compute(
 ) -> Flow
     requires within { top.old ≤ length stack.old }
     requires place { place.old + 1 < 2 ^ 64 }
-    ensures row { computes (frame_in locals.now stack.old limit top.old place.old) word ≡ plan_of result (frame_in locals.now stack.new limit top.new place.new) }
-    ensures kept { result ≢ flow.Done → frame_in locals.now stack.new limit top.new place.new ≡ frame_in locals.now stack.old limit top.old place.old }
-    ensures near { place.new ≤ place.old + 65536 }
+    ensures decided { Decides (λ f. computes f word) (frame_in locals.now stack.old limit top.old place.old) result (frame_in locals.now stack.new limit top.new place.new) }
     ensures within { top.new ≤ length stack.new }
 {
     let Some((a, b)) = top_ints(stack, *top) else {
@@ -84,9 +81,7 @@ fn divide(
 ) -> Flow
     requires within { top.old ≤ length stack.old }
     requires place { place.old + 1 < 2 ^ 64 }
-    ensures row { divides (frame_in locals.now stack.old limit top.old place.old) word ≡ plan_of result (frame_in locals.now stack.new limit top.new place.new) }
-    ensures kept { result ≢ flow.Done → frame_in locals.now stack.new limit top.new place.new ≡ frame_in locals.now stack.old limit top.old place.old }
-    ensures near { place.new ≤ place.old + 65536 }
+    ensures decided { Decides (λ f. divides f word) (frame_in locals.now stack.old limit top.old place.old) result (frame_in locals.now stack.new limit top.new place.new) }
     ensures within { top.new ≤ length stack.new }
 {
     let Some((a, b)) = top_ints(stack, *top) else {
@@ -125,9 +120,7 @@ fn convert(
 ) -> Flow
     requires within { top ≤ length stack.old }
     requires place { place.old + 1 < 2 ^ 64 }
-    ensures row { converts (frame_in locals.now stack.old limit top place.old) word ≡ plan_of result (frame_in locals.now stack.new limit top place.new) }
-    ensures kept { result ≢ flow.Done → frame_in locals.now stack.new limit top place.new ≡ frame_in locals.now stack.old limit top place.old }
-    ensures near { place.new ≤ place.old + 65536 }
+    ensures decided { Decides (λ f. converts f word) (frame_in locals.now stack.old limit top place.old) result (frame_in locals.now stack.new limit top place.new) }
 {
     let Some(a) = top_int(stack, top) else {
         return VERIFY;
@@ -150,9 +143,7 @@ pub(crate) fn decide_arithmetic(
     requires kind { is_arithmetic op ≡ true }
     requires within { top.old ≤ length stack.old }
     requires place { place.old + 1 < 2 ^ 64 }
-    ensures row { row op (frame_in locals.now stack.old limit top.old place.old) ≡ plan_of result (frame_in locals.now stack.new limit top.new place.new) }
-    ensures kept { result ≢ flow.Done → frame_in locals.now stack.new limit top.new place.new ≡ frame_in locals.now stack.old limit top.old place.old }
-    ensures near { place.new ≤ place.old + 65536 }
+    ensures decided { Decides (row op) (frame_in locals.now stack.old limit top.old place.old) result (frame_in locals.now stack.new limit top.new place.new) }
     ensures within { top.new ≤ length stack.new }
 {
     match op {
@@ -179,9 +170,7 @@ pub(crate) fn decide_bits(
     requires kind { is_of_bits op ≡ true }
     requires within { top.old ≤ length stack.old }
     requires place { place.old + 1 < 2 ^ 64 }
-    ensures row { row op (frame_in locals.now stack.old limit top.old place.old) ≡ plan_of result (frame_in locals.now stack.new limit top.new place.new) }
-    ensures kept { result ≢ flow.Done → frame_in locals.now stack.new limit top.new place.new ≡ frame_in locals.now stack.old limit top.old place.old }
-    ensures near { place.new ≤ place.old + 65536 }
+    ensures decided { Decides (row op) (frame_in locals.now stack.old limit top.old place.old) result (frame_in locals.now stack.new limit top.new place.new) }
     ensures within { top.new ≤ length stack.new }
 {
     match op {

@@ -1,10 +1,9 @@
 //! Jumps (JVMS SE 8 6.5).
 
-ghost use Rattle.std.specs.Prelude.{◌≡◌, ◌≢◌, ◌<◌, ◌≤◌, ◌+◌, ◌^◌, length, true};
-ghost use Rattle.frames.specs.Frame.{frame_in, operands};
+ghost use Rattle.std.specs.Prelude.{◌≡◌, ◌<◌, ◌≤◌, ◌+◌, ◌^◌, length, true};
+ghost use Rattle.frames.specs.Frame.{frame_in};
 ghost use Rattle.frames.specs.Kinds.{is_jump_on_one, is_jump_on_two};
-ghost use Rattle.frames.specs.Rows.{row, plan_of, jumps_zero, jumps_ints, jumps_null, jumps_same, holds, is_null, same_reference};
-ghost use Rattle.frames.specs.declared.decide.Flow.TheVariants as flow;
+ghost use Rattle.frames.specs.Rows.{Decides, row, jumps_zero, jumps_ints, jumps_null, jumps_same, holds, is_null, same_reference};
 
 use crate::cell::Cell;
 use crate::decide::{Flow, VERIFY};
@@ -60,9 +59,7 @@ fn jump_zero(
 ) -> Flow
     requires within { top.old ≤ length stack.now }
     requires place { place.old + 1 < 2 ^ 64 }
-    ensures row { jumps_zero (frame_in locals.now stack.now limit top.old place.old) comparison to ≡ plan_of result (frame_in locals.now stack.now limit top.new place.new) }
-    ensures kept { result ≢ flow.Done → frame_in locals.now stack.now limit top.new place.new ≡ frame_in locals.now stack.now limit top.old place.old }
-    ensures near { place.new ≤ place.old + 65536 }
+    ensures decided { Decides (λ f. jumps_zero f comparison to) (frame_in locals.now stack.now limit top.old place.old) result (frame_in locals.now stack.now limit top.new place.new) }
     ensures within { top.new ≤ length stack.now }
 {
     let Some(a) = top_int(stack, *top) else {
@@ -90,9 +87,7 @@ fn jump_ints(
 ) -> Flow
     requires within { top.old ≤ length stack.now }
     requires place { place.old + 1 < 2 ^ 64 }
-    ensures row { jumps_ints (frame_in locals.now stack.now limit top.old place.old) comparison to ≡ plan_of result (frame_in locals.now stack.now limit top.new place.new) }
-    ensures kept { result ≢ flow.Done → frame_in locals.now stack.now limit top.new place.new ≡ frame_in locals.now stack.now limit top.old place.old }
-    ensures near { place.new ≤ place.old + 65536 }
+    ensures decided { Decides (λ f. jumps_ints f comparison to) (frame_in locals.now stack.now limit top.old place.old) result (frame_in locals.now stack.now limit top.new place.new) }
     ensures within { top.new ≤ length stack.now }
 {
     let Some((a, b)) = top_ints(stack, *top) else {
@@ -120,9 +115,7 @@ fn jump_null(
 ) -> Flow
     requires within { top.old ≤ length stack.now }
     requires place { place.old + 1 < 2 ^ 64 }
-    ensures row { jumps_null (frame_in locals.now stack.now limit top.old place.old) wanted to ≡ plan_of result (frame_in locals.now stack.now limit top.new place.new) }
-    ensures kept { result ≢ flow.Done → frame_in locals.now stack.now limit top.new place.new ≡ frame_in locals.now stack.now limit top.old place.old }
-    ensures near { place.new ≤ place.old + 65536 }
+    ensures decided { Decides (λ f. jumps_null f wanted to) (frame_in locals.now stack.now limit top.old place.old) result (frame_in locals.now stack.now limit top.new place.new) }
     ensures within { top.new ≤ length stack.now }
 {
     let Some(cell) = top_reference(stack, *top) else {
@@ -147,9 +140,7 @@ fn jump_same(
 ) -> Flow
     requires within { top.old ≤ length stack.now }
     requires place { place.old + 1 < 2 ^ 64 }
-    ensures row { jumps_same (frame_in locals.now stack.now limit top.old place.old) wanted to ≡ plan_of result (frame_in locals.now stack.now limit top.new place.new) }
-    ensures kept { result ≢ flow.Done → frame_in locals.now stack.now limit top.new place.new ≡ frame_in locals.now stack.now limit top.old place.old }
-    ensures near { place.new ≤ place.old + 65536 }
+    ensures decided { Decides (λ f. jumps_same f wanted to) (frame_in locals.now stack.now limit top.old place.old) result (frame_in locals.now stack.now limit top.new place.new) }
     ensures within { top.new ≤ length stack.now }
 {
     let Some((a, b)) = top_references(stack, *top) else {
@@ -178,9 +169,7 @@ pub(crate) fn decide_jump_on_one(
     requires kind { is_jump_on_one op ≡ true }
     requires within { top.old ≤ length stack.now }
     requires place { place.old + 1 < 2 ^ 64 }
-    ensures row { row op (frame_in locals.now stack.now limit top.old place.old) ≡ plan_of result (frame_in locals.now stack.now limit top.new place.new) }
-    ensures kept { result ≢ flow.Done → frame_in locals.now stack.now limit top.new place.new ≡ frame_in locals.now stack.now limit top.old place.old }
-    ensures near { place.new ≤ place.old + 65536 }
+    ensures decided { Decides (row op) (frame_in locals.now stack.now limit top.old place.old) result (frame_in locals.now stack.now limit top.new place.new) }
     ensures within { top.new ≤ length stack.now }
 {
     match op {
@@ -209,9 +198,7 @@ pub(crate) fn decide_jump_on_two(
     requires kind { is_jump_on_two op ≡ true }
     requires within { top.old ≤ length stack.now }
     requires place { place.old + 1 < 2 ^ 64 }
-    ensures row { row op (frame_in locals.now stack.now limit top.old place.old) ≡ plan_of result (frame_in locals.now stack.now limit top.new place.new) }
-    ensures kept { result ≢ flow.Done → frame_in locals.now stack.now limit top.new place.new ≡ frame_in locals.now stack.now limit top.old place.old }
-    ensures near { place.new ≤ place.old + 65536 }
+    ensures decided { Decides (row op) (frame_in locals.now stack.now limit top.old place.old) result (frame_in locals.now stack.now limit top.new place.new) }
     ensures within { top.new ≤ length stack.now }
 {
     match op {

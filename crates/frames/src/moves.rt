@@ -1,10 +1,9 @@
 //! Moves of operands (JVMS SE 8 6.5), of which each takes one cell.
 
-ghost use Rattle.std.specs.Prelude.{◌≡◌, ◌≢◌, ◌<◌, ◌≤◌, ◌+◌, ◌^◌, length, true};
-ghost use Rattle.frames.specs.Frame.{frame_in, operands};
+ghost use Rattle.std.specs.Prelude.{◌≡◌, ◌<◌, ◌≤◌, ◌+◌, ◌^◌, length, true};
+ghost use Rattle.frames.specs.Frame.{frame_in};
 ghost use Rattle.frames.specs.Kinds.{is_move};
-ghost use Rattle.frames.specs.Rows.{row, plan_of, moves, popped, popped_two, dup, dup_x1, dup_x2, dup2, dup2_x1, dup2_x2, swap};
-ghost use Rattle.frames.specs.declared.decide.Flow.TheVariants as flow;
+ghost use Rattle.frames.specs.Rows.{Decides, row, moves, popped, popped_two, dup, dup_x1, dup_x2, dup2, dup2_x1, dup2_x2, swap};
 
 use crate::cell::Cell;
 use crate::decide::{Flow, VERIFY};
@@ -16,9 +15,7 @@ use hierarchy::Op;
 fn pop(locals: &[Cell], stack: &[Cell], limit: usize, top: &mut usize, place: &mut usize) -> Flow
     requires within { top.old ≤ length stack.now }
     requires place { place.old + 1 < 2 ^ 64 }
-    ensures row { moves (frame_in locals.now stack.now limit top.old place.old) (popped (operands stack.now top.old)) ≡ plan_of result (frame_in locals.now stack.now limit top.new place.new) }
-    ensures kept { result ≢ flow.Done → frame_in locals.now stack.now limit top.new place.new ≡ frame_in locals.now stack.now limit top.old place.old }
-    ensures near { place.new ≤ place.old + 65536 }
+    ensures decided { Decides (λ f. moves f (popped f.stack)) (frame_in locals.now stack.now limit top.old place.old) result (frame_in locals.now stack.now limit top.new place.new) }
     ensures within { top.new ≤ length stack.now }
 {
     if *top < 1 || *top - 1 > limit {
@@ -40,9 +37,7 @@ fn pop_two(
 ) -> Flow
     requires within { top.old ≤ length stack.now }
     requires place { place.old + 1 < 2 ^ 64 }
-    ensures row { moves (frame_in locals.now stack.now limit top.old place.old) (popped_two (operands stack.now top.old)) ≡ plan_of result (frame_in locals.now stack.now limit top.new place.new) }
-    ensures kept { result ≢ flow.Done → frame_in locals.now stack.now limit top.new place.new ≡ frame_in locals.now stack.now limit top.old place.old }
-    ensures near { place.new ≤ place.old + 65536 }
+    ensures decided { Decides (λ f. moves f (popped_two f.stack)) (frame_in locals.now stack.now limit top.old place.old) result (frame_in locals.now stack.now limit top.new place.new) }
     ensures within { top.new ≤ length stack.now }
 {
     if *top < 2 || *top - 2 > limit {
@@ -65,9 +60,7 @@ fn dup(
     requires within { top.old ≤ length stack.old }
     requires limit { limit ≤ length stack.old }
     requires place { place.old + 1 < 2 ^ 64 }
-    ensures row { moves (frame_in locals.now stack.old limit top.old place.old) (dup (operands stack.old top.old)) ≡ plan_of result (frame_in locals.now stack.new limit top.new place.new) }
-    ensures kept { result ≢ flow.Done → frame_in locals.now stack.new limit top.new place.new ≡ frame_in locals.now stack.old limit top.old place.old }
-    ensures near { place.new ≤ place.old + 65536 }
+    ensures decided { Decides (λ f. moves f (dup f.stack)) (frame_in locals.now stack.old limit top.old place.old) result (frame_in locals.now stack.new limit top.new place.new) }
     ensures within { top.new ≤ length stack.new }
 {
     if *top < 1 || *top >= limit {
@@ -94,9 +87,7 @@ fn dup_x1(
     requires within { top.old ≤ length stack.old }
     requires limit { limit ≤ length stack.old }
     requires place { place.old + 1 < 2 ^ 64 }
-    ensures row { moves (frame_in locals.now stack.old limit top.old place.old) (dup_x1 (operands stack.old top.old)) ≡ plan_of result (frame_in locals.now stack.new limit top.new place.new) }
-    ensures kept { result ≢ flow.Done → frame_in locals.now stack.new limit top.new place.new ≡ frame_in locals.now stack.old limit top.old place.old }
-    ensures near { place.new ≤ place.old + 65536 }
+    ensures decided { Decides (λ f. moves f (dup_x1 f.stack)) (frame_in locals.now stack.old limit top.old place.old) result (frame_in locals.now stack.new limit top.new place.new) }
     ensures within { top.new ≤ length stack.new }
 {
     if *top < 2 || *top >= limit {
@@ -125,9 +116,7 @@ fn dup_x2(
     requires within { top.old ≤ length stack.old }
     requires limit { limit ≤ length stack.old }
     requires place { place.old + 1 < 2 ^ 64 }
-    ensures row { moves (frame_in locals.now stack.old limit top.old place.old) (dup_x2 (operands stack.old top.old)) ≡ plan_of result (frame_in locals.now stack.new limit top.new place.new) }
-    ensures kept { result ≢ flow.Done → frame_in locals.now stack.new limit top.new place.new ≡ frame_in locals.now stack.old limit top.old place.old }
-    ensures near { place.new ≤ place.old + 65536 }
+    ensures decided { Decides (λ f. moves f (dup_x2 f.stack)) (frame_in locals.now stack.old limit top.old place.old) result (frame_in locals.now stack.new limit top.new place.new) }
     ensures within { top.new ≤ length stack.new }
 {
     if *top < 3 || *top >= limit {
@@ -158,9 +147,7 @@ fn dup2(
     requires within { top.old ≤ length stack.old }
     requires limit { limit ≤ length stack.old }
     requires place { place.old + 1 < 2 ^ 64 }
-    ensures row { moves (frame_in locals.now stack.old limit top.old place.old) (dup2 (operands stack.old top.old)) ≡ plan_of result (frame_in locals.now stack.new limit top.new place.new) }
-    ensures kept { result ≢ flow.Done → frame_in locals.now stack.new limit top.new place.new ≡ frame_in locals.now stack.old limit top.old place.old }
-    ensures near { place.new ≤ place.old + 65536 }
+    ensures decided { Decides (λ f. moves f (dup2 f.stack)) (frame_in locals.now stack.old limit top.old place.old) result (frame_in locals.now stack.new limit top.new place.new) }
     ensures within { top.new ≤ length stack.new }
 {
     if *top < 2 || *top >= limit || limit - *top < 2 {
@@ -190,9 +177,7 @@ fn dup2_x1(
     requires within { top.old ≤ length stack.old }
     requires limit { limit ≤ length stack.old }
     requires place { place.old + 1 < 2 ^ 64 }
-    ensures row { moves (frame_in locals.now stack.old limit top.old place.old) (dup2_x1 (operands stack.old top.old)) ≡ plan_of result (frame_in locals.now stack.new limit top.new place.new) }
-    ensures kept { result ≢ flow.Done → frame_in locals.now stack.new limit top.new place.new ≡ frame_in locals.now stack.old limit top.old place.old }
-    ensures near { place.new ≤ place.old + 65536 }
+    ensures decided { Decides (λ f. moves f (dup2_x1 f.stack)) (frame_in locals.now stack.old limit top.old place.old) result (frame_in locals.now stack.new limit top.new place.new) }
     ensures within { top.new ≤ length stack.new }
 {
     if *top < 3 || *top >= limit || limit - *top < 2 {
@@ -224,9 +209,7 @@ fn dup2_x2(
     requires within { top.old ≤ length stack.old }
     requires limit { limit ≤ length stack.old }
     requires place { place.old + 1 < 2 ^ 64 }
-    ensures row { moves (frame_in locals.now stack.old limit top.old place.old) (dup2_x2 (operands stack.old top.old)) ≡ plan_of result (frame_in locals.now stack.new limit top.new place.new) }
-    ensures kept { result ≢ flow.Done → frame_in locals.now stack.new limit top.new place.new ≡ frame_in locals.now stack.old limit top.old place.old }
-    ensures near { place.new ≤ place.old + 65536 }
+    ensures decided { Decides (λ f. moves f (dup2_x2 f.stack)) (frame_in locals.now stack.old limit top.old place.old) result (frame_in locals.now stack.new limit top.new place.new) }
     ensures within { top.new ≤ length stack.new }
 {
     if *top < 4 || *top >= limit || limit - *top < 2 {
@@ -260,9 +243,7 @@ fn swap(
     requires within { top.old ≤ length stack.old }
     requires limit { limit ≤ length stack.old }
     requires place { place.old + 1 < 2 ^ 64 }
-    ensures row { moves (frame_in locals.now stack.old limit top.old place.old) (swap (operands stack.old top.old)) ≡ plan_of result (frame_in locals.now stack.new limit top.new place.new) }
-    ensures kept { result ≢ flow.Done → frame_in locals.now stack.new limit top.new place.new ≡ frame_in locals.now stack.old limit top.old place.old }
-    ensures near { place.new ≤ place.old + 65536 }
+    ensures decided { Decides (λ f. moves f (swap f.stack)) (frame_in locals.now stack.old limit top.old place.old) result (frame_in locals.now stack.new limit top.new place.new) }
     ensures within { top.new ≤ length stack.new }
 {
     if *top < 2 || *top > limit {
@@ -291,9 +272,7 @@ pub(crate) fn decide_move(
     requires within { top.old ≤ length stack.old }
     requires limit { limit ≤ length stack.old }
     requires place { place.old + 1 < 2 ^ 64 }
-    ensures row { row op (frame_in locals.now stack.old limit top.old place.old) ≡ plan_of result (frame_in locals.now stack.new limit top.new place.new) }
-    ensures kept { result ≢ flow.Done → frame_in locals.now stack.new limit top.new place.new ≡ frame_in locals.now stack.old limit top.old place.old }
-    ensures near { place.new ≤ place.old + 65536 }
+    ensures decided { Decides (row op) (frame_in locals.now stack.old limit top.old place.old) result (frame_in locals.now stack.new limit top.new place.new) }
     ensures within { top.new ≤ length stack.new }
 {
     match op {

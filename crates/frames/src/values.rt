@@ -1,10 +1,9 @@
 //! Constants and locals (JVMS SE 8 6.5).
 
-ghost use Rattle.std.specs.Prelude.{◌≡◌, ◌≢◌, ◌<◌, ◌≤◌, ◌+◌, ◌^◌, length, true};
-ghost use Rattle.frames.specs.Frame.{frame_in, operands};
+ghost use Rattle.std.specs.Prelude.{◌≡◌, ◌<◌, ◌≤◌, ◌+◌, ◌^◌, length, true};
+ghost use Rattle.frames.specs.Frame.{frame_in};
 ghost use Rattle.frames.specs.Kinds.{is_value};
-ghost use Rattle.frames.specs.Rows.{row, plan_of, gives, loads_int, loads_reference, stores, stores_int, stores_reference, increments};
-ghost use Rattle.frames.specs.declared.decide.Flow.TheVariants as flow;
+ghost use Rattle.frames.specs.Rows.{Decides, row, gives, loads_int, loads_reference, stores, stores_int, stores_reference, increments};
 
 use crate::cell::Cell;
 use crate::decide::{Flow, VERIFY};
@@ -24,9 +23,7 @@ pub(crate) fn give(
     requires within { top.old ≤ length stack.old }
     requires limit { limit ≤ length stack.old }
     requires place { place.old + 1 < 2 ^ 64 }
-    ensures row { gives (frame_in locals.now stack.old limit top.old place.old) cell (operands stack.old top.old) ≡ plan_of result (frame_in locals.now stack.new limit top.new place.new) }
-    ensures kept { result ≢ flow.Done → frame_in locals.now stack.new limit top.new place.new ≡ frame_in locals.now stack.old limit top.old place.old }
-    ensures near { place.new ≤ place.old + 65536 }
+    ensures decided { Decides (λ f. gives f cell f.stack) (frame_in locals.now stack.old limit top.old place.old) result (frame_in locals.now stack.new limit top.new place.new) }
     ensures within { top.new ≤ length stack.new }
 {
     if *top >= limit {
@@ -51,9 +48,7 @@ pub(crate) fn load_int(
     requires within { top.old ≤ length stack.old }
     requires limit { limit ≤ length stack.old }
     requires place { place.old + 1 < 2 ^ 64 }
-    ensures row { loads_int (frame_in locals.now stack.old limit top.old place.old) at ≡ plan_of result (frame_in locals.now stack.new limit top.new place.new) }
-    ensures kept { result ≢ flow.Done → frame_in locals.now stack.new limit top.new place.new ≡ frame_in locals.now stack.old limit top.old place.old }
-    ensures near { place.new ≤ place.old + 65536 }
+    ensures decided { Decides (λ f. loads_int f at) (frame_in locals.now stack.old limit top.old place.old) result (frame_in locals.now stack.new limit top.new place.new) }
     ensures within { top.new ≤ length stack.new }
 {
     match local_int(locals, at) {
@@ -75,9 +70,7 @@ pub(crate) fn load_reference(
     requires within { top.old ≤ length stack.old }
     requires limit { limit ≤ length stack.old }
     requires place { place.old + 1 < 2 ^ 64 }
-    ensures row { loads_reference (frame_in locals.now stack.old limit top.old place.old) at ≡ plan_of result (frame_in locals.now stack.new limit top.new place.new) }
-    ensures kept { result ≢ flow.Done → frame_in locals.now stack.new limit top.new place.new ≡ frame_in locals.now stack.old limit top.old place.old }
-    ensures near { place.new ≤ place.old + 65536 }
+    ensures decided { Decides (λ f. loads_reference f at) (frame_in locals.now stack.old limit top.old place.old) result (frame_in locals.now stack.new limit top.new place.new) }
     ensures within { top.new ≤ length stack.new }
 {
     match local_reference(locals, at) {
@@ -100,9 +93,7 @@ fn store(
     requires one { 1 ≤ top.old }
     requires within { top.old ≤ length stack.now }
     requires place { place.old + 1 < 2 ^ 64 }
-    ensures row { stores (frame_in locals.old stack.now limit top.old place.old) at cell ≡ plan_of result (frame_in locals.new stack.now limit top.new place.new) }
-    ensures kept { result ≢ flow.Done → frame_in locals.new stack.now limit top.new place.new ≡ frame_in locals.old stack.now limit top.old place.old }
-    ensures near { place.new ≤ place.old + 65536 }
+    ensures decided { Decides (λ f. stores f at cell) (frame_in locals.old stack.now limit top.old place.old) result (frame_in locals.new stack.now limit top.new place.new) }
     ensures within { top.new ≤ length stack.now }
 {
     if at >= locals.len() {
@@ -126,9 +117,7 @@ pub(crate) fn store_int(
 ) -> Flow
     requires within { top.old ≤ length stack.now }
     requires place { place.old + 1 < 2 ^ 64 }
-    ensures row { stores_int (frame_in locals.old stack.now limit top.old place.old) at ≡ plan_of result (frame_in locals.new stack.now limit top.new place.new) }
-    ensures kept { result ≢ flow.Done → frame_in locals.new stack.now limit top.new place.new ≡ frame_in locals.old stack.now limit top.old place.old }
-    ensures near { place.new ≤ place.old + 65536 }
+    ensures decided { Decides (λ f. stores_int f at) (frame_in locals.old stack.now limit top.old place.old) result (frame_in locals.new stack.now limit top.new place.new) }
     ensures within { top.new ≤ length stack.now }
 {
     match top_int(stack, *top) {
@@ -149,9 +138,7 @@ pub(crate) fn store_reference(
 ) -> Flow
     requires within { top.old ≤ length stack.now }
     requires place { place.old + 1 < 2 ^ 64 }
-    ensures row { stores_reference (frame_in locals.old stack.now limit top.old place.old) at ≡ plan_of result (frame_in locals.new stack.now limit top.new place.new) }
-    ensures kept { result ≢ flow.Done → frame_in locals.new stack.now limit top.new place.new ≡ frame_in locals.old stack.now limit top.old place.old }
-    ensures near { place.new ≤ place.old + 65536 }
+    ensures decided { Decides (λ f. stores_reference f at) (frame_in locals.old stack.now limit top.old place.old) result (frame_in locals.new stack.now limit top.new place.new) }
     ensures within { top.new ≤ length stack.now }
 {
     match top_reference(stack, *top) {
@@ -173,9 +160,7 @@ pub(crate) fn increment(
 ) -> Flow
     requires within { top ≤ length stack.now }
     requires place { place.old + 1 < 2 ^ 64 }
-    ensures row { increments (frame_in locals.old stack.now limit top place.old) at by ≡ plan_of result (frame_in locals.new stack.now limit top place.new) }
-    ensures kept { result ≢ flow.Done → frame_in locals.new stack.now limit top place.new ≡ frame_in locals.old stack.now limit top place.old }
-    ensures near { place.new ≤ place.old + 65536 }
+    ensures decided { Decides (λ f. increments f at by) (frame_in locals.old stack.now limit top place.old) result (frame_in locals.new stack.now limit top place.new) }
 {
     let Some(a) = local_int(locals, at) else {
         return VERIFY;
@@ -199,9 +184,7 @@ pub(crate) fn decide_value(
     requires within { top.old ≤ length stack.old }
     requires limit { limit ≤ length stack.old }
     requires place { place.old + 1 < 2 ^ 64 }
-    ensures row { row op (frame_in locals.old stack.old limit top.old place.old) ≡ plan_of result (frame_in locals.new stack.new limit top.new place.new) }
-    ensures kept { result ≢ flow.Done → frame_in locals.new stack.new limit top.new place.new ≡ frame_in locals.old stack.old limit top.old place.old }
-    ensures near { place.new ≤ place.old + 65536 }
+    ensures decided { Decides (row op) (frame_in locals.old stack.old limit top.old place.old) result (frame_in locals.new stack.new limit top.new place.new) }
     ensures within { top.new ≤ length stack.new }
 {
     match op {
