@@ -2,5 +2,6 @@ pub mod Log
 pub mod Rule
 pub mod Steps
 pub mod Known
+pub mod Taken
 pub mod Closing
 pub mod Merging

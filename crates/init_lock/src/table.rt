@@ -1,8 +1,7 @@
 //! The table of locked records, and one try of a lock.
 ghost use Rattle.std.specs.Prelude.{◌≡◌, ◌+◌, ◌<◌, ◌≤◌, ◌∷◌, length, MatchBool, Option, Some, None, IfSome, IfNone, OnSome};
-ghost use Rattle.init_lock.specs.Log.{Grew, IsWithin, own_events};
-ghost use Rattle.init_lock.specs.Rule.{element_at};
 ghost use Rattle.init_lock.specs.Known.{look, seen_at, out_of, last_at, IsSamePass, IsSameBut, IsAway, IsAwayBut};
+ghost use Rattle.init_lock.specs.Taken.{Taken};
 
 use crate::block::Block;
 use crate::journal::Journal;
@@ -56,19 +55,7 @@ impl<R: Keeps> InitTable<R> {
         ensures journal { pass.new.journal ≡ pass.old.journal }
         ensures room { pass.new.room ≡ pass.old.room }
         ensures misses { OnSome result (pass.new.misses ≡ pass.old.misses) }
-        ensures place { IfSome result (λ h. h.place ≡ place) }
-        ensures taken { IfSome result (λ h. h.taken ≡ h.kept) }
-        ensures free { IfSome result (λ h. out_of place pass.old.places ≡ None) }
-        ensures grew { IfSome result (λ h. Grew R.may_draw pass.old.number place (seen_at place pass.old.places) (R.kept h.kept)) }
-        ensures own { IfSome result (λ h. IsWithin (own_events place pass.old.journal) (R.kept h.kept)) }
-        ensures follows { IfSome result (λ h. (x : R) → last_at place pass.old.places ≡ Some x → R.follows x h.kept) }
-        ensures opening { IfSome result (λ h. (x : R) → element_at place pass.old.opening ≡ Some x → R.follows x h.kept) }
-        ensures seen { IfSome result (λ h. seen_at place pass.new.places ≡ R.kept h.kept) }
-        ensures out { IfSome result (λ h. out_of place pass.new.places ≡ Some h.kept) }
-        ensures last { IfSome result (λ h. last_at place pass.new.places ≡ Some h.kept) }
-        ensures others { IfSome result (λ h. IsSameBut place pass.old.places pass.new.places) }
-        ensures looks { IfSome result (λ h. pass.new.looks ≡ look place (length pass.old.journal) (R.kept h.kept) ∷ pass.old.looks) }
-        ensures holding { IsAway pass.old.places → IfSome result (λ h. IsAwayBut place pass.new.places) }
+        ensures taken { IfSome result (Taken R.kept R.may_draw R.follows place pass.old pass.new) }
         ensures none { IfNone result (pass.new ≡ record pass.old { misses = pass.old.misses + 1 }) }
     {
         let block = take_out(

@@ -10,19 +10,19 @@ returns-clause-took g c =
     let h = c.in_ok-held.held in
     let k : c.kept.result.now ≡ h.kept = c.kept.ensures.record in
     let w = c.requires.works in
-    let found = class_found c.args.program.now c.args.class c.args.pass.now.opening h.kept w.prepared w.whole c.requires.class e.opening in
+    let found = class_found c.args.program.now c.args.class c.args.pass.now.opening h.kept w.prepared w.whole c.requires.class e.taken.follows_opening in
     subst (λ (x : Guarded). Took c.args.program.now c.args.class c.args.pass.now c.take-taken.new.pass (record { place = h.place; taken = h.taken; kept = x })) (sym k) (record {
       same = e.pass;
       journal = e.journal;
       room = e.room;
-      place = e.place;
-      untouched = e.taken;
+      place = e.taken.place;
+      untouched = e.taken.untouched;
       class = found.0;
       fields = found.1;
       held = found.2;
-      finds = finds c.args.pass.now.number c.args.class.number _ h.kept.record.events c.kept.result.now.record e.grew (ap (λ (x : Guarded). x.record.events) k) c.is_lawful.ensures.lawful;
-      seen = e.seen;
-      out = e.out;
-      others = e.others;
-      away = e.holding w.away;
+      finds = finds c.args.pass.now.number c.args.class.number _ h.kept.record.events c.kept.result.now.record e.taken.grew (ap (λ (x : Guarded). x.record.events) k) c.is_lawful.ensures.lawful;
+      seen = e.taken.seen;
+      out = e.taken.out;
+      others = e.taken.others;
+      away = e.taken.holding w.away;
     })

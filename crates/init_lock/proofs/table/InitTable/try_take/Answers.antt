@@ -12,21 +12,22 @@ invariant_of-pass-2 g c =
     let t = taken g.R.Keeps.kept _ _ _ _ _ c.args.place c.in_ok-block.block c.pass.inside.seat.me c.take_out.new.seat.me c.pass.invariant (search rules) (found_free g.R.Keeps.kept g.R.Keeps.may_draw g.R.Keeps.follows _ _ _ _ _ c.args.place c.in_ok-block.block _ c.pass.invariant c.in_ok-block.ensures.some.1) c.in_ok-block.ensures.some.0 in
     subst (λ (z : TableId × Option ℕ). PassHolds z.0.slots c.pass.inside.number z.1 (padded_value c.pass.inside.journal).events (padded_value c.pass.inside.journal).room c.take_out.new.seat.me) (λ i. (sym c.in_ok-block.ensures.table.0 i, sym c.or-pass-inside.ensures i)) t.holds
 
-pub returns-clause-seen : goal.returns-clause-seen
-returns-clause-seen g c = (taken g.R.Keeps.kept _ _ _ _ _ c.args.place c.in_ok-block.block c.pass.inside.seat.me c.take_out.new.seat.me c.pass.invariant (search rules) (found_free g.R.Keeps.kept g.R.Keeps.may_draw g.R.Keeps.follows _ _ _ _ _ c.args.place c.in_ok-block.block _ c.pass.invariant c.in_ok-block.ensures.some.1) c.in_ok-block.ensures.some.0).seen
-
-pub returns-clause-out : goal.returns-clause-out
-returns-clause-out g c = (taken g.R.Keeps.kept _ _ _ _ _ c.args.place c.in_ok-block.block c.pass.inside.seat.me c.take_out.new.seat.me c.pass.invariant (search rules) (found_free g.R.Keeps.kept g.R.Keeps.may_draw g.R.Keeps.follows _ _ _ _ _ c.args.place c.in_ok-block.block _ c.pass.invariant c.in_ok-block.ensures.some.1) c.in_ok-block.ensures.some.0).out
-
-pub returns-clause-last : goal.returns-clause-last
-returns-clause-last g c = (taken g.R.Keeps.kept _ _ _ _ _ c.args.place c.in_ok-block.block c.pass.inside.seat.me c.take_out.new.seat.me c.pass.invariant (search rules) (found_free g.R.Keeps.kept g.R.Keeps.may_draw g.R.Keeps.follows _ _ _ _ _ c.args.place c.in_ok-block.block _ c.pass.invariant c.in_ok-block.ensures.some.1) c.in_ok-block.ensures.some.0).last
-
-pub returns-clause-others : goal.returns-clause-others
-returns-clause-others g c =
+pub returns-clause-taken : goal.returns-clause-taken
+returns-clause-taken g c =
     let t = taken g.R.Keeps.kept _ _ _ _ _ c.args.place c.in_ok-block.block c.pass.inside.seat.me c.take_out.new.seat.me c.pass.invariant (search rules) (found_free g.R.Keeps.kept g.R.Keeps.may_draw g.R.Keeps.follows _ _ _ _ _ c.args.place c.in_ok-block.block _ c.pass.invariant c.in_ok-block.ensures.some.1) c.in_ok-block.ensures.some.0 in
-    others_same c.args.pass.now.places _ c.args.place _ (t.places ∙ ap (λ z. modify c.args.place (λ t. place_view (g.R.Keeps.kept c.in_ok-block.block) c.in_ok-block.block (custody_beside c.pass.inside.carried)) z.places) c.pass.view_is)
-
-pub returns-clause-holding : goal.returns-clause-holding
-returns-clause-holding g c =
-    let t = taken g.R.Keeps.kept _ _ _ _ _ c.args.place c.in_ok-block.block c.pass.inside.seat.me c.take_out.new.seat.me c.pass.invariant (search rules) (found_free g.R.Keeps.kept g.R.Keeps.may_draw g.R.Keeps.follows _ _ _ _ _ c.args.place c.in_ok-block.block _ c.pass.invariant c.in_ok-block.ensures.some.1) c.in_ok-block.ensures.some.0 in
-    took_away c.args.pass.now.places _ c.args.place _ (t.places ∙ ap (λ z. modify c.args.place (λ t. place_view (g.R.Keeps.kept c.in_ok-block.block) c.in_ok-block.block (custody_beside c.pass.inside.carried)) z.places) c.pass.view_is)
+    let places = t.places ∙ ap (λ z. modify c.args.place (λ t. place_view (g.R.Keeps.kept c.in_ok-block.block) c.in_ok-block.block (custody_beside c.pass.inside.carried)) z.places) c.pass.view_is in
+    record {
+      place = search rules;
+      untouched = search rules;
+      free = search rules;
+      grew = search rules;
+      own = search rules;
+      follows_last = search rules;
+      follows_opening = search rules;
+      seen = t.seen;
+      out = t.out;
+      last = t.last;
+      others = others_same c.args.pass.now.places _ c.args.place _ places;
+      looks = search rules;
+      holding = took_away c.args.pass.now.places _ c.args.place _ places;
+    }
