@@ -1,6 +1,6 @@
 //! What an instruction comes to that asks something of what lies outside of its frame.
 
-ghost use Rattle.std.specs.Prelude.{◌≡◌, IfSome, if◌then◌else◌};
+ghost use Rattle.std.specs.Prelude.{◌≡◌, IfSome};
 ghost use Rattle.hierarchy.specs.LinkedProgram.{id as class_id};
 ghost use Rattle.hierarchy.specs.declared.built_in.BuiltIn.TheVariants.{VerifyError};
 ghost use Rattle.hierarchy.specs.declared.op.Op.TheVariants as op;
