@@ -97,7 +97,7 @@ def library():
         made[name] = Class(name, False, OBJECT, [])
     for above, names in THROWABLES.items():
         for name in names.split():
-            made[LANG + name] = Class(LANG + name, False, LANG + above, [])
+            made[LANG + name] = Class(LANG + name, False, LANG + above, [], is_abstract=name == "VirtualMachineError")
     made[SYSTEM].fields.append(Field("out", f"L{STREAM};", True))
     printing = [("println", "()V"), *((name, each) for name in ("print", "println") for each in PRINTED)]
     made[STREAM].methods = [Method(*key, False, is_of_library=True) for key in printing]
