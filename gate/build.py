@@ -62,12 +62,14 @@ def along_the_graph():
 
     def build(crate, jobs):
         crate = copy.copy(crate)
-        if not crate.is_program and not is_built(crate):
+        was_built = not crate.is_program and is_built(crate)
+        if not crate.is_program and not was_built:
             shutil.rmtree(f"{crate.folder}/out/rlib", ignore_errors=True)
         if is_new:
             # (of a library only its statements are built, which are loaded sooner than its proofs. With several jobs a proof from nothing
             # takes up to a quarter less time where nothing is kept of its parts. The program comes last, when no library is built any more)
             rtlib.KEPT = [] if crate.is_program else ["--statements"]
+        start = time.time()
         log = f"{crate.folder}/out/build.log"
         os.makedirs(os.path.dirname(log), exist_ok=True)
         with open(log, "w", errors="replace") as crate.out:
@@ -79,12 +81,15 @@ def along_the_graph():
         if status:
             stop(crate.name, log)
         done.append(crate.name)
-        say(f"{len(done)} of {len(crates)}: {crate.name} is proved and built, {time.time() - began:.0f} s so far")
+        how = "was built before" if was_built else f"is proved and built in {time.time() - start:.0f} s"
+        say(f"{len(done)} of {len(crates)}: {crate.name} {how}, {time.time() - began:.0f} s so far")
 
     tasks = {}
     for it in crates:
         waits = [(below.name, "proof") for below in it.below()]
-        tasks[it.name, "proof"] = waits, kit.weight(rt, it), lambda given, jobs, it=it: build(it, jobs)
+        # (what is built is no work, unless something below it is built anew)
+        work = 0 if not it.is_program and is_built(it) else kit.weight(rt, it)
+        tasks[it.name, "proof"] = waits, work, lambda given, jobs, it=it: build(it, jobs)
     lanes.run(tasks, {}, *kit.lanes(rt), kit.memory_for)
     return held
 

@@ -59,12 +59,15 @@ def run(tasks, given, processors, memory, memory_for, fewest=lambda key: 1):
         """How many jobs the task may use: more than the fewest where its path is nearly the longest of those that could run now."""
         if lanes is back:
             return 1
-        now = [behind[it] for it in [*left, *(it for it, _, _ in running.values())] if is_ready(it)]
-        leading = [it for it in now if 10 * it >= 9 * max(now)]
-        if behind[key] not in leading:
+        could_run = [it for it in [*left, *(it for it, _, _ in running.values())] if is_ready(it)]
+        longest = max(behind[it] for it in could_run)
+        leading = [it for it in could_run if 10 * behind[it] >= 9 * longest]
+        if key not in leading:
             return fewest(key)
+        # (a proof with less work leaves its processor before this one has ended)
+        others = sum(1 if it[1] == "edits" else min(1, tasks[it][1] / max(1, tasks[key][1])) for it in could_run if it not in leading)
         is_waited_for = processors * behind[key] > sum(tasks[it][1] for it in left)
-        return max(fewest(key), 2 if is_waited_for else 1, (processors - len(now) + len(leading)) // len(leading))
+        return max(fewest(key), 2 if is_waited_for else 1, int((processors - others) / len(leading)))
 
     def start():
         """Starts what there is room for: first what gathers the results of a crate's edits, so that the crate is kept, then proofs

@@ -22,8 +22,8 @@ from tally import Tally, say
 ROOT = os.path.dirname(os.path.dirname(os.path.realpath(__file__)))
 PROGRAM = f"{ROOT}/crates/jinit/out/jinit"
 CASES = f"{ROOT}/crates/cases/out/cases"
-# How many programs made at random are run.
-RANDOM_RUNS = "1000"
+# How many programs made at random are run, and how many more are compared with HotSpot.
+RANDOM_RUNS, COMPARED_RUNS = "1000", "100"
 # A harmless edit, and the crate beside whose edits it is tried: it changes a function that calls edited ones.
 HARMLESS = f"{ROOT}/gate/harmless.edit", "descriptors"
 
@@ -94,6 +94,8 @@ def main(words):
         counted(tally, "random", ["tests/code/run", RANDOM_RUNS])
         if shutil.which("cc"):
             counted(tally, "memory", ["tests/refuse_memory/run"])
+        if shutil.which("java") and shutil.which("javac"):
+            counted(tally, "HotSpot", ["tests/java/run", COMPARED_RUNS])
     return tally.show()
 
 

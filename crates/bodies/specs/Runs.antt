@@ -1,10 +1,11 @@
 -- What a run of several threads makes, each of a main class of its own, by the bodies that it runs.
-use Rattle.std.specs.Prelude.{◌≡◌, ◌≢◌, ℕ, length, List, Some, slice_get}
+use Rattle.std.specs.Prelude.{◌≡◌, ◌≢◌, ◌≤◌, ℕ, length, List, Some, slice_get}
 use Rattle.std.specs.List.{AllByRecursion}
 use Rattle.hierarchy.specs.declared.built_in.BuiltIn.TheVariants.{InternalError, OutOfMemoryError}
 use Rattle.hierarchy.specs.declared.class.ClassId.{ClassId}
 use Rattle.hierarchy.specs.LinkedProgram.{LinkedProgram, built_in}
 use Rattle.init_core.specs.declared.event.Event.{Event}
+use Rattle.init_core.specs.declared.event.TheConstants.{THREADS}
 use Rattle.init_core.specs.declared.event.Label.TheVariants.{InProgress}
 use Rattle.init_core.specs.declared.frames.Outcome.{Outcome}
 use Rattle.init_core.specs.declared.frames.Outcome.TheVariants.{Normal, Abrupt, Ended}
@@ -20,9 +21,11 @@ use Rattle.trace.specs.declared.report.ThreadOutcome.TheVariants as outcome
 use Rattle.trace.specs.Output.{output_of}
 use Rattle.bodies.specs.Making.{Making, maker_of}
 
--- each main class is one of the files
-abbrev pub AreMains : LinkedProgram → List ClassId → Type 0
-AreMains p mains = AllByRecursion (λ m. IsOfFiles p m) mains
+-- the main classes of a run: 1 to 16, each one of the files
+pub record AreMains (p : LinkedProgram) (mains : List ClassId) : Type 0 where
+  pub of_files : AllByRecursion (λ m. IsOfFiles p m) mains
+  pub some : 1 ≤ length mains
+  pub few : length mains ≤ THREADS
 
 -- the machine ends a thread at this limit, by this error: at one that its bodies have, or its patience, which has one, by
 -- InternalError; for want of memory by OutOfMemoryError

@@ -85,8 +85,6 @@ fn mains_named(
 ) -> Result<Option<Vec<ClassId>>, AllocError>
     ensures named { IfOk result (λ mains. option_map (λ classes. classes.items) mains ≡ classes_of_names program.now names.now) }
     ensures mains { IfOk result (λ mains. IfSome mains (λ classes. AreMains program.now classes.items)) }
-    ensures some { IfOk result (λ mains. IfSome mains (λ classes. 1 ≤ vec_len classes)) }
-    ensures few { IfOk result (λ mains. IfSome mains (λ classes. vec_len classes ≤ 16)) }
 {
     let mut mains = Vec::new(alloc);
     let mut name = Vec::new(alloc);
@@ -121,8 +119,6 @@ pub(crate) fn mains_of<'a>(
 ) -> Result<Vec<ClassId>, Fault<'a>>
     ensures named { IfOk result (λ classes. mains_in program.now (text_of mains.entry) ≡ Some classes.items) }
     ensures mains { IfOk result (λ classes. AreMains program.now classes.items) }
-    ensures some { IfOk result (λ classes. 1 ≤ vec_len classes) }
-    ensures few { IfOk result (λ classes. vec_len classes ≤ 16) }
     ensures refused { IfErr result (λ fault. (fault ≡ Memory) ⊎ ((fault ≡ Mains) × (mains_in program.now (text_of mains.entry) ≡ None))) }
 {
     let Some(names) = mains else {
@@ -198,8 +194,6 @@ fn run_several<'a, R: Threads + Wait + Sync>(
     limits: Limits,
 ) -> Result<Report, Fault<'a>>
     requires mains { AreMains program.now mains.now }
-    requires some { 1 ≤ length mains.now }
-    requires few { length mains.now ≤ 16 }
     ensures ran { IfOk result (IsRunOf program.now (shared_bodies program.now) (starts_of mains.now limits) mains.now limits) }
     ensures refused { IfErr result (λ fault. (fault ≡ Memory) ⊎ (fault ≡ Threads)) }
 {
@@ -222,8 +216,6 @@ fn run_unordered<'a, R: Threads + Wait + Sync>(
     limits: Limits,
 ) -> Result<Report, Fault<'a>>
     requires mains { AreMains program.now mains.now }
-    requires some { 1 ≤ length mains.now }
-    requires few { length mains.now ≤ 16 }
     ensures ran { IfOk result (IsRunBy (nat_lt (length mains.now) 2) program.now (starts_of mains.now limits) mains.now limits) }
     ensures refused { IfErr result (λ fault. (fault ≡ Memory) ⊎ (fault ≡ Threads)) }
 {
@@ -260,8 +252,6 @@ fn run_several_in_order<'a>(
     limits: Limits,
 ) -> Result<Report, Fault<'a>>
     requires mains { AreMains program.now mains.now }
-    requires some { 1 ≤ length mains.now }
-    requires few { length mains.now ≤ 16 }
     requires order { AllByRecursion (λ t. t < length mains.now) order.now }
     ensures ran { IfOk result (IsOrderedRunOf program.now objects_lent (turn_bodies program.now) objects_at_start (starts_of mains.now limits) mains.now order.now) }
     ensures refused { IfErr result (λ fault. fault ≡ Memory) }
@@ -280,8 +270,6 @@ fn run_in_order<'a>(
     limits: Limits,
 ) -> Result<Report, Fault<'a>>
     requires mains { AreMains program.now mains.now }
-    requires some { 1 ≤ length mains.now }
-    requires few { length mains.now ≤ 16 }
     requires order { AllByRecursion (λ t. t < length mains.now) order.now }
     ensures ran { IfOk result (IsOrderedRunBy (nat_lt (length mains.now) 2) program.now (starts_of mains.now limits) mains.now order.now) }
     ensures refused { IfErr result (λ fault. fault ≡ Memory) }
@@ -302,8 +290,6 @@ fn run_mains<'a, R: Threads + Wait + Sync>(
     limits: Limits,
 ) -> Result<Report, Fault<'a>>
     requires mains { AreMains program.now mains.now }
-    requires some { 1 ≤ length mains.now }
-    requires few { length mains.now ≤ 16 }
     requires order { is_of_threads (length mains.now) (numbers_of order) ≡ true }
     ensures ran { IfOk result (IsRunOfMains program.now mains.now (numbers_of order.entry) limits) }
     ensures refused { IfErr result (λ fault. (fault ≡ Memory) ⊎ ((fault ≡ Threads) × (numbers_of order.entry ≡ None))) }

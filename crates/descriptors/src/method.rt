@@ -67,7 +67,7 @@ impl MethodType {
 fn copied(parameters: &Sequence<FieldType>) -> Result<Sequence<FieldType>, AllocError>
     ensures { IfOk result (λ copies. copies ≡ parameters.now) }
 {
-    let mut copies = Sequence::new(parameters.allocator());
+    let mut copies = parameters.new_like();
     for parameter in parameters.as_slice() {
         copies.push(parameter.clone()?)?;
     }

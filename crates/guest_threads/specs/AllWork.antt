@@ -26,7 +26,6 @@ pub record PlanFacts : Type 0 where
 -- the table has a record for each class, and there is a thread for each main class
 pub record IsPlan (k : PlanFacts) : Type 0 where
   pub mains : AreMains k.program k.mains
-  pub some : 1 ≤ length k.mains
   pub places : k.table.places ≡ length k.program.classes
   pub threads : k.table.threads ≡ length k.mains
 

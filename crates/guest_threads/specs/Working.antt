@@ -11,6 +11,7 @@ use Rattle.init_core.specs.declared.frames.Completed.{Completed}
 use Rattle.init_core.specs.declared.frames.Outcome.{Outcome}
 use Rattle.init_core.specs.declared.frames.Outcome.TheVariants.{Ended}
 use Rattle.init_core.specs.Advance.{MayRequest}
+use Rattle.init_core.specs.History.{AreOfOneClass}
 use Rattle.init_core.specs.Lawful.{AgreesAfter}
 use Rattle.init_core.specs.ProcedureWord.{ThreadWordOf, GoesOn, IsOfFiles}
 use Rattle.init_core.specs.ProgramEvents.{IsProgramEvent}
@@ -84,6 +85,15 @@ pub record Took (p : LinkedProgram) (c : ClassId) (before after : PassFacts Guar
   pub out : out_of c.number after.places ≡ Some h.kept
   pub others : IsSameBut c.number before.places after.places
   pub away : IsAwayBut c.number after.places
+
+-- the pass has this record and no other, as it found it, and may give it back with these events
+pub record MayGiveBack (table : TableFacts) (x : PassFacts Guarded Event) (h : HeldFacts Guarded) (events : List Event) : Type 0 where
+  pub of_table : x.table ≡ table.id
+  pub out : out_of h.place x.places ≡ Some h.taken
+  pub alone : IsAwayBut h.place x.places
+  pub found : h.taken.record.events ≡ seen_at h.place x.places
+  pub keeps : h.kept.record.events ≡ events
+  pub class : AreOfOneClass h.taken.record h.kept.record
 
 -- the record of place n went back with these events, and the pass has no other
 pub record GaveBack (n : ℕ) (events : List Event) (before after : PassFacts Guarded Event) : Type 0 where

@@ -70,8 +70,6 @@ pub fn run_threads<R: Threads + Wait + Sync, G: Gate + Sync, B: Bodies + Send>(
     gate: &G,
 ) -> Result<Report, RunFault>
     requires mains { AreMains program.now mains.now }
-    requires some { 1 ≤ length mains.now }
-    requires few { length mains.now ≤ 16 }
     requires bodies { vec_len bodies ≡ length mains.now }
     ensures ran { IfOk result (IsRunOf program.now (B.making program.now) bodies.items mains.now limits) }
 {

@@ -2,12 +2,11 @@
 
 ghost use Rattle.std.specs.Prelude.{◌≡◌, ◌≢◌, ◌+◌, ◌<◌, ◌++◌, ◌∷◌, [], Some, IfOk, OnErr};
 ghost use Rattle.init_core.specs.declared.event.TheConstants.{THREADS};
-ghost use Rattle.init_lock.specs.Known.{seen_at, out_of, IsAwayBut};
-ghost use Rattle.init_core.specs.History.{AreOfOneClass};
+ghost use Rattle.init_lock.specs.Known.{seen_at};
 ghost use Rattle.init_core.specs.ProcedureWord.{IsOfFiles};
 ghost use Rattle.bodies.specs.Writes.{WritesHeld};
 ghost use Rattle.guest_threads.specs.Drawing.{MayDraw};
-ghost use Rattle.guest_threads.specs.Working.{Works, Took, GaveBack, IsUnmoved, drawn};
+ghost use Rattle.guest_threads.specs.Working.{Works, Took, MayGiveBack, GaveBack, IsUnmoved, drawn};
 
 use crate::guarded::Guarded;
 use hierarchy::{ClassId, Program};
@@ -45,15 +44,10 @@ pub(crate) fn give_back_with(
     mut held: Held<Guarded>,
     event: Event,
 )
-    requires table { pass.old.table ≡ table.now.id }
+    requires back { MayGiveBack table.now pass.old held (seen_at held.place pass.old.places ++ event ∷ []) }
     requires room { 0 < pass.old.room }
     requires allowed { MayDraw pass.old.number (Some held.place) event }
-    requires out { out_of held.place pass.old.places ≡ Some held.taken }
-    requires found { held.taken.record.events ≡ seen_at held.place pass.old.places }
-    requires keeps { held.kept.record.events ≡ seen_at held.place pass.old.places ++ event ∷ [] }
-    requires class { AreOfOneClass held.taken.record held.kept.record }
     requires writes { WritesHeld held.taken.record.fields event }
-    requires alone { IsAwayBut held.place pass.old.places }
     ensures back { GaveBack held.place held.kept.record.events pass.old pass.new }
     ensures journal { drawn pass.new.journal ≡ drawn pass.old.journal ++ event ∷ [] }
     ensures room { pass.new.room + 1 ≡ pass.old.room }
@@ -68,12 +62,7 @@ pub(crate) fn give_back_untouched(
     pass: &mut Pass<Guarded>,
     held: Held<Guarded>,
 )
-    requires table { pass.old.table ≡ table.now.id }
-    requires out { out_of held.place pass.old.places ≡ Some held.taken }
-    requires found { held.taken.record.events ≡ seen_at held.place pass.old.places }
-    requires keeps { held.kept.record.events ≡ seen_at held.place pass.old.places }
-    requires class { AreOfOneClass held.taken.record held.kept.record }
-    requires alone { IsAwayBut held.place pass.old.places }
+    requires back { MayGiveBack table.now pass.old held (seen_at held.place pass.old.places) }
     ensures back { GaveBack held.place held.kept.record.events pass.old pass.new }
     ensures journal { pass.new.journal ≡ pass.old.journal }
     ensures room { pass.new.room ≡ pass.old.room }
@@ -89,12 +78,7 @@ pub(crate) fn give_back_asleep(
     thread: usize,
 )
     requires thread { thread < THREADS }
-    requires table { pass.old.table ≡ table.now.id }
-    requires out { out_of held.place pass.old.places ≡ Some held.taken }
-    requires found { held.taken.record.events ≡ seen_at held.place pass.old.places }
-    requires keeps { held.kept.record.events ≡ seen_at held.place pass.old.places }
-    requires class { AreOfOneClass held.taken.record held.kept.record }
-    requires alone { IsAwayBut held.place pass.old.places }
+    requires back { MayGiveBack table.now pass.old held (seen_at held.place pass.old.places) }
     ensures back { GaveBack held.place held.kept.record.events pass.old pass.new }
     ensures journal { pass.new.journal ≡ pass.old.journal }
     ensures room { pass.new.room ≡ pass.old.room }

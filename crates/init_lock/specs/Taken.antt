@@ -1,6 +1,6 @@
 -- What a pass finds where it takes a record from its lock.
 use Rattle.std.specs.Prelude.{◌≡◌, ℕ, List, ◌∷◌, length, Option as Opt, Some, None}
-use Rattle.init_lock.specs.Known.{PassFacts, HeldFacts, look, seen_at, out_of, last_at, IsSameBut, IsAway, IsAwayBut}
+use Rattle.init_lock.specs.Known.{PassFacts, HeldFacts, IsSamePass, look, seen_at, out_of, last_at, IsSameBut, IsAway, IsAwayBut}
 use Rattle.init_lock.specs.Log.{Grew, IsWithin, own_events}
 use Rattle.init_lock.specs.Rule.{element_at}
 
@@ -23,3 +23,7 @@ pub record Taken {R E : Type 0} (kept : R → List E) (may : ℕ → Opt ℕ →
   pub others : IsSameBut n before.places after.places
   pub looks : after.looks ≡ look n (length before.journal) (kept h.kept) ∷ before.looks
   pub holding : IsAway before.places → IsAwayBut n after.places
+  -- its journal is as it was
+  pub journal : after.journal ≡ before.journal
+  pub room : after.room ≡ before.room
+  pub same : IsSamePass before after

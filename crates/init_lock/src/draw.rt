@@ -1,8 +1,8 @@
 //! How events get their stamps.
-ghost use Rattle.std.specs.Prelude.{◌≡◌, ◌+◌, ◌^◌, ◌<◌, ◌++◌, ◌∷◌, [], Some, None};
-ghost use Rattle.init_lock.specs.Log.{stamped, AreBelow};
-ghost use Rattle.init_lock.specs.Known.{seen_at, out_of, last_at, IsSamePass, IsSameBut, IsAwayBut};
-ghost use Rattle.init_lock.specs.Steps.{drawn_places, IsOutAt};
+ghost use Rattle.std.specs.Prelude.{◌≡◌, ◌<◌, Some, None};
+ghost use Rattle.init_lock.specs.Drawn.{Draws, HasSeenMore};
+ghost use Rattle.init_lock.specs.Known.{out_of};
+ghost use Rattle.init_lock.specs.Steps.{IsOutAt};
 
 use crate::journal::{Stamp, Stamped};
 use crate::keeps::Keeps;
@@ -24,13 +24,7 @@ impl<R: Keeps> InitTable<R> {
         requires room { 0 < pass.old.room }
         requires allowed { R.may_draw pass.old.number place event }
         requires out { IsOutAt place pass.old.places }
-        ensures pass { IsSamePass pass.old pass.new }
-        ensures journal { pass.new.journal ≡ pass.old.journal ++ stamped result place event ∷ [] }
-        ensures room { pass.new.room + 1 ≡ pass.old.room }
-        ensures places { pass.new.places ≡ drawn_places place event pass.old.places }
-        ensures looks { pass.new.looks ≡ pass.old.looks }
-        ensures stamp { result < 2 ^ 62 }
-        ensures rising { AreBelow result pass.old.journal }
+        ensures { Draws result place event pass.old pass.new }
     {
         let stamp = self
             .table
@@ -52,13 +46,7 @@ impl<R: Keeps> InitTable<R> {
         requires table { pass.old.table ≡ self.now.id }
         requires room { 0 < pass.old.room }
         requires allowed { R.may_draw pass.old.number None event }
-        ensures pass { IsSamePass pass.old pass.new }
-        ensures journal { pass.new.journal ≡ pass.old.journal ++ stamped result None event ∷ [] }
-        ensures room { pass.new.room + 1 ≡ pass.old.room }
-        ensures places { pass.new.places ≡ pass.old.places }
-        ensures looks { pass.new.looks ≡ pass.old.looks }
-        ensures stamp { result < 2 ^ 62 }
-        ensures rising { AreBelow result pass.old.journal }
+        ensures { Draws result None event pass.old pass.new }
     {
         self.stamp::<Brand>(pass, None, event)
     }
@@ -73,17 +61,8 @@ impl<R: Keeps> InitTable<R> {
         requires allowed { R.may_draw pass.old.number (Some held.old.place) event }
         requires out { out_of held.old.place pass.old.places ≡ Some held.old.taken }
         ensures held { held.new ≡ held.old }
-        ensures pass { IsSamePass pass.old pass.new }
-        ensures journal { pass.new.journal ≡ pass.old.journal ++ stamped result (Some held.old.place) event ∷ [] }
-        ensures room { pass.new.room + 1 ≡ pass.old.room }
-        ensures seen { seen_at held.old.place pass.new.places ≡ seen_at held.old.place pass.old.places ++ event ∷ [] }
-        ensures out { out_of held.old.place pass.new.places ≡ Some held.old.taken }
-        ensures last { last_at held.old.place pass.new.places ≡ last_at held.old.place pass.old.places }
-        ensures others { IsSameBut held.old.place pass.old.places pass.new.places }
-        ensures looks { pass.new.looks ≡ pass.old.looks }
-        ensures holding { IsAwayBut held.old.place pass.old.places → IsAwayBut held.old.place pass.new.places }
-        ensures stamp { result < 2 ^ 62 }
-        ensures rising { AreBelow result pass.old.journal }
+        ensures draws { Draws result (Some held.old.place) event pass.old pass.new }
+        ensures more { HasSeenMore held.old.place event pass.old pass.new }
     {
         self.stamp::<Brand>(pass, Some(held.place), event)
     }

@@ -1,6 +1,7 @@
 //! The table of locked records, and one try of a lock.
-ghost use Rattle.std.specs.Prelude.{◌≡◌, ◌+◌, ◌<◌, ◌≤◌, ◌∷◌, length, MatchBool, Option, Some, None, IfSome, IfNone, OnSome};
-ghost use Rattle.init_lock.specs.Known.{look, seen_at, out_of, last_at, IsSamePass, IsSameBut, IsAway, IsAwayBut};
+ghost use Rattle.std.specs.Prelude.{◌≡◌, ◌+◌, ◌<◌, ◌≤◌, MatchBool, Option, Some, None, IfSome, IfNone, OnSome};
+ghost use Rattle.init_lock.specs.Drawn.{WentBack};
+ghost use Rattle.init_lock.specs.Known.{seen_at, out_of};
 ghost use Rattle.init_lock.specs.Taken.{Taken};
 
 use crate::block::Block;
@@ -51,9 +52,6 @@ impl<R: Keeps> InitTable<R> {
     pub fn try_take(&self, pass: &mut Pass<R>, place: usize) -> Option<Held<R>>
         requires table { pass.old.table ≡ self.now.id }
         requires place { place < self.now.places }
-        ensures pass { IsSamePass pass.old pass.new }
-        ensures journal { pass.new.journal ≡ pass.old.journal }
-        ensures room { pass.new.room ≡ pass.old.room }
         ensures misses { OnSome result (pass.new.misses ≡ pass.old.misses) }
         ensures taken { IfSome result (Taken R.kept R.may_draw R.follows place pass.old pass.new) }
         ensures none { IfNone result (pass.new ≡ record pass.old { misses = pass.old.misses + 1 }) }
@@ -100,15 +98,7 @@ impl<R: Keeps> InitTable<R> {
         requires out { out_of held.place pass.old.places ≡ Some held.taken }
         requires keeps { R.kept held.kept ≡ seen_at held.place pass.old.places }
         requires follows { R.follows held.taken held.kept }
-        ensures pass { IsSamePass pass.old pass.new }
-        ensures journal { pass.new.journal ≡ pass.old.journal }
-        ensures room { pass.new.room ≡ pass.old.room }
-        ensures seen { seen_at held.place pass.new.places ≡ R.kept held.kept }
-        ensures out { out_of held.place pass.new.places ≡ None }
-        ensures last { last_at held.place pass.new.places ≡ Some held.kept }
-        ensures others { IsSameBut held.place pass.old.places pass.new.places }
-        ensures looks { pass.new.looks ≡ look held.place (length pass.old.journal) (R.kept held.kept) ∷ pass.old.looks }
-        ensures away { IsAwayBut held.place pass.old.places → IsAway pass.new.places }
+        ensures { WentBack held.place held.kept (R.kept held.kept) pass.old pass.new }
     {
         let Held {
             block,

@@ -1,6 +1,5 @@
 //! A lock taken by trying again.
 ghost use Rattle.std.specs.Prelude.{◌≡◌, ◌≢◌, ◌+◌, ◌<◌, IfSome, IfNone, OnSome, IfOk, OnOk, OnErr};
-ghost use Rattle.init_lock.specs.Known.{IsSamePass};
 ghost use Rattle.init_lock.specs.Taken.{Taken};
 
 use crate::keeps::Keeps;
@@ -18,9 +17,6 @@ impl<R: Keeps> InitTable<R> {
     fn try_once(&self, pass: &mut Pass<R>, place: usize, looks_first: bool) -> Option<Held<R>>
         requires table { pass.old.table ≡ self.now.id }
         requires place { place < self.now.places }
-        ensures pass { IsSamePass pass.old pass.new }
-        ensures journal { pass.new.journal ≡ pass.old.journal }
-        ensures room { pass.new.room ≡ pass.old.room }
         ensures misses { OnSome result (pass.new.misses ≡ pass.old.misses) }
         ensures taken { IfSome result (Taken R.kept R.may_draw R.follows place pass.old pass.new) }
         ensures none { IfNone result (pass.new ≡ record pass.old { misses = pass.old.misses + 1 }) }
@@ -47,9 +43,6 @@ impl<R: Keeps> InitTable<R> {
     ) -> Result<Held<R>, GaveUp>
         requires table { pass.old.table ≡ self.now.id }
         requires place { place < self.now.places }
-        ensures pass { IsSamePass pass.old pass.new }
-        ensures journal { pass.new.journal ≡ pass.old.journal }
-        ensures room { pass.new.room ≡ pass.old.room }
         ensures taken { IfOk result (Taken R.kept R.may_draw R.follows place pass.old pass.new) }
         ensures patient { OnErr result (patience ≢ 0) }
         ensures gave_up { OnErr result (pass.new ≡ record pass.old { misses = pass.old.misses + patience }) }

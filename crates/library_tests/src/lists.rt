@@ -13,7 +13,7 @@ fn elements_are_in_order(rt: HostRuntime) {
     let mut numbers = Sequence::new(rt.alloc());
     assert!(rt; pushes(&mut numbers) && numbers.as_slice() == [3, 5].as_slice());
     let again = Sequence::from_vec(numbers.into_vec());
-    assert!(rt; again.as_slice() == [3, 5].as_slice());
+    assert!(rt; again.as_slice() == [3, 5].as_slice() && again.new_like().is_empty());
 }
 
 /// Whether a text equals its copy, and no other.

@@ -1,7 +1,8 @@
 //! Which events the runs of small programs have, whatever the schedule.
 
 ghost use Rattle.std.specs.Prelude.{◌≡◌, ◌<◌, true};
-ghost use Rattle.bodies.specs.Runs.{AreMains};
+ghost use Rattle.std.specs.List.{AllByRecursion};
+ghost use Rattle.init_core.specs.ProcedureWord.{IsOfFiles};
 
 use crate::long_chain::{CLASSES, INTERFACES};
 use crate::programs::{Question, Row};
@@ -35,7 +36,7 @@ pub(crate) enum Crowd {
 
 /// Whether each main class is one of the files.
 pub(crate) fn are_of_files(program: &Program, mains: &[ClassId]) -> bool
-    ensures { result ≡ true → AreMains program.now mains.now }
+    ensures { result ≡ true → AllByRecursion (λ main. IsOfFiles program.now main) mains.now }
 {
     for main in mains {
         if main.number >= program.len() {

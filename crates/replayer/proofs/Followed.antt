@@ -25,6 +25,7 @@ use Rattle.replayer.specs.Going.{Going, HasLeft, IsInBody, IsPaused, Resting, at
 use Rattle.init_core.specs.Advance.{is_waiting}
 use Rattle.init_core.specs.Standing.{Standing}
 use Rattle.replayer.specs.OrderedRun.{HasJustMade, Follows, HasEnded, IsAt, IsInBodyAt, IsStuck, IsWaiting, WaitsFor, WaitsInBody, made as makes, gives_up, goes_on, lowest, skipped}
+use Rattle.replayer.specs.Turning.{HasOwn}
 use Rattle.replayer.specs.Turns.{AreOf}
 use Rattle.replayer.proofs.Acting.{not_gone}
 use Rattle.replayer.proofs.Stepping.{not_both}
@@ -151,12 +152,6 @@ module _ {S H : Type 0} (p : LinkedProgram) (M : Making S) (U : List (ℕ × H) 
 
   not_gave_up : (gone : List ℕ) (t : ℕ) (r : Run S H) (other : Thread S) → (Contains gone t → ⊥) → t < length r.threads.items → AreGone gone r → (slice_index_or r.threads.items t other).gave_up ≡ false
   not_gave_up gone t r other none low a = not_gone p M _ (λ y. none ((a t other low).0 y))
-
-  -- the turns of t alone
-  pub record HasOwn (t : ℕ) (r s : Run S H) : Type 0 where
-    pub turned : List (ℕ × H)
-    pub own : AreOf t turned
-    pub turns : s.shared.turns.items ≡ r.shared.turns.items ++ turned
 
   abbrev no_turns : (t : ℕ) (r s : Run S H) → s.shared ≡ r.shared → HasOwn t r s
   no_turns t r s same = record { turned = []; own = tt; turns = ap (λ x. x.turns.items) same ∙ sym (append-nil r.shared.turns.items) }

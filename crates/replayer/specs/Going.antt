@@ -58,6 +58,16 @@ pub record Going {S : Type 0} (p : LinkedProgram) (M : Making S) (l : EventLog) 
   -- and then the machine is ending it
   pub gone : w.gave_up ≡ true → ending_error w.procedure ≢ None
 
+-- thread t has just begun, with this main class and this to run its bodies
+pub record IsNew {S : Type 0} (p : LinkedProgram) (M : Making S) (l : EventLog) (t : ℕ) (m : ClassId) (s : S) (w : Thread S) : Type 0 where
+  pub going : Going p M l w
+  pub number : w.number ≡ t
+  pub main : w.main ≡ m
+  pub start : w.start.value ≡ s
+  pub bodies : w.bodies ≡ s
+  pub done : w.done ≡ None
+  pub gave_up : w.gave_up ≡ false
+
 -- the same thread, which gave up before or didn't
 pub record IsSameThread {S : Type 0} (before after : Thread S) : Type 0 where
   pub number : after.number ≡ before.number

@@ -96,8 +96,6 @@ pub fn run_ordered<H: Drop, B: Lends<H>>(
     shared: H,
 ) -> Result<Report, AllocError>
     requires mains { AreMains program.now mains.now }
-    requires some { 1 ≤ length mains.now }
-    requires few { length mains.now ≤ THREADS }
     requires count { vec_len bodies ≡ length mains.now }
     requires order { AllByRecursion (λ t. t < length mains.now) order.now }
     ensures { IfOk result (IsOrderedRunOf program.now B.lending (B.making program.now) shared bodies.items mains.now order.now) }

@@ -1,13 +1,12 @@
 //! All threads of an ordered run.
 
-ghost use Rattle.std.specs.Prelude.{◌≡◌, ℕ, ◌<◌, ◌≤◌, ◌++◌, List, [], IfOk, OnOk, true, length, map, vec_len};
+ghost use Rattle.std.specs.Prelude.{◌≡◌, ℕ, ◌<◌, ◌≤◌, List, [], IfOk, OnOk, true, length, vec_len};
 ghost use Rattle.init_core.specs.declared.event.TheConstants.{THREADS};
 ghost use Rattle.bodies.specs.Runs.{AreMains};
-ghost use Rattle.replayer.specs.AllGoing.{AllThreads, AreGoing, AreGone, HasDone, HasGone, IsFound, IsHeld, IsSameBut, IsSameThere, Leads, ThreadAt, mains_of, starts_of};
+ghost use Rattle.replayer.specs.AllGoing.{AllThreads, AreGoing, HasDone, HasGone, IsFound, IsHeld, IsSameThere, Leads, ThreadAt};
 ghost use Rattle.replayer.specs.OrderedRun.{HasUsed, WaitsAfter};
-ghost use Rattle.replayer.specs.Turning.{AreInTurn};
-ghost use Rattle.replayer.specs.Turns.{AreOf};
-ghost use Rattle.bodies.specs.Lending.{lent_at_start, lent_bodies};
+ghost use Rattle.replayer.specs.Turning.{AreInTurn, GoesAlone, HasBegun, StillGoes};
+ghost use Rattle.bodies.specs.Lending.{lent_bodies};
 ghost use Rattle.std.specs.List.{AllByRecursion};
 
 use crate::lent::Lent;
@@ -48,16 +47,8 @@ impl<H: Drop, B: Lends<H>> Run<Lent<B, H>, H> {
         shared: H,
     ) -> Result<Self, AllocError>
         requires mains { AreMains program.now mains.now }
-        requires few { length mains.now ≤ THREADS }
         requires count { vec_len bodies ≡ length mains.now }
-        ensures going { IfOk result (λ run. AreGoing program.now (lent_bodies B.lending (B.making program.now)) run) }
-        ensures fresh { IfOk result (λ run. AreGone [] run) }
-        ensures events { IfOk result (λ run. run.log.events.items ≡ []) }
-        ensures mains { IfOk result (λ run. mains_of run ≡ mains.now) }
-        ensures starts { IfOk result (λ run. starts_of run ≡ map lent_at_start bodies.items) }
-        ensures first { IfOk result (λ run. run.shared.first.value ≡ shared) }
-        ensures turns { IfOk result (λ run. run.shared.turns.items ≡ []) }
-        ensures in_turn { IfOk result (λ run. AreInTurn run) }
+        ensures { IfOk result (HasBegun program.now (lent_bodies B.lending (B.making program.now)) mains.now bodies.items shared) }
     {
         let log = EventLog::new(alloc, program, mains.len())?;
         let mut threads = Vec::new(alloc);
@@ -79,12 +70,8 @@ impl<H: Drop, B: Lends<H>> Run<Lent<B, H>, H> {
         requires going { AreGoing program.now (lent_bodies B.lending (B.making program.now)) self.old }
         requires in_turn { AreInTurn self.old }
         requires number { number < length self.old.threads.items }
-        ensures going { IfOk result (λ turn. AreGoing program.now (lent_bodies B.lending (B.making program.now)) self.new) }
-        ensures in_turn { IfOk result (λ turn. AreInTurn self.new) }
-        ensures first { IfOk result (λ turn. self.new.shared.first ≡ self.old.shared.first) }
-        ensures turned { IfOk result (λ turn. (turned : List (ℕ × H)) × AreOf number turned × (self.new.shared.turns.items ≡ self.old.shared.turns.items ++ turned)) }
+        ensures alone { IfOk result (λ turn. GoesAlone program.now (lent_bodies B.lending (B.making program.now)) number self.old self.new) }
         ensures gone { IfOk result (HasGone program.now (lent_bodies B.lending (B.making program.now)) (HasUsed self.old.shared.first.value) (WaitsAfter B.lending (B.making program.now) self.old.shared.first.value) number self.old self.new) }
-        ensures others { IfOk result (λ turn. IsSameBut number self.old self.new) }
         ensures there { IfOk result (λ turn. IsSameThere number self.old self.new) }
     {
         let thread = &mut self.threads[number];
@@ -111,9 +98,7 @@ impl<H: Drop, B: Lends<H>> Run<Lent<B, H>, H> {
         requires going { AreGoing program.now (lent_bodies B.lending (B.making program.now)) self.old }
         requires in_turn { AreInTurn self.old }
         requires order { AllByRecursion (λ t. t < length self.old.threads.items) order.now }
-        ensures going { OnOk result (AreGoing program.now (lent_bodies B.lending (B.making program.now)) self.new) }
-        ensures in_turn { OnOk result (AreInTurn self.new) }
-        ensures first { OnOk result (self.new.shared.first ≡ self.old.shared.first) }
+        ensures still { OnOk result (StillGoes program.now (lent_bodies B.lending (B.making program.now)) self.old self.new) }
         ensures follows { OnOk result (Leads program.now (lent_bodies B.lending (B.making program.now)) (HasUsed self.old.shared.first.value) (WaitsAfter B.lending (B.making program.now) self.old.shared.first.value) order.now [] self.old [] [] self.new) }
     {
         'order: for number in order {
@@ -126,9 +111,7 @@ impl<H: Drop, B: Lends<H>> Run<Lent<B, H>, H> {
     fn go_lowest(&mut self, alloc: Global, program: &Program) -> Result<Found, AllocError>
         requires going { AreGoing program.now (lent_bodies B.lending (B.making program.now)) self.old }
         requires in_turn { AreInTurn self.old }
-        ensures going { IfOk result (λ found. AreGoing program.now (lent_bodies B.lending (B.making program.now)) self.new) }
-        ensures in_turn { IfOk result (λ found. AreInTurn self.new) }
-        ensures first { IfOk result (λ found. self.new.shared.first ≡ self.old.shared.first) }
+        ensures still { IfOk result (λ found. StillGoes program.now (lent_bodies B.lending (B.making program.now)) self.old self.new) }
         ensures found { IfOk result (IsFound program.now (lent_bodies B.lending (B.making program.now)) (HasUsed self.old.shared.first.value) (WaitsAfter B.lending (B.making program.now) self.old.shared.first.value) self.old self.new) }
     {
         let mut held = None;
@@ -152,12 +135,8 @@ impl<H: Drop, B: Lends<H>> Run<Lent<B, H>, H> {
         requires in_turn { AreInTurn self.old }
         requires number { number < length self.old.threads.items }
         requires held { ThreadAt self.old number (IsHeld program.now (lent_bodies B.lending (B.making program.now)) (WaitsAfter B.lending (B.making program.now) self.old.shared.first.value self.old.shared.turns.items number) self.old.log) }
-        ensures going { AreGoing program.now (lent_bodies B.lending (B.making program.now)) self.new }
-        ensures in_turn { AreInTurn self.new }
-        ensures first { self.new.shared.first ≡ self.old.shared.first }
-        ensures turned { (turned : List (ℕ × H)) × AreOf number turned × (self.new.shared.turns.items ≡ self.old.shared.turns.items ++ turned) }
+        ensures alone { GoesAlone program.now (lent_bodies B.lending (B.making program.now)) number self.old self.new }
         ensures log { self.new.log ≡ self.old.log }
-        ensures others { IsSameBut number self.old self.new }
         ensures gave_up { ThreadAt self.new number (λ w. w.gave_up ≡ true) }
     {
         let thread = &mut self.threads[number];
@@ -171,9 +150,7 @@ impl<H: Drop, B: Lends<H>> Run<Lent<B, H>, H> {
     pub(crate) fn finish(&mut self, alloc: Global, program: &Program) -> Result<(), AllocError>
         requires going { AreGoing program.now (lent_bodies B.lending (B.making program.now)) self.old }
         requires in_turn { AreInTurn self.old }
-        ensures going { OnOk result (AreGoing program.now (lent_bodies B.lending (B.making program.now)) self.new) }
-        ensures in_turn { OnOk result (AreInTurn self.new) }
-        ensures first { OnOk result (self.new.shared.first ≡ self.old.shared.first) }
+        ensures still { OnOk result (StillGoes program.now (lent_bodies B.lending (B.making program.now)) self.old self.new) }
         ensures follows { OnOk result ((later : List ℕ) × Leads program.now (lent_bodies B.lending (B.making program.now)) (HasUsed self.old.shared.first.value) (WaitsAfter B.lending (B.making program.now) self.old.shared.first.value) [] [] self.old [] later self.new) }
         ensures ended { OnOk result (AllThreads (λ t w. HasDone w) self.new) }
     {

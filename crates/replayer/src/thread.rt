@@ -5,7 +5,7 @@ ghost use Rattle.init_core.specs.declared.procedure.Next.TheVariants as nexts;
 ghost use Rattle.init_core.specs.Advance.{next_of, is_running};
 ghost use Rattle.init_core.specs.ProcedureWord.{IsOfFiles};
 ghost use Rattle.bodies.specs.Lending.{lent_at_start, lent_bodies};
-ghost use Rattle.replayer.specs.Going.{Going, GoesOrEnds, HasStepped, IsPaused, IsSameThread, Resting, TurnsTo, turn_by};
+ghost use Rattle.replayer.specs.Going.{Going, GoesOrEnds, HasStepped, IsNew, IsPaused, IsSameThread, Resting, TurnsTo, turn_by};
 ghost use Rattle.replayer.specs.declared.thread.Turn.TheVariants as turns;
 ghost use Rattle.replayer.specs.Logged.{IsLog};
 ghost use Rattle.replayer.specs.OrderedRun.{WaitsAt};
@@ -76,13 +76,7 @@ impl<H, B: Lends<H>> Thread<Lent<B, H>> {
         requires number { number < log.now.threads.value }
         requires log { IsLog program.now log.now }
         requires none { log.now.events.items ≡ [] }
-        ensures going { IfOk result (λ thread. Going program.now (lent_bodies B.lending (B.making program.now)) log.now thread) }
-        ensures number { IfOk result (λ thread. thread.number ≡ number) }
-        ensures main { IfOk result (λ thread. thread.main ≡ main) }
-        ensures start { IfOk result (λ thread. thread.start.value ≡ lent_at_start bodies) }
-        ensures bodies { IfOk result (λ thread. thread.bodies ≡ lent_at_start bodies) }
-        ensures done { IfOk result (λ thread. thread.done ≡ None) }
-        ensures gave_up { IfOk result (λ thread. thread.gave_up ≡ false) }
+        ensures { IfOk result (IsNew program.now (lent_bodies B.lending (B.making program.now)) log.now number main (lent_at_start bodies)) }
     {
         let _ = &log.events;
         let mut procedure = Procedure::new(alloc);

@@ -67,9 +67,13 @@ impl<T> Sequence<T> {
         items
     }
 
-    /// The allocator that the list takes its memory from.
-    pub fn allocator(&self) -> Global {
-        *self.items.allocator()
+    /// The empty list, which takes its memory from where this one does. Takes no memory.
+    pub fn new_like(&self) -> Self
+        ensures { result ≡ [] }
+    {
+        Sequence {
+            items: Vec::new(*self.items.allocator()),
+        }
     }
 
     /// How many elements the list has.
@@ -120,6 +124,8 @@ impl Sequence<u8> {
 }
 
 impl Clone for Sequence<u8> {
+    ghost is_clone = { λ text copy. copy ≡ text };
+
     fn clone(&self) -> Result<Self, AllocError>
         ensures { IfOk result (λ text. text ≡ self.now) }
     {

@@ -6,7 +6,8 @@
 //! journals merged, divided by all events.
 
 ghost use Rattle.std.specs.Prelude.{◌≡◌, true};
-ghost use Rattle.bodies.specs.Runs.{AreMains};
+ghost use Rattle.std.specs.List.{AllByRecursion};
+ghost use Rattle.init_core.specs.ProcedureWord.{IsOfFiles};
 
 use crate::bench::files::Files;
 use crate::bench::harness::{Failure, Row, Watch};
@@ -127,7 +128,7 @@ fn mains_of(chains: &Chains) -> [ClassId; 16] {
 }
 
 fn are_of_files(program: &Program, mains: &[ClassId]) -> bool
-    ensures { result ≡ true → AreMains program.now mains.now }
+    ensures { result ≡ true → AllByRecursion (λ main. IsOfFiles program.now main) mains.now }
 {
     for main in mains {
         if main.number >= program.len() {

@@ -12,9 +12,9 @@ returns-clause-took g c =
     let w = c.requires.works in
     let found = class_found c.args.program.now c.args.class c.args.pass.now.opening h.kept w.prepared w.whole c.requires.class e.taken.follows_opening in
     subst (λ (x : Guarded). Took c.args.program.now c.args.class c.args.pass.now c.take-taken.new.pass (record { place = h.place; taken = h.taken; kept = x })) (sym k) (record {
-      same = e.pass;
-      journal = e.journal;
-      room = e.room;
+      same = e.taken.same;
+      journal = e.taken.journal;
+      room = e.taken.room;
       place = e.taken.place;
       untouched = e.taken.untouched;
       class = found.0;

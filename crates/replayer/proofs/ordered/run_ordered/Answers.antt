@@ -20,9 +20,9 @@ returns g c =
     let begin = c.in_ok-run.run' in
     let first = c.in_ok-run.ensures.first in
     let following = subst (λ h. Leads p (lent_bodies L M) (HasUsed h) (WaitsAfter L M h) c.args.order.now _ begin _ _ c.follow.new.self) first c.in_ok-follow.ensures.follows in
-    let finishing = subst (λ h. Leads p (lent_bodies L M) (HasUsed h) (WaitsAfter L M h) _ _ c.follow.new.self _ c.in_ok-finish.ensures.follows.0 c.finish.new.self) (ap (λ f. f.value) c.in_ok-follow.ensures.first ∙ first) c.in_ok-finish.ensures.follows.1 in
+    let finishing = subst (λ h. Leads p (lent_bodies L M) (HasUsed h) (WaitsAfter L M h) _ _ c.follow.new.self _ c.in_ok-finish.ensures.follows.0 c.finish.new.self) (ap (λ f. f.value) c.in_ok-follow.ensures.still.first ∙ first) c.in_ok-finish.ensures.follows.1 in
     ordered p L M c.args.shared c.finish.new.self begin c.args.bodies.items c.args.mains.now c.args.order.now c.in_ok-finish.ensures.follows.0 c.in_ok-report.report
-    c.in_ok-finish.ensures.going c.in_ok-finish.ensures.ended c.in_ok-finish.ensures.in_turn (ap (λ f. f.value) (c.in_ok-finish.ensures.first ∙ c.in_ok-follow.ensures.first) ∙ first)
+    c.in_ok-finish.ensures.still.going c.in_ok-finish.ensures.ended c.in_ok-finish.ensures.still.in_turn (ap (λ f. f.value) (c.in_ok-finish.ensures.still.first ∙ c.in_ok-follow.ensures.still.first) ∙ first)
     c.in_ok-run.ensures.fresh c.in_ok-run.ensures.events c.in_ok-run.ensures.turns c.in_ok-run.ensures.mains c.in_ok-run.ensures.starts
     (leads_on p (lent_bodies L M) (HasUsed c.args.shared) (WaitsAfter L M c.args.shared) following finishing)
     c.in_ok-report.ensures.outcomes c.in_ok-report.ensures.events c.in_ok-report.ensures.labels c.in_ok-report.ensures.output

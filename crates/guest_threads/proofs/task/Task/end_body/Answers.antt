@@ -11,10 +11,10 @@ pub returns-in-Some : goal.returns-in-Some
 returns-in-Some g c = main_throws (g.B.Bodies.making c.args.self.now.program) c.args.self.now c.args.work.now c.args.thrown c.in-Some.throwable c.in-Some.is (sym c.if-not-is_running.ensures) c.requires.doing
 
 pub returns : goal.returns
-returns g c = working_at g.B.Bodies.making c.self.view_is (class_throws (g.B.Bodies.making c.self.inside.program.now) (record { program = c.self.inside.program.now; table = c.self.inside.table.now; limits = c.self.inside.limits; number = c.self.inside.number; main = c.self.inside.main; start = c.self.inside.start.value }) c.args.work.now c.end_body-2.new.self c.replace-replaced.new.self c.args.thrown c.in-Some-thrown.throwable c.in-Ok.error c.in-Some-thrown.is (sym c.if-not-is_running.ensures) c.end_body-2.ensures.standing c.in-Ok.ensures.error c.in-Ok.ensures.replaces (doing_at g.B.Bodies.making (sym c.self.view_is) c.requires.doing))
+returns g c = working_at g.B.Bodies.making c.self.view_is (class_throws _ _ c.args.work.now c.end_body-2.new.self c.replace-replaced.new.self c.args.thrown c.in-Some-thrown.throwable c.in-Ok.error c.in-Some-thrown.is (sym c.if-not-is_running.ensures) c.end_body-2.ensures.standing c.in-Ok.ensures.error c.in-Ok.ensures.replaces (doing_at g.B.Bodies.making (sym c.self.view_is) c.requires.doing))
 
 pub returns-in_default : goal.returns-in_default
 returns-in_default g c = class_returns (g.B.Bodies.making c.args.self.now.program) c.args.self.now c.args.work.now c.end_body.new.self c.args.thrown (none_of c.args.thrown c.in_default.not-Some) (sym c.if-not-is_running.ensures) c.end_body.ensures.standing c.requires.doing
 
 pub leave_at-requires-clause-come : goal.leave_at-requires-clause-come
-leave_at-requires-clause-come g c = come_at g.B.Bodies.making c.self.view_is (has_come_still (g.B.Bodies.making c.self.inside.program.now) (record { program = c.self.inside.program.now; table = c.self.inside.table.now; limits = c.self.inside.limits; number = c.self.inside.number; main = c.self.inside.main; start = c.self.inside.start.value }) c.args.work.now (does.Over c.args.thrown) c.replace-replaced.new.self c.in_default-replaced.ensures.err (doing_at g.B.Bodies.making (sym c.self.view_is) c.requires.doing))
+leave_at-requires-clause-come g c = come_at g.B.Bodies.making c.self.view_is (has_come_still _ _ c.args.work.now (does.Over c.args.thrown) c.replace-replaced.new.self c.in_default-replaced.ensures.err (doing_at g.B.Bodies.making (sym c.self.view_is) c.requires.doing))

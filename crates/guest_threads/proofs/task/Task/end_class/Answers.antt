@@ -13,19 +13,19 @@ use Rattle.guest_threads.proofs.task.Task.end_class.Goals as goal
 pub end-requires-clause-owner : goal.end-requires-clause-owner
 end-requires-clause-owner g c =
     ap (λ (x : Guarded). label_of x.record.events) c.kept-guarded.ensures.record
-    ∙ end_label (g.B.Bodies.making c.self.inside.program.now) (record { program = c.self.inside.program.now; table = c.self.inside.table.now; limits = c.self.inside.limits; number = c.self.inside.number; main = c.self.inside.main; start = c.self.inside.start.value }) c.args.work.now c.args.class c.args.ending c.take_record-taken.new.pass c.in-Ok.held c.requires.next c.in-Ok.ensures.took (working_at g.B.Bodies.making (sym c.self.view_is) c.requires.working)
+    ∙ end_label _ _ c.args.work.now c.args.class c.args.ending c.take_record-taken.new.pass c.in-Ok.held c.requires.next c.in-Ok.ensures.took (working_at g.B.Bodies.making (sym c.self.view_is) c.requires.working)
 
 pub end-requires-clause-throwable : goal.end-requires-clause-throwable
-end-requires-clause-throwable g c = end_range (g.B.Bodies.making c.self.inside.program.now) (record { program = c.self.inside.program.now; table = c.self.inside.table.now; limits = c.self.inside.limits; number = c.self.inside.number; main = c.self.inside.main; start = c.self.inside.start.value }) c.args.work.now c.args.class c.args.ending c.requires.next (working_at g.B.Bodies.making (sym c.self.view_is) c.requires.working)
+end-requires-clause-throwable g c = end_range _ _ c.args.work.now c.args.class c.args.ending c.requires.next (working_at g.B.Bodies.making (sym c.self.view_is) c.requires.working)
 
 pub new-event-requires-clause-kind : goal.new-event-requires-clause-kind
-new-event-requires-clause-kind g c = subst IsInRange (sym c.kind.ensures) (end_range (g.B.Bodies.making c.self.inside.program.now) (record { program = c.self.inside.program.now; table = c.self.inside.table.now; limits = c.self.inside.limits; number = c.self.inside.number; main = c.self.inside.main; start = c.self.inside.start.value }) c.args.work.now c.args.class c.args.ending c.requires.next (working_at g.B.Bodies.making (sym c.self.view_is) c.requires.working))
+new-event-requires-clause-kind g c = subst IsInRange (sym c.kind.ensures) (end_range _ _ c.args.work.now c.args.class c.args.ending c.requires.next (working_at g.B.Bodies.making (sym c.self.view_is) c.requires.working))
 
 pub returns : goal.returns
 returns g c =
     let took = c.in-Ok.ensures.took in
     record {
-      working = working_at g.B.Bodies.making c.self.view_is (ended (g.B.Bodies.making c.self.inside.program.now) (record { program = c.self.inside.program.now; table = c.self.inside.table.now; limits = c.self.inside.limits; number = c.self.inside.number; main = c.self.inside.main; start = c.self.inside.start.value }) c.args.work.now c.end_class.new.self c.args.class c.args.ending c.take_record-taken.new.pass c.give_back_with.new.pass c.in-Ok.held c.in-Ok.held.place c.kept-guarded.result.now.record c.end.new.self.events
+      working = working_at g.B.Bodies.making c.self.view_is (ended _ _ c.args.work.now c.end_class.new.self c.args.class c.args.ending c.take_record-taken.new.pass c.give_back_with.new.pass c.in-Ok.held c.in-Ok.held.place c.kept-guarded.result.now.record c.end.new.self.events
           c.requires.next took.place took (ap (λ (x : Guarded). x.record) c.kept-guarded.ensures.record) c.end_class.ensures.standing c.end.ensures.events c.give_back_with.ensures.back
           (c.give_back_with.ensures.journal ∙ ap (λ (e : Event). drawn c.take_record-taken.new.pass.journal ++ e ∷ []) (c.new-event.ensures ∙ ap (λ (j : Kind). event c.self.inside.number c.args.class j) c.kind.ensures))
           c.give_back_with.ensures.room (working_at g.B.Bodies.making (sym c.self.view_is) c.requires.working));

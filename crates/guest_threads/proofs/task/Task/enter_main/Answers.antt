@@ -7,4 +7,4 @@ pub returns-in_default-outcome : goal.returns-in_default-outcome
 returns-in_default-outcome g c = main_left (g.B.Bodies.making c.args.self.now.program) c.args.self.now c.args.work.now _ c.requires.idle (sym c.last.ensures ∙ c.in-Some.is) c.in_default-outcome.not-Normal c.requires.before c.requires.working
 
 pub returns : goal.returns
-returns g c = working_at g.B.Bodies.making c.self.view_is (entered_main (g.B.Bodies.making c.self.inside.program.now) (record { program = c.self.inside.program.now; table = c.self.inside.table.now; limits = c.self.inside.limits; number = c.self.inside.number; main = c.self.inside.main; start = c.self.inside.start.value }) c.args.work.now c.forget_last.new.self c.enter.new.self c.in-Some.field-0 c.requires.idle (sym c.last.ensures ∙ c.in-Some.is) c.in-Normal.is c.requires.before c.forget_last.ensures.standing c.enter.ensures (working_at g.B.Bodies.making (sym c.self.view_is) c.requires.working))
+returns g c = working_at g.B.Bodies.making c.self.view_is (entered_main _ _ c.args.work.now c.forget_last.new.self c.enter.new.self c.in-Some.field-0 c.requires.idle (sym c.last.ensures ∙ c.in-Some.is) c.in-Normal.is c.requires.before c.forget_last.ensures.standing c.enter.ensures (working_at g.B.Bodies.making (sym c.self.view_is) c.requires.working))

@@ -6,5 +6,5 @@ use Rattle.guest_threads.proofs.task.Task.give_up.Goals as goal
 
 pub returns : goal.returns
 returns g c = record {
-  working = working_at g.B.Bodies.making c.self.view_is (gave_up (g.B.Bodies.making c.self.inside.program.now) (record { program = c.self.inside.program.now; table = c.self.inside.table.now; limits = c.self.inside.limits; number = c.self.inside.number; main = c.self.inside.main; start = c.self.inside.start.value }) c.args.work.now c.end_thread.new.self c.args.class c.args.limit c.requires.next (limit_at g.B.Bodies.making (sym c.self.view_is) _ _ c.requires.limit) (c.end_thread.ensures.standing ∙ ap (thread_ended c.args.work.now.procedure) c.error_at.ensures) (working_at g.B.Bodies.making (sym c.self.view_is) c.requires.working));
+  working = working_at g.B.Bodies.making c.self.view_is (gave_up _ _ c.args.work.now c.end_thread.new.self c.args.class c.args.limit c.requires.next (limit_at g.B.Bodies.making (sym c.self.view_is) _ _ c.requires.limit) (c.end_thread.ensures.standing ∙ ap (thread_ended c.args.work.now.procedure) c.error_at.ensures) (working_at g.B.Bodies.making (sym c.self.view_is) c.requires.working));
 }

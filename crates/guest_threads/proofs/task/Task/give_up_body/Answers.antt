@@ -14,5 +14,5 @@ advance-told-requires g c =
 
 pub returns : goal.returns
 returns g c = record {
-  working = working_at g.B.Bodies.making c.self.view_is (gave_up_run (g.B.Bodies.making c.self.inside.program.now) (record { program = c.self.inside.program.now; table = c.self.inside.table.now; limits = c.self.inside.limits; number = c.self.inside.number; main = c.self.inside.main; start = c.self.inside.start.value }) c.args.work.now c.advance-told.new.self c.args.class c.error_at-error.result c.requires.next c.requires.before c.error_at-error.ensures c.in-Ok.ensures.standing (working_at g.B.Bodies.making (sym c.self.view_is) c.requires.working));
+  working = working_at g.B.Bodies.making c.self.view_is (gave_up_run _ _ c.args.work.now c.advance-told.new.self c.args.class c.error_at-error.result c.requires.next c.requires.before c.error_at-error.ensures c.in-Ok.ensures.standing (working_at g.B.Bodies.making (sym c.self.view_is) c.requires.working));
 }

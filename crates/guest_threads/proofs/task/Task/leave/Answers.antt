@@ -4,7 +4,7 @@ use Rattle.guest_threads.proofs.Viewing.{come_at, fits_at, over_at, why_at, work
 use Rattle.guest_threads.proofs.task.Task.leave.Goals as goal
 
 pub returns-then-is_running : goal.returns-then-is_running
-returns-then-is_running g c = working_at g.B.Bodies.making c.self.view_is (left (g.B.Bodies.making c.self.inside.program.now) (record { program = c.self.inside.program.now; table = c.self.inside.table.now; limits = c.self.inside.limits; number = c.self.inside.number; main = c.self.inside.main; start = c.self.inside.start.value }) (record c.args.work.now { bodies = c.args.work.now.bodies }) c.end_body.new.self c.leave.new.self c.args.error (sym c.if-is_running.ensures) c.end_body.ensures.standing (fits_at g.B.Bodies.making (sym c.self.view_is) _ _ c.requires.fits) (g.met.B.Bodies.limits_stay c.self.inside.program.now) (why_at g.B.Bodies.making (sym c.self.view_is) _ _ _ c.requires.why) c.leave.ensures (come_at g.B.Bodies.making (sym c.self.view_is) c.requires.come))
+returns-then-is_running g c = working_at g.B.Bodies.making c.self.view_is (left _ _ (record c.args.work.now { bodies = c.args.work.now.bodies }) c.end_body.new.self c.leave.new.self c.args.error (sym c.if-is_running.ensures) c.end_body.ensures.standing (fits_at g.B.Bodies.making (sym c.self.view_is) _ _ c.requires.fits) (g.met.B.Bodies.limits_stay c.self.inside.program.now) (why_at g.B.Bodies.making (sym c.self.view_is) _ _ _ c.requires.why) c.leave.ensures (come_at g.B.Bodies.making (sym c.self.view_is) c.requires.come))
 
 pub returns : goal.returns
-returns g c = over_at g.B.Bodies.making c.self.view_is (left_main (g.B.Bodies.making c.self.inside.program.now) (record { program = c.self.inside.program.now; table = c.self.inside.table.now; limits = c.self.inside.limits; number = c.self.inside.number; main = c.self.inside.main; start = c.self.inside.start.value }) c.args.work.now c.leave.new.self c.args.error (sym c.if-is_running.ensures) (fits_at g.B.Bodies.making (sym c.self.view_is) _ _ c.requires.fits) (g.met.B.Bodies.limits_stay c.self.inside.program.now) (why_at g.B.Bodies.making (sym c.self.view_is) _ _ _ c.requires.why) c.leave.ensures (come_at g.B.Bodies.making (sym c.self.view_is) c.requires.come))
+returns g c = over_at g.B.Bodies.making c.self.view_is (left_main _ _ c.args.work.now c.leave.new.self c.args.error (sym c.if-is_running.ensures) (fits_at g.B.Bodies.making (sym c.self.view_is) _ _ c.requires.fits) (g.met.B.Bodies.limits_stay c.self.inside.program.now) (why_at g.B.Bodies.making (sym c.self.view_is) _ _ _ c.requires.why) c.leave.ensures (come_at g.B.Bodies.making (sym c.self.view_is) c.requires.come))

@@ -6,7 +6,7 @@ use Rattle.guest_threads.proofs.Viewing.{doing_at, working_at}
 use Rattle.guest_threads.proofs.task.Task.print.Goals as goal
 
 pub returns : goal.returns
-returns g c = working_at g.B.Bodies.making c.self.view_is (has_printed (g.B.Bodies.making c.self.inside.program.now) (record { program = c.self.inside.program.now; table = c.self.inside.table.now; limits = c.self.inside.limits; number = c.self.inside.number; main = c.self.inside.main; start = c.self.inside.start.value }) c.args.work.now c.forget_last.new.self c.args.text c.draw.new.pass (stamped c.draw.result None c.in-Ok.event) c.in-Ok.ensures c.draw.ensures.pass c.draw.ensures.journal c.draw.ensures.places c.draw.ensures.room c.requires.room c.forget_last.ensures.standing (doing_at g.B.Bodies.making (sym c.self.view_is) c.requires.doing))
+returns g c = working_at g.B.Bodies.making c.self.view_is (has_printed _ _ c.args.work.now c.forget_last.new.self c.args.text c.draw.new.pass (stamped c.draw.result None c.in-Ok.event) c.in-Ok.ensures c.draw.ensures.same c.draw.ensures.journal c.draw.ensures.places c.draw.ensures.room c.requires.room c.forget_last.ensures.standing (doing_at g.B.Bodies.making (sym c.self.view_is) c.requires.doing))
 
 pub leave_at-requires-clause-come : goal.leave_at-requires-clause-come
 leave_at-requires-clause-come g c = has_come_on (g.B.Bodies.making c.args.self.now.program) c.args.self.now c.args.work.now (does.Prints c.args.text) c.requires.doing

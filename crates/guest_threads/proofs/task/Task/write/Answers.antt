@@ -15,19 +15,19 @@ use Rattle.guest_threads.proofs.task.Task.write.Goals as goal
 pub write_static-written-requires-clause-open : goal.write_static-written-requires-clause-open
 write_static-written-requires-clause-open g c =
     let x = (doing_at g.B.Bodies.making (sym c.self.view_is) c.requires.doing) in
-    subst (λ (r : Guarded). MayUse c.self.inside.number (label_of r.record.events)) (sym c.kept.ensures.record) (may_use_found (g.B.Bodies.making c.self.inside.program.now) (record { program = c.self.inside.program.now; table = c.self.inside.table.now; limits = c.self.inside.limits; number = c.self.inside.number; main = c.self.inside.main; start = c.self.inside.start.value }) (record c.args.work.now { bodies = x.from }) c.args.class c.take_record-taken.new.pass c.in-Ok.held x.fits.1 c.in-Ok.ensures.took x.working)
+    subst (λ (r : Guarded). MayUse c.self.inside.number (label_of r.record.events)) (sym c.kept.ensures.record) (may_use_found _ _ (record c.args.work.now { bodies = x.from }) c.args.class c.take_record-taken.new.pass c.in-Ok.held x.fits.1 c.in-Ok.ensures.took x.working)
 
 pub leave_at-requires-clause-come : goal.leave_at-requires-clause-come
 leave_at-requires-clause-come g c = come_at g.B.Bodies.making c.self.view_is (let x = (doing_at g.B.Bodies.making (sym c.self.view_is) c.requires.doing) in
     let took = c.in-Ok.ensures.took in
-    has_come_on (g.B.Bodies.making c.self.inside.program.now) (record { program = c.self.inside.program.now; table = c.self.inside.table.now; limits = c.self.inside.limits; number = c.self.inside.number; main = c.self.inside.main; start = c.self.inside.start.value }) _ _ (still_doing (g.B.Bodies.making c.self.inside.program.now) (record { program = c.self.inside.program.now; table = c.self.inside.table.now; limits = c.self.inside.limits; number = c.self.inside.number; main = c.self.inside.main; start = c.self.inside.start.value }) c.args.work.now c.give_back_untouched.new.pass (does.Puts c.args.class c.args.field c.args.given) x
-    (untouched (g.B.Bodies.making c.self.inside.program.now) (record { program = c.self.inside.program.now; table = c.self.inside.table.now; limits = c.self.inside.limits; number = c.self.inside.number; main = c.self.inside.main; start = c.self.inside.start.value }) (record c.args.work.now { bodies = x.from }) c.args.class c.take_record-taken.new.pass c.give_back_untouched.new.pass c.in-Ok.held c.in-Ok.held.place c.write_static-written.new.self.events c.kept.result.now.record x.fits.0
+    has_come_on _ _ _ _ (still_doing _ _ c.args.work.now c.give_back_untouched.new.pass (does.Puts c.args.class c.args.field c.args.given) x
+    (untouched _ _ (record c.args.work.now { bodies = x.from }) c.args.class c.take_record-taken.new.pass c.give_back_untouched.new.pass c.in-Ok.held c.in-Ok.held.place c.write_static-written.new.self.events c.kept.result.now.record x.fits.0
     took.place (ap (λ (r : _). r.events) c.in_default-written.ensures.err) (ap (λ (r : Guarded). r.record) c.kept.ensures.record) took c.give_back_untouched.ensures.back c.give_back_untouched.ensures.journal c.give_back_untouched.ensures.room x.working)))
 
 pub new-event-requires-clause-kind : goal.new-event-requires-clause-kind
 new-event-requires-clause-kind g c = range_of_last _ c.kept.result.now.record.events (event c.self.inside.number _ (kind.Puts c.args.field _)) c.write_static-written.new.self.events c.in-Ok-written.ensures.events c.is_lawful.ensures.numbers
 
 pub returns : goal.returns
-returns g c = working_at g.B.Bodies.making c.self.view_is (write_was_made (g.B.Bodies.making c.self.inside.program.now) (record { program = c.self.inside.program.now; table = c.self.inside.table.now; limits = c.self.inside.limits; number = c.self.inside.number; main = c.self.inside.main; start = c.self.inside.start.value }) c.args.work.now c.forget_last.new.self c.args.class c.args.field c.args.given c.value-value.result c.take_record-taken.new.pass c.give_back_with.new.pass c.in-Ok.held c.in-Ok.held.place c.kept.result.now.record c.write_static-written.new.self (doing_at g.B.Bodies.making (sym c.self.view_is) c.requires.doing) c.in-Ok.ensures.took
-    (ap (λ (r : Guarded). r.record) c.kept.ensures.record) c.write_static-written.ensures.fields c.in-Ok-written.ensures.events c.value-value.ensures c.in-Ok.ensures.took.place c.give_back_with.ensures.back
+returns g c = working_at g.B.Bodies.making c.self.view_is (write_was_made _ _ c.args.work.now c.forget_last.new.self c.args.class c.args.field c.args.given c.value-value.result c.take_record-taken.new.pass c.give_back_with.new.pass c.in-Ok.held c.in-Ok.held.place c.kept.result.now.record c.write_static-written.new.self (doing_at g.B.Bodies.making (sym c.self.view_is) c.requires.doing) c.in-Ok.ensures.took
+    (ap (λ (r : Guarded). r.record) c.kept.ensures.record) c.write_static-written.ensures.class.1 c.in-Ok-written.ensures.events c.value-value.ensures c.in-Ok.ensures.took.place c.give_back_with.ensures.back
     (c.give_back_with.ensures.journal ∙ ap (λ (e : Event). drawn c.take_record-taken.new.pass.journal ++ e ∷ []) c.new-event.ensures) c.give_back_with.ensures.room c.requires.room c.forget_last.ensures.standing)

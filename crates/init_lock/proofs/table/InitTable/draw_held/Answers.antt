@@ -6,28 +6,17 @@ use Rattle.init_lock.proofs.table.InitTable.draw_held.Goals as goal
 pub stamp-requires-clause-out : goal.stamp-requires-clause-out
 stamp-requires-clause-out g c = (c.held.inside.taken.value, search rules)
 
-pub returns-clause-seen : goal.returns-clause-seen
-returns-clause-seen g c =
+pub returns-clause-more : goal.returns-clause-more
+returns-clause-more g c =
     let d = extended c.args.pass.now.places _ c.held.inside.place c.args.event c.held.inside.taken.value (search rules) c.stamp.ensures.places in
-    let seen = d.0 in
-    search rules
-
-pub returns-clause-out : goal.returns-clause-out
-returns-clause-out g c =
-    let d = extended c.args.pass.now.places _ c.held.inside.place c.args.event c.held.inside.taken.value (search rules) c.stamp.ensures.places in
-    let out = d.1 in
-    search rules
-
-pub returns-clause-last : goal.returns-clause-last
-returns-clause-last g c =
-    let d = extended c.args.pass.now.places _ c.held.inside.place c.args.event c.held.inside.taken.value (search rules) c.stamp.ensures.places in
-    let last = d.2 in
-    search rules
-
-pub returns-clause-others : goal.returns-clause-others
-returns-clause-others g c =
     let same = others_same c.args.pass.now.places _ c.held.inside.place (extend c.args.event) c.stamp.ensures.places in
-    search rules
-
-pub returns-clause-holding : goal.returns-clause-holding
-returns-clause-holding g c = still_away_at c.args.pass.now.places _ c.held.inside.place c.args.held.now.place (extend c.args.event) (ap (λ z. z.place) c.held.view_is) c.stamp.ensures.places
+    let seen = d.0 in
+    let out = d.1 in
+    let last = d.2 in
+    record {
+      seen = search rules;
+      out = search rules;
+      last = search rules;
+      others = search rules;
+      holding = still_away_at c.args.pass.now.places _ c.held.inside.place c.args.held.now.place (extend c.args.event) (ap (λ z. z.place) c.held.view_is) c.stamp.ensures.places;
+    }

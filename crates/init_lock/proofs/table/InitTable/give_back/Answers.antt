@@ -20,36 +20,22 @@ invariant_of-pass g c =
     let t = returned g.R.Keeps.kept _ _ _ _ _ c.held.inside.place c.held.inside.taken.value c.held.inside.block c.pass.inside.seat.me c.put_back.new.seat.me c.pass.invariant (search rules) c.put_back.ensures.freed in
     subst (λ (z : TableId × Option ℕ). PassHolds z.0.slots c.pass.inside.number z.1 (padded_value c.pass.inside.journal).events (padded_value c.pass.inside.journal).room c.put_back.new.seat.me) (λ i. (sym c.put_back.ensures.table.0 i, sym c.without-pass-inside.ensures i)) t.holds
 
-pub returns-clause-seen : goal.returns-clause-seen
-returns-clause-seen g c =
+pub returns : goal.returns
+returns g c =
     let t = returned g.R.Keeps.kept _ _ _ _ _ c.held.inside.place c.held.inside.taken.value c.held.inside.block c.pass.inside.seat.me c.put_back.new.seat.me c.pass.invariant (search rules) c.put_back.ensures.freed in
+    let places = t.places ∙ (λ i. modify ((c.held.view_is i).place) (leave c.held.inside.block) (c.pass.view_is i).places) in
     let seen = t.seen in
-    search rules
-
-pub returns-clause-out : goal.returns-clause-out
-returns-clause-out g c =
-    let t = returned g.R.Keeps.kept _ _ _ _ _ c.held.inside.place c.held.inside.taken.value c.held.inside.block c.pass.inside.seat.me c.put_back.new.seat.me c.pass.invariant (search rules) c.put_back.ensures.freed in
     let out = t.out in
-    search rules
-
-pub returns-clause-last : goal.returns-clause-last
-returns-clause-last g c =
-    let t = returned g.R.Keeps.kept _ _ _ _ _ c.held.inside.place c.held.inside.taken.value c.held.inside.block c.pass.inside.seat.me c.put_back.new.seat.me c.pass.invariant (search rules) c.put_back.ensures.freed in
     let last = t.last in
-    search rules
-
-pub returns-clause-looks : goal.returns-clause-looks
-returns-clause-looks g c =
-    let t = returned g.R.Keeps.kept _ _ _ _ _ c.held.inside.place c.held.inside.taken.value c.held.inside.block c.pass.inside.seat.me c.put_back.new.seat.me c.pass.invariant (search rules) c.put_back.ensures.freed in
     let looks = t.looks in
-    search rules
-
-pub returns-clause-others : goal.returns-clause-others
-returns-clause-others g c =
-    let t = returned g.R.Keeps.kept _ _ _ _ _ c.held.inside.place c.held.inside.taken.value c.held.inside.block c.pass.inside.seat.me c.put_back.new.seat.me c.pass.invariant (search rules) c.put_back.ensures.freed in
-    others_same c.args.pass.now.places _ c.args.held.place (leave c.held.inside.block) (t.places ∙ (λ i. modify ((c.held.view_is i).place) (leave c.held.inside.block) (c.pass.view_is i).places))
-
-pub returns-clause-away : goal.returns-clause-away
-returns-clause-away g c =
-    let t = returned g.R.Keeps.kept _ _ _ _ _ c.held.inside.place c.held.inside.taken.value c.held.inside.block c.pass.inside.seat.me c.put_back.new.seat.me c.pass.invariant (search rules) c.put_back.ensures.freed in
-    gave_back c.args.pass.now.places _ c.args.held.place (leave c.held.inside.block) (t.places ∙ (λ i. modify ((c.held.view_is i).place) (leave c.held.inside.block) (c.pass.view_is i).places)) (ap (λ z. out_of z.place (places_of c.put_back.new.seat.me.0)) (sym c.held.view_is) ∙ t.out)
+    record {
+      seen = search rules;
+      out = search rules;
+      last = search rules;
+      others = others_same c.args.pass.now.places _ c.args.held.place (leave c.held.inside.block) places;
+      looks = search rules;
+      away = gave_back c.args.pass.now.places _ c.args.held.place (leave c.held.inside.block) places (ap (λ z. out_of z.place (places_of c.put_back.new.seat.me.0)) (sym c.held.view_is) ∙ t.out);
+      journal = search rules;
+      room = search rules;
+      same = record { table = search rules; number = search rules; opening = search rules };
+    }

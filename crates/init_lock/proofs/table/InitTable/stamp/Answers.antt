@@ -23,16 +23,20 @@ invariant_of-pass g c =
     subst (λ (z : _). PassHolds z.slots c.pass.inside.number c.pass.inside.carried c.push.new.self.events c.push.new.self.room c.fetch_add-stamp.new.seat.me) (sym c.fetch_add-stamp.ensures.0)
     (subst (λ (z : _). PassHolds c.pass.inside.seat.table_id.slots c.pass.inside.number c.pass.inside.carried z c.push.new.self.room c.fetch_add-stamp.new.seat.me) (sym events) one.holds)
 
-pub returns-clause-places : goal.returns-clause-places
-returns-clause-places g c =
+pub returns : goal.returns
+returns g c =
     let told = drew_said g.R.Keeps.kept g.R.Keeps.may_draw g.R.Keeps.follows g.R.Keeps.settles g.R.Keeps.follows_on g.R.Keeps.follows_itself c.self.inside.table.shared.key c.args.place c.args.event _ _ _ c.fetch_add-stamp.result _ c.requires.told c.fetch_add-stamp.ensures.2 in
     let less = c.push.ensures.room ∙ ap (λ j. j.room) c.deref_mut.ensures.value in
     let one = drew_one _ _ _ c.push.new.self.room _ _ c.args.place c.args.event c.fetch_add-stamp.result c.pass.inside.seat.me c.fetch_add-stamp.new.seat.me c.pass.invariant less told.0 in
-    let places = one.places in
-    one.places ∙ ap (λ z. drawn_places c.args.place c.args.event z.places) c.pass.view_is
-
-pub returns-clause-rising : goal.returns-clause-rising
-returns-clause-rising g c =
-    let told = drew_said g.R.Keeps.kept g.R.Keeps.may_draw g.R.Keeps.follows g.R.Keeps.settles g.R.Keeps.follows_on g.R.Keeps.follows_itself c.self.inside.table.shared.key c.args.place c.args.event _ _ _ c.fetch_add-stamp.result _ c.requires.told c.fetch_add-stamp.ensures.2 in
     let first = subst (λ (z : _). Each (λ p. AreBelow c.fetch_add-stamp.result p.journal) z.0) c.pass.invariant.tied told.2 in
-    subst (λ (z : _). AreBelow c.fetch_add-stamp.result z.journal) c.pass.view_is first.0
+    let below = told.1 in
+    let looks = one.looks in
+    record {
+      journal = search rules;
+      room = search rules;
+      below = search rules;
+      rising = subst (λ (z : _). AreBelow c.fetch_add-stamp.result z.journal) c.pass.view_is first.0;
+      places = one.places ∙ ap (λ z. drawn_places c.args.place c.args.event z.places) c.pass.view_is;
+      looks = search rules;
+      same = record { table = search rules; number = search rules; opening = search rules };
+    }

@@ -30,4 +30,7 @@ returns-clause-taken g c =
       others = others_same c.args.pass.now.places _ c.args.place _ places;
       looks = search rules;
       holding = took_away c.args.pass.now.places _ c.args.place _ places;
+      journal = search rules;
+      room = search rules;
+      same = record { table = search rules; number = search rules; opening = search rules };
     }

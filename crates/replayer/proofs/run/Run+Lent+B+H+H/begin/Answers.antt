@@ -1,4 +1,5 @@
 use Rattle.std.proofs.Common.{rules, ◌≡◌, ◌∷◌, [], length, map, inl, ap, arith, ◌∙◌, sym}
+use Rattle.std.proofs.lemmas.Grind.{common_steps}
 use Rattle.std.proofs.lemmas.List.{length-map}
 use Rattle.bodies.specs.Lending.{lent_at_start, lent_bodies}
 use Rattle.replayer.proofs.Fresh.{one_begins}
@@ -14,18 +15,25 @@ threads-preserved g c =
     one_begins p (lent_bodies g.B.Lends.lending (g.B.Bodies.making p)) (λ s. s.uses ≡ []) c.in_ok-log.log c.args.mains.now (map lent_at_start c.into_iter-bodies-iterator.result.rest.items) c.threads.threads.items c.push.new.self.items (map lent_at_start c.threads.bodies-iterator.rest.items) (map lent_at_start c.next.new.self.rest.items) c.in_ok-thread.thread c.len-number.result _ (lent_at_start c.in-Some.bodies)
     c.in_ok-push.ensures.items at c.in_ok-thread.ensures.main c.in_ok-thread.ensures.start (ap (map lent_at_start) more) c.in_ok-thread.ensures.going c.in_ok-thread.ensures.number c.in_ok-thread.ensures.done c.in_ok-thread.ensures.gave_up (ap (λ s. s.uses) c.in_ok-thread.ensures.bodies) c.threads.invariant
 
-pub returns-clause-going : goal.returns-clause-going
-returns-clause-going g c =
+pub returns : goal.returns
+returns g c =
     let p = c.args.program.now in
     let none : length c.threads.bodies-iterator.rest.items ≡ 0 = (let a = c.in-None.ensures.steps.0 in let o = c.threads.bodies-iterator.rest.ok in search rules) in
     let mapped : length (map (lent_at_start {H = g.row.H.Denot}) c.threads.bodies-iterator.rest.items) ≡ length c.threads.bodies-iterator.rest.items = length-map c.threads.bodies-iterator.rest.items (lent_at_start {H = g.row.H.Denot}) in
-    let all = c.threads.invariant.3 in
+    let begun = c.threads.invariant in
+    let all = begun.3 in
     record {
-      log = c.in_ok-log.ensures.log;
-      count = c.in_ok-log.ensures.threads ∙ omega (arith, none, mapped, all);
-      numbers = λ t other low. (c.threads.invariant.0 t other low).number;
-      threads = λ t other low. there_of p (lent_bodies g.B.Lends.lending (g.B.Bodies.making p)) c.in_ok-log.log _ (c.threads.invariant.0 t other low).done (inl (c.threads.invariant.0 t other low).going);
+      going = record {
+        log = c.in_ok-log.ensures.log;
+        count = c.in_ok-log.ensures.threads ∙ omega (arith, none, mapped, all);
+        numbers = λ t other low. (begun.0 t other low).number;
+        threads = λ t other low. there_of p (lent_bodies g.B.Lends.lending (g.B.Bodies.making p)) c.in_ok-log.log _ (begun.0 t other low).done (inl (begun.0 t other low).going);
+      };
+      in_turn = fresh_in_turn _ (c.new-2.ensures.state ∙ sym c.new-2.ensures.first) c.new-2.ensures.turns (λ t other low. (begun.0 t other low).bodies);
+      fresh = search rules;
+      events = search rules;
+      turns = search rules;
+      mains = (let is = begun.1 in grind (arith, common_steps));
+      starts = (let is = begun.2 in grind (arith, common_steps));
+      first = search rules;
     }
-
-pub returns-clause-in_turn : goal.returns-clause-in_turn
-returns-clause-in_turn g c = fresh_in_turn _ (c.new-2.ensures.state ∙ sym c.new-2.ensures.first) c.new-2.ensures.turns (λ t other low. (c.threads.invariant.0 t other low).bodies)

@@ -24,7 +24,7 @@ give_up-requires-clause-held g c =
     let W = WaitsAfter g.B.Lends.lending (g.B.Bodies.making p) c.rounds.self.shared.first.value in
     let r = c.go_lowest.new.self in
     let held : IsFound p M U W c.rounds.self r (found.Held c.in-Held.number) = subst (IsFound p M U W c.rounds.self r) c.in-Held.is c.in_ok-go_lowest.ensures.found in
-    subst (λ f. ThreadAt r c.in-Held.number (IsHeld p M (WaitsAfter g.B.Lends.lending (g.B.Bodies.making p) f.value r.shared.turns.items c.in-Held.number) r.log)) (sym c.in_ok-go_lowest.ensures.first) held.2
+    subst (λ f. ThreadAt r c.in-Held.number (IsHeld p M (WaitsAfter g.B.Lends.lending (g.B.Bodies.making p) f.value r.shared.turns.items c.in-Held.number) r.log)) (sym c.in_ok-go_lowest.ensures.still.first) held.2
 
 pub rounds-preserved : goal.rounds-preserved
 rounds-preserved g c =
@@ -35,8 +35,8 @@ rounds-preserved g c =
     let gone = c.rounds.invariant.leads.0 in
     let before = c.rounds.invariant.leads.1 in
     let r = c.go_lowest.new.self in
-    let e = c.in_ok-go_lowest.ensures in
-    let found_so = subst (λ f. IsFound p M (HasUsed f.value) (WaitsAfter g.B.Lends.lending (g.B.Bodies.making p) f.value) c.rounds.self r c.in_ok-go_lowest.field-0) c.rounds.invariant.first e.found in
+    let e = c.in_ok-go_lowest.ensures.still in
+    let found_so = subst (λ f. IsFound p M (HasUsed f.value) (WaitsAfter g.B.Lends.lending (g.B.Bodies.making p) f.value) c.rounds.self r c.in_ok-go_lowest.field-0) c.rounds.invariant.first c.in_ok-go_lowest.ensures.found in
     elim c.match-branch-2.branch [
       | in-GoesOn w ↦ (let on : IsFound p M U W c.rounds.self r found.GoesOn = subst (IsFound p M U W c.rounds.self r) w.in-GoesOn.is found_so in
           subst (λ s. record { going : AreGoing p M s; in_turn : AreInTurn s; first : s.shared.first ≡ c.args.self.now.shared.first; leads : (gone : List ℕ) × Leads p M U W [] [] c.args.self.now [] gone s }) (sym w.self-is)
@@ -44,12 +44,13 @@ rounds-preserved g c =
       | in-Held w ↦ (let t = w.in-Held.number in
           let held : IsFound p M U W c.rounds.self r (found.Held t) = subst (IsFound p M U W c.rounds.self r) w.in-Held.is found_so in
           let up = w.give_up.ensures in
+          let still = up.alone.still in
           subst (λ s. record { going : AreGoing p M s; in_turn : AreInTurn s; first : s.shared.first ≡ c.args.self.now.shared.first; leads : (gone : List ℕ) × Leads p M U W [] [] c.args.self.now [] gone s }) (sym w.self-is)
           (record {
-            going = up.going;
-            in_turn = up.in_turn;
-            first = up.first ∙ (e.first ∙ c.rounds.invariant.first);
-            leads = (t ∷ gone, leads_on p M U W (leads_on p M U W before (held.0 gone)) (gave_up_turn p M U W gone t r w.give_up.new.self held.1 e.going held.2 held.3 held.4 (record { turned = up.turned.0; own = up.turned.1; turns = up.turned.2 }) up.log up.others up.gave_up));
+            going = still.going;
+            in_turn = still.in_turn;
+            first = still.first ∙ (e.first ∙ c.rounds.invariant.first);
+            leads = (t ∷ gone, leads_on p M U W (leads_on p M U W before (held.0 gone)) (gave_up_turn p M U W gone t r w.give_up.new.self held.1 e.going held.2 held.3 held.4 up.alone.turned up.log up.alone.others up.gave_up));
           }))
     ]
 

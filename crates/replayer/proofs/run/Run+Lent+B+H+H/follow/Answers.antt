@@ -28,8 +28,9 @@ order-preserved g c =
     let r = c.order.self in
     let s = c.go.new.self in
     let e = c.in_ok-go.ensures in
+    let on = e.alone.still in
     let low : t < length r.threads.items = subst (λ (n : ℕ). t < n) (sym c.order.invariant.many) (all_at (λ u. u < length c.args.self.now.threads.items) c.args.order.now c.order.number-index 0 c.requires.order c.order-test.true) in
     let gone = subst (λ f. HasGone p M (HasUsed f.value) (WaitsAfter g.B.Lends.lending (g.B.Bodies.making p) f.value) t r s c.in_ok-go.field-0) c.order.invariant.first e.gone in
-    let one = one_turn p M U W (drop (c.order.number-index + 1) c.args.order.now) t r s c.in_ok-go.field-0 low e.going (record { turned = e.turned.0; own = e.turned.1; turns = e.turned.2 }) gone e.others e.there in
+    let one = one_turn p M U W (drop (c.order.number-index + 1) c.args.order.now) t r s c.in_ok-go.field-0 low on.going e.alone.turned gone e.alone.others e.there in
     let so_far = subst (λ (ns : List ℕ). Leads p M U W c.args.order.now [] c.args.self.now ns [] r) (drop_more c.args.order.now c.order.number-index 0 c.order-test.true) c.order.invariant.leads in
-    record { going = e.going; in_turn = e.in_turn; first = e.first ∙ c.order.invariant.first; leads = leads_on p M U W so_far one; many = same_length p M U W e.others ∙ c.order.invariant.many }
+    record { going = on.going; in_turn = on.in_turn; first = on.first ∙ c.order.invariant.first; leads = leads_on p M U W so_far one; many = same_length p M U W e.alone.others ∙ c.order.invariant.many }

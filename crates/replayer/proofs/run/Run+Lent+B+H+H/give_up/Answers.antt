@@ -32,12 +32,12 @@ returns-in-Some g c =
     let both = then_by same.number c.give_up.ensures.turned c.end.ensures.turned in
     let turned = subst (λ (n : ℕ). HasTurned n c.args.self.now.shared c.end.new.shared w.bodies.uses c.end.new.self.bodies.uses) (number_is p M U W h c.requires.going) both in
     record {
-      going = all_going p M U W h c.requires.going.log refl (λ v n a. a) (ended_over p M c.args.self.now.log c.give_up.new.self c.end.new.self c.in-Some.done left c.end.ensures.ends c.in-Some.ensures.going) c.requires.going;
-      in_turn = replaced_in_turn p M U W h turned c.requires.in_turn;
-      first = turned.first;
-      turned = (turned.turned, turned.own, turned.turns);
+      alone = record {
+        still = record { going = all_going p M U W h c.requires.going.log refl (λ v n a. a) (ended_over p M c.args.self.now.log c.give_up.new.self c.end.new.self c.in-Some.done left c.end.ensures.ends c.in-Some.ensures.going) c.requires.going; in_turn = replaced_in_turn p M U W h turned c.requires.in_turn; first = turned.first };
+        turned = record { turned = turned.turned; own = turned.own; turns = turned.turns };
+        others = others_same p M U W h;
+      };
       log = refl;
-      others = others_same p M U W h;
       gave_up = λ other. ap (λ v. v.gave_up) (now_there p M U W h other) ∙ (left.gave_up ∙ same.gave_up);
     }
 
@@ -55,11 +55,11 @@ returns-in_default g c =
     record { within = c.requires.number; was = c.index_mut-thread.ensures.value; now = refl; number = same.number; main = same.main; start = same.start } in
     let turned = subst (λ (n : ℕ). HasTurned n r.shared c.give_up.new.shared w.bodies.uses c.give_up.new.self.bodies.uses) (number_is p M U W h c.requires.going) c.give_up.ensures.turned in
     record {
-      going = all_going p M U W h c.requires.going.log refl (λ v n a. a) (there_of p M r.log c.give_up.new.self (same.done ∙ held.done) (inl c.in_default.ensures.going)) c.requires.going;
-      in_turn = replaced_in_turn p M U W h turned c.requires.in_turn;
-      first = turned.first;
-      turned = (turned.turned, turned.own, turned.turns);
+      alone = record {
+        still = record { going = all_going p M U W h c.requires.going.log refl (λ v n a. a) (there_of p M r.log c.give_up.new.self (same.done ∙ held.done) (inl c.in_default.ensures.going)) c.requires.going; in_turn = replaced_in_turn p M U W h turned c.requires.in_turn; first = turned.first };
+        turned = record { turned = turned.turned; own = turned.own; turns = turned.turns };
+        others = others_same p M U W h;
+      };
       log = refl;
-      others = others_same p M U W h;
       gave_up = λ other. ap (λ v. v.gave_up) (now_there p M U W h other) ∙ same.gave_up;
     }

@@ -24,7 +24,7 @@ returns-in-Ended g c =
     let step = subst (TurnsTo p M (WaitsAt g.B.Lends.lending (g.B.Bodies.making p) c.advance.new.shared.state) c.args.self.now.log w c.advance.new.log c.advance.new.self) c.in-Ended.is c.in_ok-turn.ensures.turn in
     let x = ended_now p M U W c.args.number c.args.self.now _ w c.advance.new.self c.end.new.self c.in-Ended.done h same left (none_else w.done (λ o q. c.in_default.not-Some o q)) c.end.ensures.ends
     step.0 step.1 c.requires.going in
-    record { going = x.going; in_turn = replaced_in_turn p M U W h turned c.requires.in_turn; first = turned.first; turned = (turned.turned, turned.own, turned.turns); gone = x.gone; others = x.others; there = x.there }
+    record { alone = record { still = record { going = x.going; in_turn = replaced_in_turn p M U W h turned c.requires.in_turn; first = turned.first }; turned = record { turned = turned.turned; own = turned.own; turns = turned.turns }; others = x.others }; gone = x.gone; there = x.there }
 
 pub returns-in-Comes : goal.returns-in-Comes
 returns-in-Comes g c =
@@ -42,7 +42,7 @@ returns-in-Comes g c =
     (turns_by p M (WaitsAt g.B.Lends.lending (g.B.Bodies.making p) c.advance.new.shared.state) (W c.advance.new.shared.turns.items c.args.number) c.args.self.now.log w c.advance.new.log c.advance.new.self turn.Comes
     (λ in_body waits. (used, subst (λ m. WaitsAt g.B.Lends.lending (g.B.Bodies.making p) m in_body c.advance.new.self.bodies) (shared_now c.args.self.now _ turned.first in_turn) waits))
     (subst (TurnsTo p M (WaitsAt g.B.Lends.lending (g.B.Bodies.making p) c.advance.new.shared.state) c.args.self.now.log w c.advance.new.log c.advance.new.self) c.in-Comes.is c.in_ok-turn.ensures.turn)) c.requires.going in
-    record { going = x.going; in_turn = in_turn; first = turned.first; turned = (turned.turned, turned.own, turned.turns); gone = x.gone; others = x.others; there = x.there }
+    record { alone = record { still = record { going = x.going; in_turn = in_turn; first = turned.first }; turned = record { turned = turned.turned; own = turned.own; turns = turned.turns }; others = x.others }; gone = x.gone; there = x.there }
 
 pub returns-in_default-2 : goal.returns-in_default-2
 returns-in_default-2 g c =
@@ -60,4 +60,4 @@ returns-in_default-2 g c =
     (turns_by p M (WaitsAt g.B.Lends.lending (g.B.Bodies.making p) c.advance.new.shared.state) (W c.advance.new.shared.turns.items c.args.number) c.args.self.now.log w c.advance.new.log c.advance.new.self c.in_ok-turn.turn
     (λ in_body waits. (used, subst (λ m. WaitsAt g.B.Lends.lending (g.B.Bodies.making p) m in_body c.advance.new.self.bodies) (shared_now c.args.self.now _ turned.first in_turn) waits))
     c.in_ok-turn.ensures.turn) c.requires.going in
-    record { going = x.going; in_turn = in_turn; first = turned.first; turned = (turned.turned, turned.own, turned.turns); gone = x.gone; others = x.others; there = x.there }
+    record { alone = record { still = record { going = x.going; in_turn = in_turn; first = turned.first }; turned = record { turned = turned.turned; own = turned.own; turns = turned.turns }; others = x.others }; gone = x.gone; there = x.there }

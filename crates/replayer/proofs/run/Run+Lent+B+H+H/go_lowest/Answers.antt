@@ -4,7 +4,7 @@ use Rattle.bodies.specs.Lending.{lent_bodies}
 use Rattle.replayer.specs.declared.thread.Turn.TheVariants as turn
 use Rattle.replayer.specs.AllGoing.{HasGone}
 use Rattle.replayer.specs.OrderedRun.{HasUsed, WaitsAfter}
-use Rattle.replayer.proofs.Followed.{HasOwn, IsLowestHeld, leads_nowhere, leads_on, lowest_ended, lowest_turn, lowest_waits, passed_ended, passed_waits, passes_over, same_length, silent_turn}
+use Rattle.replayer.proofs.Followed.{IsLowestHeld, leads_nowhere, leads_on, lowest_ended, lowest_turn, lowest_waits, passed_ended, passed_waits, passes_over, same_length, silent_turn}
 use Rattle.replayer.proofs.run.Run+Lent+B+H+H.go_lowest.Goals.{in-Waits, in-Ended}
 use Rattle.replayer.proofs.run.Run+Lent+B+H+H.go_lowest.Goals as goal
 
@@ -34,12 +34,13 @@ returns-in-Event-clause-found g c gone =
     let r = c.threads.self in
     let s = c.go.new.self in
     let e = c.in_ok-go.ensures in
+    let on = e.alone.still in
     let low : n < length r.threads.items = search rules in
-    let own : HasOwn p M U W n r s = record { turned = e.turned.0; own = e.turned.1; turns = e.turned.2 } in
+    let own = e.alone.turned in
     let goes = subst (λ f. HasGone p M (HasUsed f.value) (WaitsAfter g.B.Lends.lending (g.B.Bodies.making p) f.value) n r s c.in_ok-go.field-0) c.threads.invariant.first e.gone in
     leads_on p M U W (c.threads.invariant.leads gone) (⊎_elim
-    (λ is. lowest_turn p M U W gone n r s low c.threads.invariant.going e.going c.threads.invariant.passed own (subst (HasGone p M U W n r s) is goes) e.others e.there)
-    (λ is. let silent : HasGone p M U W n r s turn.Silent = subst (HasGone p M U W n r s) is goes in silent_turn p M U W gone n r s low c.threads.invariant.going e.going c.threads.invariant.passed own silent e.others e.there)
+    (λ is. lowest_turn p M U W gone n r s low c.threads.invariant.going on.going c.threads.invariant.passed own (subst (HasGone p M U W n r s) is goes) e.alone.others e.there)
+    (λ is. let silent : HasGone p M U W n r s turn.Silent = subst (HasGone p M U W n r s) is goes in silent_turn p M U W gone n r s low c.threads.invariant.going on.going c.threads.invariant.passed own silent e.alone.others e.there)
     c.in-Event.is)
 
 pub threads-preserved : goal.threads-preserved
@@ -52,23 +53,24 @@ threads-preserved g c =
     let r = c.threads.self in
     let s = c.go.new.self in
     let e = c.in_ok-go.ensures in
-    let o = e.others in
+    let on = e.alone.still in
+    let o = e.alone.others in
     let h = e.there in
     let goes = subst (λ f. HasGone p M (HasUsed f.value) (WaitsAfter g.B.Lends.lending (g.B.Bodies.making p) f.value) n r s c.in_ok-go.field-0) c.threads.invariant.first e.gone in
     elim c.match-branch-2.branch [
       | in-Waits w ↦ (let gone_on = subst (HasGone p M U W n r s) w.in-Waits.is goes in record {
-        going = e.going;
-        in_turn = e.in_turn;
-        first = e.first ∙ c.threads.invariant.first;
+        going = on.going;
+        in_turn = on.in_turn;
+        first = on.first ∙ c.threads.invariant.first;
         many = same_length p M U W o ∙ c.threads.invariant.many;
         leads = λ gone. leads_on p M U W (c.threads.invariant.leads gone) (passes_over p M U W gone n r s gone_on.0 gone_on.1 o h);
         passed = passed_waits p M U W n r s gone_on o h c.threads.invariant.passed;
         held = lowest_waits p M U W n r s c.threads.held c.match-branch-2.held (λ q. w.held-is ∙ (w.or-held.ensures ∙ ap (λ z. option_or z (Some n)) q)) (λ t q. w.held-is ∙ (w.or-held.ensures ∙ ap (λ z. option_or z (Some n)) q)) gone_on o h c.threads.invariant.held;
       })
       | in-Ended w ↦ (let gone_on = subst (HasGone p M U W n r s) w.in-Ended.is goes in record {
-        going = e.going;
-        in_turn = e.in_turn;
-        first = e.first ∙ c.threads.invariant.first;
+        going = on.going;
+        in_turn = on.in_turn;
+        first = on.first ∙ c.threads.invariant.first;
         many = same_length p M U W o ∙ c.threads.invariant.many;
         leads = λ gone. leads_on p M U W (c.threads.invariant.leads gone) (passes_over p M U W gone n r s gone_on.0 gone_on.1 o h);
         passed = passed_ended p M U W n r s _ gone_on o h c.threads.invariant.passed;

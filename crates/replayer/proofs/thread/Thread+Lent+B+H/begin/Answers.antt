@@ -5,7 +5,8 @@ use Rattle.init_core.specs.Leads.{frame, standing}
 use Rattle.replayer.proofs.Stepping.{starts}
 use Rattle.replayer.proofs.thread.Thread+Lent+B+H.begin.Goals as goal
 
-pub returns-clause-going : goal.returns-clause-going
-returns-clause-going g c =
+pub returns : goal.returns
+returns g c =
     let is : c.request.new.self ≡ standing (frame c.args.main (Looking false) ∷ []) None = search rules in
-    starts c.args.program.now (lent_bodies g.B.Lends.lending (g.B.Bodies.making c.args.program.now)) c.args.log.now _ c.requires.number c.requires.main c.requires.log c.requires.none is c.of.ensures refl refl
+    let going = starts c.args.program.now (lent_bodies g.B.Lends.lending (g.B.Bodies.making c.args.program.now)) c.args.log.now _ c.requires.number c.requires.main c.requires.log c.requires.none is c.of.ensures refl refl in
+    record { going = going; number = search rules; main = search rules; start = search rules; bodies = search rules; done = search rules; gave_up = search rules }

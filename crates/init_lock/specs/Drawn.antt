@@ -1,0 +1,39 @@
+-- What a draw and the way back of a record leave of the pass that makes them.
+use Rattle.std.specs.Prelude.{◌≡◌, ℕ, ◌+◌, ◌^◌, ◌<◌, List, [], ◌∷◌, ◌++◌, length, Option as Opt, Some, None}
+use Rattle.init_lock.specs.Known.{PassFacts, IsSamePass, look, seen_at, out_of, last_at, IsSameBut, IsAway, IsAwayBut}
+use Rattle.init_lock.specs.Log.{stamped, AreBelow}
+use Rattle.init_lock.specs.Steps.{drawn_places}
+
+-- the event was drawn with this stamp, at a place or at none
+pub record Draws {R E : Type 0} (stamp : ℕ) (place : Opt ℕ) (event : E) (before after : PassFacts R E) : Type 0 where
+  -- it stands last in the journal, above all that stood there
+  pub journal : after.journal ≡ before.journal ++ stamped stamp place event ∷ []
+  pub room : after.room + 1 ≡ before.room
+  pub below : stamp < 2 ^ 62
+  pub rising : AreBelow stamp before.journal
+  -- the pass has seen it at its place, and knows else what it knew
+  pub places : after.places ≡ drawn_places place event before.places
+  pub looks : after.looks ≡ before.looks
+  pub same : IsSamePass before after
+
+-- the pass has seen one more event at place n, whose record it has, and knows else what it knew
+pub record HasSeenMore {R E : Type 0} (n : ℕ) (event : E) (before after : PassFacts R E) : Type 0 where
+  pub seen : seen_at n after.places ≡ seen_at n before.places ++ event ∷ []
+  pub out : out_of n after.places ≡ out_of n before.places
+  pub last : last_at n after.places ≡ last_at n before.places
+  pub others : IsSameBut n before.places after.places
+  pub holding : IsAwayBut n before.places → IsAwayBut n after.places
+
+-- the record r, which keeps these events, went back to place n
+pub record WentBack {R E : Type 0} (n : ℕ) (r : R) (events : List E) (before after : PassFacts R E) : Type 0 where
+  -- the pass has seen what it keeps, has it no longer, and knows of the other places what it knew
+  pub seen : seen_at n after.places ≡ events
+  pub out : out_of n after.places ≡ None
+  pub last : last_at n after.places ≡ Some r
+  pub others : IsSameBut n before.places after.places
+  pub looks : after.looks ≡ look n (length before.journal) events ∷ before.looks
+  pub away : IsAwayBut n before.places → IsAway after.places
+  -- its journal is as it was
+  pub journal : after.journal ≡ before.journal
+  pub room : after.room ≡ before.room
+  pub same : IsSamePass before after
