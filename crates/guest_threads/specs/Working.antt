@@ -1,6 +1,6 @@
 -- What a thread knows while it works: where its procedures stand, which of its events lead there, and what it has seen of
 -- each class.
-use Rattle.std.specs.Prelude.{◌≡◌, ◌≢◌, ℕ, ◌+◌, ◌<◌, ◌≤◌, length, List, [], ◌++◌, Option, Some, None, Bool, true, false, map}
+use Rattle.std.specs.Prelude.{◌≡◌, ◌≢◌, ℕ, ◌+◌, ◌<◌, ◌≤◌, length, List, [], ◌++◌, Option, Some, None, MatchOption, Bool, true, false, map}
 use Rattle.std.specs.List.{AllByRecursion}
 use Rattle.hierarchy.specs.declared.class.ClassId.{ClassId}
 use Rattle.hierarchy.specs.LinkedProgram.{LinkedProgram, id}
@@ -162,3 +162,7 @@ pub record IsOver {S : Type 0} (M : Making S) (k : TaskFacts S) (r : Outcome) (w
   pub word : ThreadWordOf k.program k.number (maker_of k.program M) k.start k.main (drawn w.pass.journal) r w.bodies
   pub events : AllByRecursion (λ e. IsProgramEvent k.program k.table.threads e) (drawn w.pass.journal)
   pub reason : (e : ClassId) → r ≡ Ended e → IsWhy M k w.bodies w.why e
+
+-- it works, or has ended with this result
+abbrev pub WorksOrEnds : {S : Type 0} → Making S → TaskFacts S → Option Outcome → Work S → Type 0
+WorksOrEnds M k result w = MatchOption result (Working M k w) (λ r. IsOver M k r w)

@@ -1,12 +1,12 @@
 //! What a body does, of an initializer behind step 9 or of `main`.
 
-ghost use Rattle.std.specs.Prelude.{◌≡◌, ◌≢◌, ◌≤◌, MatchOption};
+ghost use Rattle.std.specs.Prelude.{◌≡◌, ◌≢◌, ◌≤◌};
 ghost use Rattle.init_core.specs.Advance.{FitsBody};
 ghost use Rattle.init_core.specs.ProcedureWord.{GoesOn, given_up};
 ghost use Rattle.init_core.specs.declared.frames.Outcome.TheVariants.{Ended};
 ghost use Rattle.bodies.specs.declared.does.Does.TheVariants as does;
 ghost use Rattle.guest_threads.specs.Tasks.{IsLimitOf, IsWhy};
-ghost use Rattle.guest_threads.specs.Working.{Working, IsInBody, HasComeTo, IsDoing, IsOver};
+ghost use Rattle.guest_threads.specs.Working.{Working, IsInBody, HasComeTo, IsDoing, WorksOrEnds};
 
 use crate::gate::Gate;
 use crate::take::{give_back_untouched, give_back_with, take_record};
@@ -54,7 +54,7 @@ impl<'a, G: Gate, B: Bodies> Task<'a, G, B> {
         requires come { HasComeTo (B.making self.now.program) self.now work.old }
         requires fits { FitsBody self.now.program (given_up work.old.procedure.last) (Ended error) }
         requires why { IsWhy (B.making self.now.program) self.now work.old.bodies work.old.why error }
-        ensures { MatchOption result (Working (B.making self.now.program) self.now work.new) (λ r. IsOver (B.making self.now.program) self.now r work.new) }
+        ensures { WorksOrEnds (B.making self.now.program) self.now result work.new }
     {
         work.bodies.leave(self.program);
         if work.procedure.is_running() {
@@ -69,7 +69,7 @@ impl<'a, G: Gate, B: Bodies> Task<'a, G, B> {
         requires come { HasComeTo (B.making self.now.program) self.now work.old }
         requires goes_on { GoesOn work.old.procedure.last }
         requires limit { IsLimitOf (B.making self.now.program) self.now work.old.bodies limit }
-        ensures { MatchOption result (Working (B.making self.now.program) self.now work.new) (λ r. IsOver (B.making self.now.program) self.now r work.new) }
+        ensures { WorksOrEnds (B.making self.now.program) self.now result work.new }
     {
         work.why = limit;
         self.leave(work, error_at(self.program, limit))
@@ -78,7 +78,7 @@ impl<'a, G: Gate, B: Bodies> Task<'a, G, B> {
     /// An active use of a class. Where memory is refused the machine ends the thread.
     fn use_class(&self, work: &mut Work<B>, class: ClassId) -> Option<Outcome>
         requires doing { IsDoing (B.making self.now.program) self.now (does.Asks class) work.old }
-        ensures { MatchOption result (Working (B.making self.now.program) self.now work.new) (λ r. IsOver (B.making self.now.program) self.now r work.new) }
+        ensures { WorksOrEnds (B.making self.now.program) self.now result work.new }
     {
         let asked = work.procedure.request(class);
         let Ok(()) = asked else {
@@ -97,7 +97,7 @@ impl<'a, G: Gate, B: Bodies> Task<'a, G, B> {
     ) -> Option<Outcome>
         requires doing { IsDoing (B.making self.now.program) self.now (does.Gets class field) work.old }
         requires room { 1 ≤ work.old.slack }
-        ensures { MatchOption result (Working (B.making self.now.program) self.now work.new) (λ r. IsOver (B.making self.now.program) self.now r work.new) }
+        ensures { WorksOrEnds (B.making self.now.program) self.now result work.new }
     {
         let taken = take_record(rt, self.program, self.table, &mut work.pass, class, 0);
         let Ok(mut held) = taken else { unreachable!() };
@@ -128,7 +128,7 @@ impl<'a, G: Gate, B: Bodies> Task<'a, G, B> {
     ) -> Option<Outcome>
         requires doing { IsDoing (B.making self.now.program) self.now (does.Puts class field given) work.old }
         requires room { 1 ≤ work.old.slack }
-        ensures { MatchOption result (Working (B.making self.now.program) self.now work.new) (λ r. IsOver (B.making self.now.program) self.now r work.new) }
+        ensures { WorksOrEnds (B.making self.now.program) self.now result work.new }
     {
         let taken = take_record(rt, self.program, self.table, &mut work.pass, class, 0);
         let Ok(mut held) = taken else { unreachable!() };
@@ -152,7 +152,7 @@ impl<'a, G: Gate, B: Bodies> Task<'a, G, B> {
     fn print(&self, work: &mut Work<B>, text: Text) -> Option<Outcome>
         requires doing { IsDoing (B.making self.now.program) self.now (does.Prints text) work.old }
         requires room { 1 ≤ work.old.slack }
-        ensures { MatchOption result (Working (B.making self.now.program) self.now work.new) (λ r. IsOver (B.making self.now.program) self.now r work.new) }
+        ensures { WorksOrEnds (B.making self.now.program) self.now result work.new }
     {
         let made = Event::print(self.alloc, self.number, text);
         let Ok(event) = made else {
@@ -173,7 +173,7 @@ impl<'a, G: Gate, B: Bodies> Task<'a, G, B> {
     /// the machine ends the thread.
     fn end_body(&self, work: &mut Work<B>, thrown: Option<ClassId>) -> Option<Outcome>
         requires doing { IsDoing (B.making self.now.program) self.now (does.Over thrown) work.old }
-        ensures { MatchOption result (Working (B.making self.now.program) self.now work.new) (λ r. IsOver (B.making self.now.program) self.now r work.new) }
+        ensures { WorksOrEnds (B.making self.now.program) self.now result work.new }
     {
         if !work.procedure.is_running() {
             return Some(match thrown {
@@ -197,7 +197,7 @@ impl<'a, G: Gate, B: Bodies> Task<'a, G, B> {
     pub(crate) fn go_on<W: Wait>(&self, rt: &W, work: &mut Work<B>) -> Option<Outcome>
         requires working { Working (B.making self.now.program) self.now work.old }
         requires body { IsInBody work.old }
-        ensures { MatchOption result (Working (B.making self.now.program) self.now work.new) (λ r. IsOver (B.making self.now.program) self.now r work.new) }
+        ensures { WorksOrEnds (B.making self.now.program) self.now result work.new }
     {
         if let Some(error) = work.procedure.ending_error() {
             return self.leave(work, error);

@@ -1,6 +1,6 @@
 //! All that one thread does.
 
-ghost use Rattle.std.specs.Prelude.{◌≡◌, ℕ, [], ◌∷◌, None, IfOk, MatchOption, true, false};
+ghost use Rattle.std.specs.Prelude.{◌≡◌, ℕ, [], ◌∷◌, None, IfOk, true, false};
 ghost use Rattle.init_core.specs.declared.frames.Phase.TheVariants.{Looking};
 ghost use Rattle.init_core.specs.declared.procedure.Next.TheVariants as nexts;
 ghost use Rattle.init_core.specs.Advance.{next_of, is_running};
@@ -9,7 +9,7 @@ ghost use Rattle.init_core.specs.ProcedureWord.{IsOfFiles};
 ghost use Rattle.init_lock.specs.Known.{seen_at};
 ghost use Rattle.guest_threads.specs.Tasks.{outcome_by};
 ghost use Rattle.guest_threads.specs.ThreadWork.{IsDone, HasDone};
-ghost use Rattle.guest_threads.specs.Working.{Works, Working, IsOver};
+ghost use Rattle.guest_threads.specs.Working.{Works, Working, WorksOrEnds};
 
 use crate::gate::Gate;
 use crate::guarded::Guarded;
@@ -103,7 +103,7 @@ impl<'a, G: Gate, B: Bodies> Task<'a, G, B> {
         requires working { Working (B.making self.now.program) self.now work.old }
         requires idle { next_of work.old.procedure.frames ≡ nexts.Idle }
         requires before { work.old.in_main ≡ false }
-        ensures { MatchOption result (Working (B.making self.now.program) self.now work.new) (λ r. IsOver (B.making self.now.program) self.now r work.new) }
+        ensures { WorksOrEnds (B.making self.now.program) self.now result work.new }
     {
         let Some(Completed { outcome, .. }) = work.procedure.last() else {
             unreachable!();
@@ -120,7 +120,7 @@ impl<'a, G: Gate, B: Bodies> Task<'a, G, B> {
     /// Does what comes next, and answers how the thread ended where that was its end.
     fn step<W: Wait>(&self, rt: &W, work: &mut Work<B>) -> Option<Outcome>
         requires { Working (B.making self.now.program) self.now work.old }
-        ensures { MatchOption result (Working (B.making self.now.program) self.now work.new) (λ r. IsOver (B.making self.now.program) self.now r work.new) }
+        ensures { WorksOrEnds (B.making self.now.program) self.now result work.new }
     {
         match work.procedure.next() {
             Next::Idle => {

@@ -139,10 +139,7 @@ impl Heap {
     {
         match self.made_at(program, reference) {
             Some(object) => Some(selected_class(program, object)),
-            None => match program.ready_object(reference) {
-                Some(object) => Some(ready_class(program, object)),
-                None => None,
-            },
+            None => Some(ready_class(program, program.ready_object(reference)?)),
         }
     }
 }

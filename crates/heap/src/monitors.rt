@@ -63,10 +63,7 @@ impl Model for Monitors {
 fn held_at(held: &[Option<Holder>], place: usize) -> Option<Holder>
     ensures { result ≡ held_in (slice_get held.now place) }
 {
-    match held.get(place) {
-        Some(holder) => *holder,
-        None => None,
-    }
+    *held.get(place)?
 }
 
 /// Changes who holds the monitor at a place, which nobody holds where the list ends before it. An `Err` is out of memory, and

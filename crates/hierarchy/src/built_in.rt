@@ -179,10 +179,7 @@ impl BuiltIn {
     pub fn named(name: &[u8]) -> Option<BuiltIn>
         ensures { result ≡ built_in_named name.now }
     {
-        match place_built_in(name) {
-            Some(place) => BuiltIn::at(place),
-            None => None,
-        }
+        BuiltIn::at(place_built_in(name)?)
     }
 
     /// Whether a class may name it as its superclass: java/lang/Object and the throwables, which stand behind
@@ -212,10 +209,7 @@ pub(crate) fn built_in_name(place: usize) -> Option<&'static [u8]>
 fn name_in<'a>(names: &[&'a [u8]], place: usize) -> Option<&'a [u8]>
     ensures { option_copied result ≡ slice_get (plain names.now) place }
 {
-    match names.get(place) {
-        Some(name) => Some(*name),
-        None => None,
-    }
+    Some(*names.get(place)?)
 }
 
 /// The place of the built-in class of that name.

@@ -100,12 +100,10 @@ impl ClassSet {
     pub(crate) fn at(&self, place: usize) -> Option<ClassId>
         ensures { result ≡ slice_get self.now place }
     {
-        match self.numbers.get(place) {
-            Some(number) => Some(ClassId {
-                number: usize::from(*number),
-            }),
-            None => None,
-        }
+        let number = self.numbers.get(place)?;
+        Some(ClassId {
+            number: usize::from(*number),
+        })
     }
 
     /// The last class.

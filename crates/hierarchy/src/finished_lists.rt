@@ -27,10 +27,8 @@ fn filled(all: &[ClassSet], number: usize) -> Option<&ClassSet>
     ensures some { IfSome result (λ list. (list.now ≡ listed all.now number) × (0 < length list.now)) }
     ensures none { result ≡ None → listed all.now number ≡ [] }
 {
-    match list_at(all, number) {
-        Some(list) => { if list.len() > 0 { Some(list) } else { None } }
-        None => None,
-    }
+    let list = list_at(all, number)?;
+    if list.len() > 0 { Some(list) } else { None }
 }
 
 /// The list at that number, or that of the other table where it is empty, if it has a class.

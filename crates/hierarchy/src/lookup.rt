@@ -95,16 +95,11 @@ impl Program {
     ) -> Option<DeclaredMethod>
         ensures { result ≡ specific_method self.now name.now method_type.now (classes_in interfaces.entry) id }
     {
-        match self.counted_method(Counted::Inherited, name, method_type, id) {
-            Some(method) => {
-                if self.is_overridden(name, method_type, interfaces, id) {
-                    None
-                } else {
-                    Some(method)
-                }
-            }
-            None => None,
+        let method = self.counted_method(Counted::Inherited, name, method_type, id)?;
+        if self.is_overridden(name, method_type, interfaces, id) {
+            return None;
         }
+        Some(method)
     }
 
     /// The maximally specific superinterface methods of a class that aren't abstract.

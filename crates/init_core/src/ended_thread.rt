@@ -35,10 +35,7 @@ impl Procedure {
                     ..
                 },
             ) => error_of(outcome_after(*ending, *by_machine)),
-            _ => match self.last {
-                Some(completed) => error_of(completed.outcome),
-                None => None,
-            },
+            _ => error_of(self.last?.outcome),
         }
     }
 

@@ -1,7 +1,8 @@
 -- What each atomic step tells the pass that makes it.
-use Rattle.std.specs.Prelude.{◌≡◌, ◌≢◌, ℕ, suc, ◌+◌, ◌^◌, ◌<◌, ◌≤◌, List, [], ◌∷◌, ◌++◌, cond, true, Option as Opt, Some, None, map, length}
+use Rattle.std.specs.Prelude.{◌≡◌, ◌≢◌, ℕ, suc, ◌+◌, ◌*◌, ◌^◌, ◌<◌, ◌≤◌, List, [], ◌∷◌, ◌++◌, cond, true, Option as Opt, Some, None, map, length}
 use mathlib.Core.Option.{some}
 use lib.ListN.{get_elem?}
+use Rattle.atomic_table.specs.Seated.{TableId}
 use Rattle.atomic_table.specs.Table.{Me, Step, rest}
 use Rattle.init_lock.specs.declared.views.PassView.{PassView}
 use Rattle.init_lock.specs.declared.views.PlaceView.{PlaceView}
@@ -16,6 +17,10 @@ abbrev pub modify : {A : Type 0} → ℕ → (A → A) → List A → List A
 modify n f [] = []
 modify Prim.Native.Nat.zero f (x ∷ xs) = f x ∷ xs
 modify (suc n) f (x ∷ xs) = x ∷ modify n f xs
+
+-- a place of a table that has a word for stamps and eight words and a slot for each place
+abbrev pub IsPlaceOf : ℕ → TableId → Type 0
+IsPlaceOf n t = (n < t.slots) × (t.words ≡ t.slots * 8 + 8) × (t.slots < 2 ^ 58)
 
 -- the place whose slot a seat carries once that of the place n has gone home
 abbrev pub without : ℕ → Opt ℕ → Opt ℕ

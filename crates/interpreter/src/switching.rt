@@ -55,10 +55,7 @@ fn target_for(instruction: &Instruction<u16>, key: i32) -> Option<u16>
 fn target(program: &Program, at: FramePlace, key: i32) -> Option<u16>
     ensures { result ≡ target_of (text_at program.now at.class at.method at.place) key }
 {
-    match instruction_at(program, at.class, at.method, at.place) {
-        Some(instruction) => target_for(instruction, key),
-        None => None,
-    }
+    target_for(instruction_at(program, at.class, at.method, at.place)?, key)
 }
 
 /// What the switch at a place comes to, by the operand on top.

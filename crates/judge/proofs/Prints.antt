@@ -66,27 +66,27 @@ module _ (p : LinkedProgram) (x y : List ℕ) where
       (reads p t a s.frames s.last None (kind.Prints y) (k.0 q.0)))
 
 module _ (p : LinkedProgram) (a : Bool) (s : Standing) (x : List ℕ) where
-  pub is_read_print : (b : Bool) (u : Standing) (r : Result Bool AllocError) → IfOk r (λ it. it ≡ true → (t : ℕ) → Reads p t a s (printed t x) b u) → IfOk r (λ it. it ≡ true → (t : ℕ) (text : List ℕ) → Reads p t a s (printed t text) b u)
-  is_read_print b u (Ok it) h = λ q t text. reads_print p x text t (h q t)
+  pub is_read_print : (b : Bool) (u : Standing) (r : Result Bool AllocError) → IfOk r (λ it. it ≡ true → (t : ℕ) → Reads p t a s (printed t x) b u) → IfOk r (λ it. it ≡ true → (text : List ℕ) (t : ℕ) → Reads p t a s (printed t text) b u)
+  is_read_print b u (Ok it) h = λ q text t. reads_print p x text t (h q t)
   is_read_print b u (Err e) h = tt
 
   pub is_unread_print : (r : Result Bool AllocError) → IfOk r (λ it. it ≡ false → (t : ℕ) (begun : Bool) (after : Standing) → Reads p t a s (printed t x) begun after → ⊥) →
-      IfOk r (λ it. it ≡ false → (t : ℕ) (text : List ℕ) (begun : Bool) (after : Standing) → Reads p t a s (printed t text) begun after → ⊥)
-  is_unread_print (Ok it) h = λ q t text begun after r. h q t begun after (reads_print p text x t r)
+      IfOk r (λ it. it ≡ false → (text : List ℕ) (t : ℕ) (begun : Bool) (after : Standing) → Reads p t a s (printed t text) begun after → ⊥)
+  is_unread_print (Ok it) h = λ q text t begun after r. h q t begun after (reads_print p text x t r)
   is_unread_print (Err e) h = tt
 
 module _ (p : LinkedProgram) (readers : List Reader) (t : ℕ) (r : Reader) (within : t < length readers) (value : r ≡ slice_index_or readers t r) where
   there : slice_get readers t ≡ Some r
   there = slice_get_read readers (length readers) t r refl within value
 
-  pub readers_read : (new : Reader) (result : Result Bool AllocError) → IfOk result (λ b. b ≡ true → (u : ℕ) (text : List ℕ) → Reads p u r.begun r.procedures (printed u text) new.begun new.procedures) →
-      IfOk result (λ b. b ≡ true → (mains : List ClassId) (h : List Event) (text : List ℕ) → AreReadersAfter p mains readers h → AreReadersAfter p mains (set readers t new) (h ++ printed t text ∷ []))
-  readers_read new (Ok b) f = λ q mains h text all. event_read p mains readers h (printed t text) all r new there (f q t text)
+  pub readers_read : (new : Reader) (result : Result Bool AllocError) → IfOk result (λ b. b ≡ true → (text : List ℕ) (u : ℕ) → Reads p u r.begun r.procedures (printed u text) new.begun new.procedures) →
+      IfOk result (λ b. b ≡ true → (text : List ℕ) (mains : List ClassId) (h : List Event) → AreReadersAfter p mains readers h → AreReadersAfter p mains (set readers t new) (h ++ printed t text ∷ []))
+  readers_read new (Ok b) f = λ q text mains h all. event_read p mains readers h (printed t text) all r new there (f q text t)
   readers_read new (Err e) f = tt
 
-  pub readers_refuse : (result : Result Bool AllocError) → IfOk result (λ b. b ≡ false → (u : ℕ) (text : List ℕ) (begun : Bool) (after : Standing) → Reads p u r.begun r.procedures (printed u text) begun after → ⊥) →
-      IfOk result (λ b. b ≡ false → (mains : List ClassId) (h : List Event) (text : List ℕ) → AreReadersAfter p mains readers h → ThreadsBegin p mains (h ++ printed t text ∷ []) → ⊥)
-  readers_refuse (Ok b) f = λ q mains h text all. event_unread p mains readers h (printed t text) all r there (f q t text)
+  pub readers_refuse : (result : Result Bool AllocError) → IfOk result (λ b. b ≡ false → (text : List ℕ) (u : ℕ) (begun : Bool) (after : Standing) → Reads p u r.begun r.procedures (printed u text) begun after → ⊥) →
+      IfOk result (λ b. b ≡ false → (text : List ℕ) (mains : List ClassId) (h : List Event) → AreReadersAfter p mains readers h → ThreadsBegin p mains (h ++ printed t text ∷ []) → ⊥)
+  readers_refuse (Ok b) f = λ q text mains h all. event_unread p mains readers h (printed t text) all r there (f q text t)
   readers_refuse (Err e) f = tt
 
 kind_of_text : (k : Kind) (text : List ℕ) → text_of k ≡ Some text → k ≡ kind.Prints text
@@ -113,7 +113,7 @@ is_some_print e None q c s = cc
 
 -- what is said of prints of every text is said of this one
 pub fits_print : (p : LinkedProgram) (j new : Judge) (e : Event) (r : Result (Option Rule) AllocError) → e.class ≡ None → is_some (text_of e.kind) ≡ true →
-    IfOk r (λ it. it ≡ None → (mains : List ClassId) (h : List Event) (text : List ℕ) → HasJudged p mains j h → HasJudged p mains new (h ++ printed e.thread text ∷ [])) →
+    IfOk r (λ it. it ≡ None → (text : List ℕ) (mains : List ClassId) (h : List Event) → HasJudged p mains j h → HasJudged p mains new (h ++ printed e.thread text ∷ [])) →
     IfOk r (λ it. it ≡ None → (mains : List ClassId) (h : List Event) → HasJudged p mains j h → HasJudged p mains new (h ++ e ∷ []))
-fits_print p j new e (Ok it) c s f = let k = is_some_print e (text_of e.kind) refl c s in λ q mains h judged. subst (λ (x : Event). HasJudged p mains new (h ++ x ∷ [])) (sym k.1) (f q mains h k.0 judged)
+fits_print p j new e (Ok it) c s f = let k = is_some_print e (text_of e.kind) refl c s in λ q mains h judged. subst (λ (x : Event). HasJudged p mains new (h ++ x ∷ [])) (sym k.1) (f q k.0 mains h judged)
 fits_print p j new e (Err x) c s f = tt

@@ -1,5 +1,5 @@
 -- The state of the judge after some events.
-use Rattle.std.specs.Prelude.{◌≡◌, ℕ, ◌<◌, ◌≤◌, length, List, [], Option, Some, None, false, slice_get}
+use Rattle.std.specs.Prelude.{◌≡◌, ℕ, ◌<◌, ◌≤◌, length, List, [], ◌∷◌, ◌++◌, Option, Some, None, false, slice_get}
 use Rattle.std.specs.List.{AllByRecursion}
 use Rattle.hierarchy.specs.declared.class.ClassId.{ClassId}
 use Rattle.hierarchy.specs.declared.value.Value.{Value}
@@ -10,6 +10,7 @@ use Rattle.init_core.specs.declared.event.Event.{Event}
 use Rattle.init_core.specs.declared.event.Kind.{Kind}
 use Rattle.init_core.specs.declared.event.Kind.TheVariants as kind
 use Rattle.init_core.specs.ClassState.{State, AreHeld}
+use Rattle.init_core.specs.Decisions.{event}
 use Rattle.init_core.specs.Interleaving.{of_thread, of_class}
 use Rattle.init_core.specs.Label.{label_of}
 use Rattle.init_core.specs.Lawful.{Allows, Holds, IsLawful}
@@ -18,6 +19,7 @@ use Rattle.judge.specs.declared.reader.Reader.{Reader}
 use Rattle.judge.specs.declared.verdict.Rule.{Rule}
 use Rattle.judge.specs.declared.verdict.Rule.TheVariants as rule
 use Rattle.judge.specs.Reading.{ReadsAll, MayStop, opening}
+use Rattle.judge.specs.Verdicts.{Breaks, ThreadsBegin}
 
 -- what is read is what the field holds; what is written is a field of the class
 abbrev pub HoldsNow : List StaticField → List Value → Kind → Type 0
@@ -39,10 +41,24 @@ BreaksAt p c h t k rule.Label = Allows (label_of h) t k → ⊥
 BreaksAt p c h t k rule.Value = Allows (label_of h) t k × (Holds (statics_of p c) h k → ⊥)
 BreaksAt p c h t k _ = ⊥
 
+-- t does this at the class, whichever it is, and its state goes from this to that; or it breaks this rule
+abbrev pub StateTakes : State → State → ℕ → Kind → Type 0
+StateTakes before after t k = (p : LinkedProgram) (c : ClassId) (h : List Event) → IsStateAfter p c before h → IsStateAfter p c after (h ++ event t c k ∷ [])
+
+abbrev pub StateRefuses : State → ℕ → Kind → Rule → Type 0
+StateRefuses before t k rule = (p : LinkedProgram) (c : ClassId) (h : List Event) → IsStateAfter p c before h → BreaksAt p c h t k rule
+
 -- the states of classes, by their numbers; a class beyond these has no events
 pub record AreStatesAfter (p : LinkedProgram) (states : List State) (events : List Event) : Type 0 where
   pub each : (n : ℕ) (s : State) → slice_get states n ≡ Some s → IsStateAfter p (id n) s (of_class (id n) events)
   pub beyond : (c : ClassId) → length states ≤ c.number → of_class c events ≡ []
+
+-- t does this at c, and the states go from these to those; or it breaks this rule
+abbrev pub StatesTake : LinkedProgram → List State → List State → ℕ → ClassId → Kind → Type 0
+StatesTake p before after t c k = (events : List Event) → AreStatesAfter p before events → AreStatesAfter p after (events ++ event t c k ∷ [])
+
+abbrev pub StatesRefuse : LinkedProgram → List State → ℕ → ClassId → Kind → Rule → Type 0
+StatesRefuse p before t c k rule = (events : List Event) → AreStatesAfter p before events → BreaksAt p c (of_class c events) t k rule
 
 -- the reader of a thread, where it has a main class
 abbrev pub IsReaderAfter : LinkedProgram → ℕ → Option ClassId → Option Reader → List Event → Type 0
@@ -53,9 +69,23 @@ IsReaderAfter p t m r xs = ⊥
 abbrev pub AreReadersAfter : LinkedProgram → List ClassId → List Reader → List Event → Type 0
 AreReadersAfter p mains readers events = (t : ℕ) → IsReaderAfter p t (slice_get mains t) (slice_get readers t) (of_thread t events)
 
+-- the readers read this event, and go from these states to those; or it can't come next
+abbrev pub ReadersTake : LinkedProgram → List Reader → List Reader → Event → Type 0
+ReadersTake p before after e = (mains : List ClassId) (h : List Event) → AreReadersAfter p mains before h → AreReadersAfter p mains after (h ++ e ∷ [])
+
+abbrev pub ReadersRefuse : LinkedProgram → List Reader → Event → Type 0
+ReadersRefuse p before e = (mains : List ClassId) (h : List Event) → AreReadersAfter p mains before h → ThreadsBegin p mains (h ++ e ∷ []) → ⊥
+
 pub record HasJudged (p : LinkedProgram) (mains : List ClassId) (j : Judge) (events : List Event) : Type 0 where
   pub readers : AreReadersAfter p mains j.readers.of_threads.items events
   pub classes : AreStatesAfter p j.classes.states.items events
+
+-- the judge takes this event, and goes from one state to another; or it breaks this rule
+abbrev pub JudgeTakes : LinkedProgram → Judge → Judge → Event → Type 0
+JudgeTakes p before after e = (mains : List ClassId) (h : List Event) → HasJudged p mains before h → HasJudged p mains after (h ++ e ∷ [])
+
+abbrev pub JudgeRefuses : LinkedProgram → Judge → Event → Rule → Type 0
+JudgeRefuses p before e rule = (mains : List ClassId) (h : List Event) → HasJudged p mains before h → Breaks p mains rule (h ++ e ∷ [])
 
 -- a thread of this main class before its first event
 abbrev pub opened : ClassId → Reader

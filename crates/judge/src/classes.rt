@@ -1,13 +1,9 @@
 //! The classes whose events are judged: the label of each, and what its static fields hold.
 
-ghost use Rattle.std.specs.Prelude.{◌≡◌, ◌↔◌, IsTrue, ◌<◌, ◌++◌, ◌∷◌, [], List, None, IfOk, IfSome, OnOk, length};
-ghost use Rattle.hierarchy.specs.declared.class.ClassId.{ClassId as ClassFacts};
-ghost use Rattle.hierarchy.specs.LinkedProgram.{LinkedProgram};
+ghost use Rattle.std.specs.Prelude.{◌≡◌, ◌↔◌, IsTrue, ◌<◌, [], List, None, IfOk, IfSome, OnOk, length};
 ghost use Rattle.init_core.specs.declared.event.Event.{Event};
-ghost use Rattle.init_core.specs.Decisions.{event};
-ghost use Rattle.init_core.specs.Interleaving.{of_class};
 ghost use Rattle.init_core.specs.Lawful.{Allows, IsInProgressByOther, MayUse};
-ghost use Rattle.judge.specs.Judging.{AreStatesAfter, BreaksAt, HoldsNow, IsStateAfter};
+ghost use Rattle.judge.specs.Judging.{AreStatesAfter, HoldsNow, StateRefuses, StateTakes, StatesRefuse, StatesTake};
 
 use crate::verdict::Rule;
 use hierarchy::{ClassId, Program};
@@ -66,7 +62,7 @@ fn apply(state: &mut ClassState, thread: usize, kind: &Kind)
     requires thread { thread < THREADS }
     requires allowed { Allows state.old.label thread kind.now }
     requires holds { HoldsNow state.old.fields state.old.values kind.now }
-    ensures { (p : LinkedProgram) (c : ClassFacts) (h : List Event) → IsStateAfter p c state.old h → IsStateAfter p c state.new (h ++ event thread c kind.now ∷ []) }
+    ensures { StateTakes state.old state.new thread kind.now }
 {
     state.add(thread, kind);
 }
@@ -74,8 +70,8 @@ fn apply(state: &mut ClassState, thread: usize, kind: &Kind)
 /// The same where it breaks no rule; else the rule.
 fn step(state: &mut ClassState, thread: usize, kind: &Kind) -> Option<Rule>
     requires { thread < THREADS }
-    ensures fits { result ≡ None → (p : LinkedProgram) (c : ClassFacts) (h : List Event) → IsStateAfter p c state.old h → IsStateAfter p c state.new (h ++ event thread c kind.now ∷ []) }
-    ensures breaks { IfSome result (λ rule. (p : LinkedProgram) (c : ClassFacts) (h : List Event) → IsStateAfter p c state.old h → BreaksAt p c h thread kind.now rule) }
+    ensures fits { result ≡ None → StateTakes state.old state.new thread kind.now }
+    ensures breaks { IfSome result (StateRefuses state.old thread kind.now) }
 {
     if !allows(state.label(), thread, kind) {
         return Some(Rule::Label);
@@ -130,8 +126,8 @@ impl Classes {
     ) -> Result<Option<Rule>, AllocError>
         requires thread { thread < THREADS }
         requires class { class.number < CLASS_NUMBERS }
-        ensures fits { IfOk result (λ r. r ≡ None → (events : List Event) → AreStatesAfter program.now self.old.states.items events → AreStatesAfter program.now self.new.states.items (events ++ event thread class kind.now ∷ [])) }
-        ensures breaks { IfOk result (λ r. IfSome r (λ rule. (events : List Event) → AreStatesAfter program.now self.old.states.items events → BreaksAt program.now class (of_class class events) thread kind.now rule)) }
+        ensures fits { IfOk result (λ r. r ≡ None → StatesTake program.now self.old.states.items self.new.states.items thread class kind.now) }
+        ensures breaks { IfOk result (λ r. IfSome r (StatesRefuse program.now self.old.states.items thread class kind.now)) }
     {
         self.grow(alloc, program, class)?;
         let state = &mut self.states[class.number];

@@ -6,7 +6,7 @@ ghost use Rattle.std.specs.Prelude.{◌≡◌, ◌↔◌, IsTrue, IfOk, Some, tr
 ghost use Rattle.hierarchy.specs.Subclasses.{IsError};
 ghost use Rattle.init_core.specs.ProcedureWord.{IsMachineError, completed, given_up};
 ghost use Rattle.init_core.specs.declared.frames.Outcome.TheVariants as outcomes;
-ghost use Rattle.judge.specs.NextEvent.{MayLook, look_to, MayGoOn, item_to};
+ghost use Rattle.judge.specs.NextEvent.{Moves, MayLook, look_to, MayGoOn, item_to};
 
 use crate::open_class::{Pending, Procedures, Stage};
 use hierarchy::laws::throwables_are_subclasses;
@@ -69,9 +69,7 @@ impl Procedures {
         waited: bool,
         kind: &Kind,
     ) -> Result<bool, AllocError>
-        ensures yes { IfOk result (λ b. b ≡ true → MayLook waited kind.now) }
-        ensures leads { IfOk result (λ b. b ≡ true → self.new ≡ look_to program.now class self.old.frames kind.now) }
-        ensures no { IfOk result (λ b. b ≡ false → MayLook waited kind.now → ⊥) }
+        ensures { IfOk result (Moves (MayLook waited kind.now) (look_to program.now class self.old.frames kind.now) self.new) }
     {
         match kind {
             Kind::Waits => {
@@ -109,9 +107,7 @@ impl Procedures {
         class: Option<ClassId>,
         kind: &Kind,
     ) -> Result<bool, AllocError>
-        ensures yes { IfOk result (λ b. b ≡ true → MayGoOn program.now last class kind.now) }
-        ensures leads { IfOk result (λ b. b ≡ true → self.new ≡ item_to program.now self.old.frames class kind.now) }
-        ensures no { IfOk result (λ b. b ≡ false → MayGoOn program.now last class kind.now → ⊥) }
+        ensures { IfOk result (Moves (MayGoOn program.now last class kind.now) (item_to program.now self.old.frames class kind.now) self.new) }
     {
         match class {
             None => {
@@ -130,9 +126,7 @@ impl Procedures {
         class: ClassId,
         kind: &Kind,
     ) -> Result<bool, AllocError>
-        ensures yes { IfOk result (λ b. b ≡ true → MayGoOn program.now last (Some class) kind.now) }
-        ensures leads { IfOk result (λ b. b ≡ true → self.new ≡ item_to program.now self.old.frames (Some class) kind.now) }
-        ensures no { IfOk result (λ b. b ≡ false → MayGoOn program.now last (Some class) kind.now → ⊥) }
+        ensures { IfOk result (Moves (MayGoOn program.now last (Some class) kind.now) (item_to program.now self.old.frames (Some class) kind.now) self.new) }
     {
         match kind {
             Kind::Gets { .. } | Kind::Puts { .. } => {

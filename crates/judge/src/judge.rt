@@ -1,13 +1,10 @@
 //! Events of all threads, judged one after the other.
 
-ghost use Rattle.std.specs.Prelude.{◌≡◌, ℕ, ◌<◌, ◌++◌, ◌∷◌, [], List, None, IfOk, IfSome};
-ghost use Rattle.hierarchy.specs.declared.class.ClassId.{ClassId as ClassFacts};
+ghost use Rattle.std.specs.Prelude.{◌≡◌, ℕ, ◌<◌, [], List, None, IfOk, IfSome};
 ghost use Rattle.hierarchy.specs.LinkedProgram.{LinkedProgram};
 ghost use Rattle.init_core.specs.ProcedureWord.{printed};
-ghost use Rattle.init_core.specs.declared.event.Event.{Event as EventFacts};
-ghost use Rattle.judge.specs.Judging.{HasJudged};
+ghost use Rattle.judge.specs.Judging.{HasJudged, JudgeRefuses, JudgeTakes};
 ghost use Rattle.judge.specs.Reading.{made_by};
-ghost use Rattle.judge.specs.Verdicts.{Breaks};
 
 use crate::classes::Classes;
 use crate::readers::Readers;
@@ -45,8 +42,8 @@ impl Judge {
         program: &Program,
         event: &Event,
     ) -> Result<Option<Rule>, AllocError>
-        ensures fits { IfOk result (λ r. r ≡ None → (mains : List ClassFacts) (h : List EventFacts) → HasJudged program.now mains self.old h → HasJudged program.now mains self.new (h ++ event.now ∷ [])) }
-        ensures breaks { IfOk result (λ r. IfSome r (λ rule. (mains : List ClassFacts) (h : List EventFacts) → HasJudged program.now mains self.old h → Breaks program.now mains rule (h ++ event.now ∷ []))) }
+        ensures fits { IfOk result (λ r. r ≡ None → JudgeTakes program.now self.old self.new event.now) }
+        ensures breaks { IfOk result (λ r. IfSome r (JudgeRefuses program.now self.old event.now)) }
     {
         if event.class().is_none() && event.text().is_some() {
             return self.take_print(alloc, program, event.thread());
@@ -62,8 +59,8 @@ impl Judge {
         program: &Program,
         thread: usize,
     ) -> Result<Option<Rule>, AllocError>
-        ensures fits { IfOk result (λ r. r ≡ None → (mains : List ClassFacts) (h : List EventFacts) (text : List ℕ) → HasJudged program.now mains self.old h → HasJudged program.now mains self.new (h ++ printed thread text ∷ [])) }
-        ensures breaks { IfOk result (λ r. IfSome r (λ rule. (mains : List ClassFacts) (h : List EventFacts) (text : List ℕ) → HasJudged program.now mains self.old h → Breaks program.now mains rule (h ++ printed thread text ∷ []))) }
+        ensures fits { IfOk result (λ r. r ≡ None → (text : List ℕ) → JudgeTakes program.now self.old self.new (printed thread text)) }
+        ensures breaks { IfOk result (λ r. IfSome r (λ rule. (text : List ℕ) → JudgeRefuses program.now self.old (printed thread text) rule)) }
     {
         if self.readers.read_print(alloc, program, thread)? {
             Ok(None)
@@ -83,8 +80,8 @@ impl Judge {
     ) -> Result<Option<Rule>, AllocError>
         requires thread { thread < THREADS }
         requires class { IfSome class (λ c. c.number < CLASS_NUMBERS) }
-        ensures fits { IfOk result (λ r. r ≡ None → (mains : List ClassFacts) (h : List EventFacts) → HasJudged program.now mains self.old h → HasJudged program.now mains self.new (h ++ made_by thread class kind.now ∷ [])) }
-        ensures breaks { IfOk result (λ r. IfSome r (λ rule. (mains : List ClassFacts) (h : List EventFacts) → HasJudged program.now mains self.old h → Breaks program.now mains rule (h ++ made_by thread class kind.now ∷ []))) }
+        ensures fits { IfOk result (λ r. r ≡ None → JudgeTakes program.now self.old self.new (made_by thread class kind.now)) }
+        ensures breaks { IfOk result (λ r. IfSome r (JudgeRefuses program.now self.old (made_by thread class kind.now))) }
     {
         if !self.readers.read(alloc, program, thread, class, kind)? {
             return Ok(Some(Rule::Word));

@@ -11,7 +11,7 @@ ghost use Rattle.init_core.specs.declared.frames.Outcome.TheVariants as outcomes
 ghost use Rattle.init_core.specs.Advance.{after_word};
 ghost use Rattle.init_core.specs.Leads.{outcome_of};
 ghost use Rattle.judge.specs.OpenClass.{phase_in};
-ghost use Rattle.judge.specs.NextEvent.{MayBeUnanswered, unanswered_to, MayAnswer, answer_to, MayRun, run_to, MayBeInBody, MayEndBody, body_to, MayEnd, MayBeInMain, item_to, MayInPhase, phase_to, MayRead, read_to};
+ghost use Rattle.judge.specs.NextEvent.{Moves, MayBeUnanswered, unanswered_to, MayAnswer, answer_to, MayRun, run_to, MayBeInBody, MayEndBody, body_to, MayEnd, MayBeInMain, item_to, MayInPhase, phase_to, MayRead, read_to};
 
 use crate::items::{ending_error, is_error, is_machine_error, is_of};
 use crate::open_class::{OpenClass, Procedures, Stage};
@@ -28,9 +28,7 @@ impl Procedures {
         of: Option<ClassId>,
         error: ClassId,
     ) -> Result<bool, AllocError>
-        ensures yes { IfOk result (λ b. b ≡ true → (of ≡ Some class) × IsMachineError program.now error) }
-        ensures leads { IfOk result (λ b. b ≡ true → self.new ≡ after_word self.old.frames class (outcomes.Ended error)) }
-        ensures no { IfOk result (λ b. b ≡ false → (of ≡ Some class) × IsMachineError program.now error → ⊥) }
+        ensures { IfOk result (Moves ((of ≡ Some class) × IsMachineError program.now error) (after_word self.old.frames class (outcomes.Ended error)) self.new) }
     {
         if !is_of(of, class) || !is_machine_error(program, error) {
             return Ok(false);
@@ -46,9 +44,7 @@ impl Procedures {
         of: Option<ClassId>,
         error: ClassId,
     ) -> Result<bool, AllocError>
-        ensures yes { IfOk result (λ b. b ≡ true → MayBeUnanswered program.now self.old.frames of (kinds.SuperFails error)) }
-        ensures leads { IfOk result (λ b. b ≡ true → self.new ≡ unanswered_to self.old.frames error) }
-        ensures no { IfOk result (λ b. b ≡ false → MayBeUnanswered program.now self.old.frames of (kinds.SuperFails error) → ⊥) }
+        ensures { IfOk result (Moves (MayBeUnanswered program.now self.old.frames of (kinds.SuperFails error)) (unanswered_to self.old.frames error) self.new) }
     {
         match self.pop() {
             Some(
@@ -68,9 +64,7 @@ impl Procedures {
         of: Option<ClassId>,
         error: ClassId,
     ) -> Result<bool, AllocError>
-        ensures yes { IfOk result (λ b. b ≡ true → MayBeUnanswered program.now self.old.frames of (kinds.Fails error)) }
-        ensures leads { IfOk result (λ b. b ≡ true → self.new ≡ unanswered_to self.old.frames error) }
-        ensures no { IfOk result (λ b. b ≡ false → MayBeUnanswered program.now self.old.frames of (kinds.Fails error) → ⊥) }
+        ensures { IfOk result (Moves (MayBeUnanswered program.now self.old.frames of (kinds.Fails error)) (unanswered_to self.old.frames error) self.new) }
     {
         match self.pop() {
             Some(
@@ -93,9 +87,7 @@ impl Procedures {
         of: Option<ClassId>,
         kind: &Kind,
     ) -> Result<bool, AllocError>
-        ensures yes { IfOk result (λ b. b ≡ true → MayAnswer program.now waited class self.old.frames of kind.now) }
-        ensures leads { IfOk result (λ b. b ≡ true → self.new ≡ answer_to program.now class self.old.frames kind.now) }
-        ensures no { IfOk result (λ b. b ≡ false → MayAnswer program.now waited class self.old.frames of kind.now → ⊥) }
+        ensures { IfOk result (Moves (MayAnswer program.now waited class self.old.frames of kind.now) (answer_to program.now class self.old.frames kind.now) self.new) }
     {
         match kind {
             Kind::SuperFails(error) => self.unanswered_need(program, of, *error),
@@ -118,9 +110,7 @@ impl Procedures {
         of: Option<ClassId>,
         kind: &Kind,
     ) -> Result<bool, AllocError>
-        ensures yes { IfOk result (λ b. b ≡ true → MayRun program.now class of kind.now) }
-        ensures leads { IfOk result (λ b. b ≡ true → self.new ≡ run_to class self.old.frames kind.now) }
-        ensures no { IfOk result (λ b. b ≡ false → MayRun program.now class of kind.now → ⊥) }
+        ensures { IfOk result (Moves (MayRun program.now class of kind.now) (run_to class self.old.frames kind.now) self.new) }
     {
         match kind {
             Kind::Runs => {
@@ -145,9 +135,7 @@ impl Procedures {
         of: Option<ClassId>,
         kind: &Kind,
     ) -> Result<bool, AllocError>
-        ensures yes { IfOk result (λ b. b ≡ true → MayEndBody by class of kind.now) }
-        ensures leads { IfOk result (λ b. b ≡ true → self.new ≡ after_word self.old.frames class (outcomes.Ended by)) }
-        ensures no { IfOk result (λ b. b ≡ false → MayEndBody by class of kind.now → ⊥) }
+        ensures { IfOk result (Moves (MayEndBody by class of kind.now) (after_word self.old.frames class (outcomes.Ended by)) self.new) }
     {
         match kind {
             Kind::Fails(error) => {
@@ -168,9 +156,7 @@ impl Procedures {
         of: Option<ClassId>,
         kind: &Kind,
     ) -> Result<bool, AllocError>
-        ensures yes { IfOk result (λ b. b ≡ true → MayBeInBody program.now None class self.old.last of kind.now) }
-        ensures leads { IfOk result (λ b. b ≡ true → self.new ≡ body_to program.now None class self.old.frames of kind.now) }
-        ensures no { IfOk result (λ b. b ≡ false → MayBeInBody program.now None class self.old.last of kind.now → ⊥) }
+        ensures { IfOk result (Moves (MayBeInBody program.now None class self.old.last of kind.now) (body_to program.now None class self.old.frames of kind.now) self.new) }
     {
         match kind {
             Kind::Completes => {
@@ -197,9 +183,7 @@ impl Procedures {
         of: Option<ClassId>,
         kind: &Kind,
     ) -> Result<bool, AllocError>
-        ensures yes { IfOk result (λ b. b ≡ true → MayBeInBody program.now (given_up self.old.last) class self.old.last of kind.now) }
-        ensures leads { IfOk result (λ b. b ≡ true → self.new ≡ body_to program.now (given_up self.old.last) class self.old.frames of kind.now) }
-        ensures no { IfOk result (λ b. b ≡ false → MayBeInBody program.now (given_up self.old.last) class self.old.last of kind.now → ⊥) }
+        ensures { IfOk result (Moves (MayBeInBody program.now (given_up self.old.last) class self.old.last of kind.now) (body_to program.now (given_up self.old.last) class self.old.frames of kind.now) self.new) }
     {
         match ending_error(self.last) {
             Some(by) => self.in_ended_body(class, by, of, kind),
@@ -216,9 +200,7 @@ impl Procedures {
         of: Option<ClassId>,
         kind: &Kind,
     ) -> Result<bool, AllocError>
-        ensures yes { IfOk result (λ b. b ≡ true → MayEnd (endings.SuperFails error) class of kind.now) }
-        ensures leads { IfOk result (λ b. b ≡ true → self.new ≡ after_word self.old.frames class (outcome_of (endings.SuperFails error) by_machine)) }
-        ensures no { IfOk result (λ b. b ≡ false → MayEnd (endings.SuperFails error) class of kind.now → ⊥) }
+        ensures { IfOk result (Moves (MayEnd (endings.SuperFails error) class of kind.now) (after_word self.old.frames class (outcome_of (endings.SuperFails error) by_machine)) self.new) }
     {
         let Kind::SuperFails(thrown) = kind else {
             return Ok(false);
@@ -242,9 +224,7 @@ impl Procedures {
         of: Option<ClassId>,
         kind: &Kind,
     ) -> Result<bool, AllocError>
-        ensures yes { IfOk result (λ b. b ≡ true → MayBeInMain program.now begun self.old.last of kind.now) }
-        ensures leads { IfOk result (λ b. b ≡ true → self.new ≡ item_to program.now self.old.frames of kind.now) }
-        ensures no { IfOk result (λ b. b ≡ false → MayBeInMain program.now begun self.old.last of kind.now → ⊥) }
+        ensures { IfOk result (Moves (MayBeInMain program.now begun self.old.last of kind.now) (item_to program.now self.old.frames of kind.now) self.new) }
     {
         let last = self.last;
         if begun {
@@ -272,9 +252,7 @@ impl Procedures {
         of: Option<ClassId>,
         kind: &Kind,
     ) -> Result<bool, AllocError>
-        ensures yes { IfOk result (λ b. b ≡ true → MayInPhase program.now (phase_in innermost.stage) innermost.class self.old.frames self.old.last of kind.now) }
-        ensures leads { IfOk result (λ b. b ≡ true → self.new ≡ phase_to program.now (phase_in innermost.stage) innermost.class self.old.frames self.old.last of kind.now) }
-        ensures no { IfOk result (λ b. b ≡ false → MayInPhase program.now (phase_in innermost.stage) innermost.class self.old.frames self.old.last of kind.now → ⊥) }
+        ensures { IfOk result (Moves (MayInPhase program.now (phase_in innermost.stage) innermost.class self.old.frames self.old.last of kind.now) (phase_to program.now (phase_in innermost.stage) innermost.class self.old.frames self.old.last of kind.now) self.new) }
     {
         let OpenClass { class, stage } = innermost;
         match stage {
@@ -299,9 +277,7 @@ impl Procedures {
         of: Option<ClassId>,
         kind: &Kind,
     ) -> Result<bool, AllocError>
-        ensures yes { IfOk result (λ b. b ≡ true → MayRead program.now begun self.old.frames self.old.last of kind.now) }
-        ensures leads { IfOk result (λ b. b ≡ true → self.new ≡ read_to program.now self.old.frames self.old.last of kind.now) }
-        ensures no { IfOk result (λ b. b ≡ false → MayRead program.now begun self.old.frames self.old.last of kind.now → ⊥) }
+        ensures { IfOk result (Moves (MayRead program.now begun self.old.frames self.old.last of kind.now) (read_to program.now self.old.frames self.old.last of kind.now) self.new) }
     {
         match self.pop() {
             None => self.in_main(alloc, program, begun, of, kind),

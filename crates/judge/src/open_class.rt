@@ -43,10 +43,8 @@ impl Pending {
         ensures some { IfSome result (λ found. self ≡ found.0 ∷ found.1) }
         ensures none { IfNone result (self ≡ []) }
     {
-        match self.reversed.pop() {
-            Some(class) => Some((class, self)),
-            None => None,
-        }
+        let class = self.reversed.pop()?;
+        Some((class, self))
     }
 }
 

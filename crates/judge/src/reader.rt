@@ -1,10 +1,9 @@
 //! The reading of one thread's events.
 
-ghost use Rattle.std.specs.Prelude.{◌≡◌, ℕ, List, Bool, IfOk, true, false};
-ghost use Rattle.init_core.specs.ProcedureWord.{printed};
-ghost use Rattle.init_core.specs.Standing.{Standing};
+ghost use Rattle.std.specs.Prelude.{◌≡◌, ℕ, List, IfOk, None, true, false};
+ghost use Rattle.init_core.specs.declared.event.Kind.TheVariants as kinds;
 ghost use Rattle.judge.specs.NextEvent.{begun_after};
-ghost use Rattle.judge.specs.Reading.{Reads, made_by, opening};
+ghost use Rattle.judge.specs.Reading.{ThreadReads, ThreadRefuses, opening};
 
 use crate::open_class::Procedures;
 use hierarchy::{ClassId, Program};
@@ -45,8 +44,8 @@ impl Reader {
         class: Option<ClassId>,
         kind: &Kind,
     ) -> Result<bool, AllocError>
-        ensures yes { IfOk result (λ b. b ≡ true → (t : ℕ) → Reads program.now t self.old.begun self.old.procedures (made_by t class kind.now) self.new.begun self.new.procedures) }
-        ensures no { IfOk result (λ b. b ≡ false → (t : ℕ) (begun : Bool) (after : Standing) → Reads program.now t self.old.begun self.old.procedures (made_by t class kind.now) begun after → ⊥) }
+        ensures yes { IfOk result (λ b. b ≡ true → ThreadReads program.now self.old.begun self.old.procedures class kind.now self.new.begun self.new.procedures) }
+        ensures no { IfOk result (λ b. b ≡ false → ThreadRefuses program.now self.old.begun self.old.procedures class kind.now) }
     {
         let begun = self.begun;
         self.begun = self.procedures.begun_after(begun);
@@ -61,8 +60,8 @@ impl Reader {
         alloc: Global,
         program: &Program,
     ) -> Result<bool, AllocError>
-        ensures yes { IfOk result (λ b. b ≡ true → (t : ℕ) (text : List ℕ) → Reads program.now t self.old.begun self.old.procedures (printed t text) self.new.begun self.new.procedures) }
-        ensures no { IfOk result (λ b. b ≡ false → (t : ℕ) (text : List ℕ) (begun : Bool) (after : Standing) → Reads program.now t self.old.begun self.old.procedures (printed t text) begun after → ⊥) }
+        ensures yes { IfOk result (λ b. b ≡ true → (text : List ℕ) → ThreadReads program.now self.old.begun self.old.procedures None (kinds.Prints text) self.new.begun self.new.procedures) }
+        ensures no { IfOk result (λ b. b ≡ false → (text : List ℕ) → ThreadRefuses program.now self.old.begun self.old.procedures None (kinds.Prints text)) }
     {
         self.read(alloc, program, None, &Kind::Prints(Sequence::new(alloc)))
     }

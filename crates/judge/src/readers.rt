@@ -1,12 +1,9 @@
 //! The readers of all threads.
 
-ghost use Rattle.std.specs.Prelude.{◌≡◌, ℕ, ◌++◌, ◌∷◌, [], List, IfOk, map, true, false};
-ghost use Rattle.hierarchy.specs.declared.class.ClassId.{ClassId as ClassFacts};
+ghost use Rattle.std.specs.Prelude.{◌≡◌, ℕ, List, IfOk, map, true, false};
 ghost use Rattle.init_core.specs.ProcedureWord.{printed};
-ghost use Rattle.init_core.specs.declared.event.Event.{Event as EventFacts};
-ghost use Rattle.judge.specs.Judging.{AreReadersAfter, MayAllStop, opened};
+ghost use Rattle.judge.specs.Judging.{MayAllStop, ReadersRefuse, ReadersTake, opened};
 ghost use Rattle.judge.specs.Reading.{made_by};
-ghost use Rattle.judge.specs.Verdicts.{ThreadsBegin};
 
 use crate::reader::Reader;
 use hierarchy::{ClassId, Program};
@@ -45,10 +42,8 @@ impl Readers {
         class: Option<ClassId>,
         kind: &Kind,
     ) -> Result<bool, AllocError>
-        ensures yes { IfOk result (λ b. b ≡ true → (mains : List ClassFacts) (h : List EventFacts) →
-            AreReadersAfter program.now mains self.old.of_threads.items h → AreReadersAfter program.now mains self.new.of_threads.items (h ++ made_by thread class kind.now ∷ [])) }
-        ensures no { IfOk result (λ b. b ≡ false → (mains : List ClassFacts) (h : List EventFacts) →
-            AreReadersAfter program.now mains self.old.of_threads.items h → ThreadsBegin program.now mains (h ++ made_by thread class kind.now ∷ []) → ⊥) }
+        ensures yes { IfOk result (λ b. b ≡ true → ReadersTake program.now self.old.of_threads.items self.new.of_threads.items (made_by thread class kind.now)) }
+        ensures no { IfOk result (λ b. b ≡ false → ReadersRefuse program.now self.old.of_threads.items (made_by thread class kind.now)) }
     {
         if thread >= self.of_threads.len() {
             return Ok(false);
@@ -66,10 +61,8 @@ impl Readers {
         program: &Program,
         thread: usize,
     ) -> Result<bool, AllocError>
-        ensures yes { IfOk result (λ b. b ≡ true → (mains : List ClassFacts) (h : List EventFacts) (text : List ℕ) →
-            AreReadersAfter program.now mains self.old.of_threads.items h → AreReadersAfter program.now mains self.new.of_threads.items (h ++ printed thread text ∷ [])) }
-        ensures no { IfOk result (λ b. b ≡ false → (mains : List ClassFacts) (h : List EventFacts) (text : List ℕ) →
-            AreReadersAfter program.now mains self.old.of_threads.items h → ThreadsBegin program.now mains (h ++ printed thread text ∷ []) → ⊥) }
+        ensures yes { IfOk result (λ b. b ≡ true → (text : List ℕ) → ReadersTake program.now self.old.of_threads.items self.new.of_threads.items (printed thread text)) }
+        ensures no { IfOk result (λ b. b ≡ false → (text : List ℕ) → ReadersRefuse program.now self.old.of_threads.items (printed thread text)) }
     {
         if thread < self.of_threads.len() {
             let reader = &mut self.of_threads[thread];

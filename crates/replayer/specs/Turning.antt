@@ -1,12 +1,18 @@
 -- The turns that the threads of a run have had.
 use Rattle.std.specs.Prelude.{◌≡◌, ℕ, [], ◌++◌, List, map}
-use Rattle.bodies.specs.Lending.{Lent, lent_at_start}
+use Rattle.bodies.specs.Lending.{Lending, Lent, lent_at_start, lent_bodies}
 use Rattle.bodies.specs.Making.{Making}
 use Rattle.hierarchy.specs.declared.class.ClassId.{ClassId}
 use Rattle.hierarchy.specs.LinkedProgram.{LinkedProgram}
+use Rattle.replayer.specs.declared.log.EventLog.{EventLog}
+use Rattle.replayer.specs.declared.run.Found.{Found}
 use Rattle.replayer.specs.declared.run.Run.{Run}
 use Rattle.replayer.specs.declared.shared.Shared.{Shared}
-use Rattle.replayer.specs.AllGoing.{AllThreads, AreGoing, AreGone, IsSameBut, mains_of, starts_of}
+use Rattle.replayer.specs.declared.thread.Thread.{Thread}
+use Rattle.replayer.specs.declared.thread.Turn.{Turn}
+use Rattle.replayer.specs.AllGoing.{AllThreads, AreGoing, AreGone, HasGone, IsFound, IsHeld, IsSameBut, Leads, ThreadAt, mains_of, starts_of}
+use Rattle.replayer.specs.Going.{IsPaused, TurnsTo}
+use Rattle.replayer.specs.OrderedRun.{HasUsed, WaitsAfter, WaitsAt}
 use Rattle.replayer.specs.Turns.{AreOf, left_by, uses_of}
 
 -- thread t has had turns, which are among what it has used
@@ -18,14 +24,21 @@ pub record HasTurned {H : Type 0} (t : ℕ) (before after : Shared H) (uses used
   pub has_used : used ≡ uses ++ uses_of t before.state turned
   pub first : after.first ≡ before.first
 
+-- what a turn of a thread comes to, where the threads share this; and that it waits there
+abbrev pub TurnsWith : {S H : Type 0} → LinkedProgram → Lending S H → Making S → H → EventLog → Thread (Lent S H) → EventLog → Thread (Lent S H) → Turn → Type 0
+TurnsWith p L M h l w m x = TurnsTo p (lent_bodies L M) (WaitsAt L M h) l w m x
+
+abbrev pub IsPausedWith : {S H : Type 0} → LinkedProgram → Lending S H → Making S → H → EventLog → Thread (Lent S H) → Type 0
+IsPausedWith p L M h l w = IsPaused p (lent_bodies L M) (WaitsAt L M h) l w
+
 -- what all threads share is what the turns left, and each thread has used it in its turns
 pub record AreInTurn {S H : Type 0} (r : Run (Lent S H) H) : Type 0 where
   pub state : r.shared.state ≡ left_by r.shared.first.value r.shared.turns.items
   pub uses : AllThreads (λ t w. w.bodies.uses ≡ uses_of t r.shared.first.value r.shared.turns.items) r
 
 -- a run has just begun, of threads with these main classes and these bodies, which share h
-pub record HasBegun {S H : Type 0} (p : LinkedProgram) (M : Making (Lent S H)) (ms : List ClassId) (bodies : List S) (h : H) (r : Run (Lent S H) H) : Type 0 where
-  pub going : AreGoing p M r
+pub record HasBegun {S H : Type 0} (p : LinkedProgram) (L : Lending S H) (M : Making S) (ms : List ClassId) (bodies : List S) (h : H) (r : Run (Lent S H) H) : Type 0 where
+  pub going : AreGoing p (lent_bodies L M) r
   pub in_turn : AreInTurn r
   pub fresh : AreGone [] r
   pub events : r.log.events.items ≡ []
@@ -35,8 +48,8 @@ pub record HasBegun {S H : Type 0} (p : LinkedProgram) (M : Making (Lent S H)) (
   pub first : r.shared.first.value ≡ h
 
 -- the run goes on, of the same beginning
-pub record StillGoes {S H : Type 0} (p : LinkedProgram) (M : Making (Lent S H)) (before after : Run (Lent S H) H) : Type 0 where
-  pub going : AreGoing p M after
+pub record StillGoes {S H : Type 0} (p : LinkedProgram) (L : Lending S H) (M : Making S) (before after : Run (Lent S H) H) : Type 0 where
+  pub going : AreGoing p (lent_bodies L M) after
   pub in_turn : AreInTurn after
   pub first : after.shared.first ≡ before.shared.first
 
@@ -47,7 +60,22 @@ pub record HasOwn {S H : Type 0} (t : ℕ) (before after : Run S H) : Type 0 whe
   pub turns : after.shared.turns.items ≡ before.shared.turns.items ++ turned
 
 -- the run goes on by thread t alone
-pub record GoesAlone {S H : Type 0} (p : LinkedProgram) (M : Making (Lent S H)) (t : ℕ) (before after : Run (Lent S H) H) : Type 0 where
-  pub still : StillGoes p M before after
+pub record GoesAlone {S H : Type 0} (p : LinkedProgram) (L : Lending S H) (M : Making S) (t : ℕ) (before after : Run (Lent S H) H) : Type 0 where
+  pub still : StillGoes p L M before after
   pub turned : HasOwn t before after
   pub others : IsSameBut t before after
+
+-- what it comes to that thread t goes on, and that the lowest one that can does
+abbrev pub GoesTo : {S H : Type 0} → LinkedProgram → Lending S H → Making S → ℕ → Run (Lent S H) H → Run (Lent S H) H → Turn → Type 0
+GoesTo p L M t before after = HasGone p (lent_bodies L M) (HasUsed before.shared.first.value) (WaitsAfter L M before.shared.first.value) t before after
+
+abbrev pub LowestGoesTo : {S H : Type 0} → LinkedProgram → Lending S H → Making S → Run (Lent S H) H → Run (Lent S H) H → Found → Type 0
+LowestGoesTo p L M before after = IsFound p (lent_bodies L M) (HasUsed before.shared.first.value) (WaitsAfter L M before.shared.first.value) before after
+
+-- thread t waits, and hasn't given up
+abbrev pub HoldsAt : {S H : Type 0} → LinkedProgram → Lending S H → Making S → ℕ → Run (Lent S H) H → Type 0
+HoldsAt p L M t r = ThreadAt r t (IsHeld p (lent_bodies L M) (WaitsAfter L M r.shared.first.value r.shared.turns.items t) r.log)
+
+-- the run has followed this order to its end, while no thread had given up before, and afterwards these have
+abbrev pub HasFollowed : {S H : Type 0} → LinkedProgram → Lending S H → Making S → List ℕ → Run (Lent S H) H → List ℕ → Run (Lent S H) H → Type 0
+HasFollowed p L M order before gone after = Leads p (lent_bodies L M) (HasUsed before.shared.first.value) (WaitsAfter L M before.shared.first.value) order [] before [] gone after

@@ -6,9 +6,8 @@ ghost use Rattle.init_core.specs.Advance.{FitsBody};
 ghost use Rattle.init_core.specs.ProcedureWord.{GoesOn, given_up};
 ghost use Rattle.bodies.specs.Lending.{lent_bodies};
 ghost use Rattle.bodies.specs.declared.does.Does.TheVariants as does;
-ghost use Rattle.replayer.specs.Going.{Going, GoesOrEnds, HasStepped, IsDoing, IsInBody, HasComeTo, IsSameThread, IsWhy, Resting, TurnsTo};
-ghost use Rattle.replayer.specs.OrderedRun.{WaitsAt};
-ghost use Rattle.replayer.specs.Turning.{HasTurned};
+ghost use Rattle.replayer.specs.Going.{Going, GoesOrEnds, HasStepped, IsDoing, IsInBody, HasComeTo, IsSameThread, IsWhy, Resting};
+ghost use Rattle.replayer.specs.Turning.{HasTurned, TurnsWith};
 ghost use Rattle.replayer.specs.declared.thread.Turn.TheVariants as turns;
 
 use crate::lent::Lent;
@@ -189,7 +188,7 @@ impl<H, B: Lends<H>> Thread<Lent<B, H>> {
     ) -> Result<Turn, AllocError>
         requires resting { Resting program.now (lent_bodies B.lending (B.making program.now)) log.old self.old }
         requires body { IsInBody self.old }
-        ensures turn { IfOk result (TurnsTo program.now (lent_bodies B.lending (B.making program.now)) (WaitsAt B.lending (B.making program.now) shared.new.state) log.old self.old log.new self.new) }
+        ensures turn { IfOk result (TurnsWith program.now B.lending (B.making program.now) shared.new.state log.old self.old log.new self.new) }
         ensures same { IsSameThread self.old self.new }
         ensures turned { IfOk result (λ turn. HasTurned self.old.number shared.old shared.new self.old.bodies.uses self.new.bodies.uses) }
         ensures still { IfOk result (λ turn. turn ≡ turns.Waits → shared.new ≡ shared.old) }

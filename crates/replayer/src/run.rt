@@ -3,9 +3,8 @@
 ghost use Rattle.std.specs.Prelude.{◌≡◌, ℕ, ◌<◌, ◌≤◌, List, [], IfOk, OnOk, true, length, vec_len};
 ghost use Rattle.init_core.specs.declared.event.TheConstants.{THREADS};
 ghost use Rattle.bodies.specs.Runs.{AreMains};
-ghost use Rattle.replayer.specs.AllGoing.{AllThreads, AreGoing, HasDone, HasGone, IsFound, IsHeld, IsSameThere, Leads, ThreadAt};
-ghost use Rattle.replayer.specs.OrderedRun.{HasUsed, WaitsAfter};
-ghost use Rattle.replayer.specs.Turning.{AreInTurn, GoesAlone, HasBegun, StillGoes};
+ghost use Rattle.replayer.specs.AllGoing.{AllThreads, AreGoing, HasDone, IsSameThere, ThreadAt};
+ghost use Rattle.replayer.specs.Turning.{AreInTurn, GoesAlone, GoesTo, HasBegun, HasFollowed, HoldsAt, LowestGoesTo, StillGoes};
 ghost use Rattle.bodies.specs.Lending.{lent_bodies};
 ghost use Rattle.std.specs.List.{AllByRecursion};
 
@@ -48,7 +47,7 @@ impl<H: Drop, B: Lends<H>> Run<Lent<B, H>, H> {
     ) -> Result<Self, AllocError>
         requires mains { AreMains program.now mains.now }
         requires count { vec_len bodies ≡ length mains.now }
-        ensures { IfOk result (HasBegun program.now (lent_bodies B.lending (B.making program.now)) mains.now bodies.items shared) }
+        ensures { IfOk result (HasBegun program.now B.lending (B.making program.now) mains.now bodies.items shared) }
     {
         let log = EventLog::new(alloc, program, mains.len())?;
         let mut threads = Vec::new(alloc);
@@ -70,8 +69,8 @@ impl<H: Drop, B: Lends<H>> Run<Lent<B, H>, H> {
         requires going { AreGoing program.now (lent_bodies B.lending (B.making program.now)) self.old }
         requires in_turn { AreInTurn self.old }
         requires number { number < length self.old.threads.items }
-        ensures alone { IfOk result (λ turn. GoesAlone program.now (lent_bodies B.lending (B.making program.now)) number self.old self.new) }
-        ensures gone { IfOk result (HasGone program.now (lent_bodies B.lending (B.making program.now)) (HasUsed self.old.shared.first.value) (WaitsAfter B.lending (B.making program.now) self.old.shared.first.value) number self.old self.new) }
+        ensures alone { IfOk result (λ turn. GoesAlone program.now B.lending (B.making program.now) number self.old self.new) }
+        ensures gone { IfOk result (GoesTo program.now B.lending (B.making program.now) number self.old self.new) }
         ensures there { IfOk result (λ turn. IsSameThere number self.old self.new) }
     {
         let thread = &mut self.threads[number];
@@ -98,8 +97,8 @@ impl<H: Drop, B: Lends<H>> Run<Lent<B, H>, H> {
         requires going { AreGoing program.now (lent_bodies B.lending (B.making program.now)) self.old }
         requires in_turn { AreInTurn self.old }
         requires order { AllByRecursion (λ t. t < length self.old.threads.items) order.now }
-        ensures still { OnOk result (StillGoes program.now (lent_bodies B.lending (B.making program.now)) self.old self.new) }
-        ensures follows { OnOk result (Leads program.now (lent_bodies B.lending (B.making program.now)) (HasUsed self.old.shared.first.value) (WaitsAfter B.lending (B.making program.now) self.old.shared.first.value) order.now [] self.old [] [] self.new) }
+        ensures still { OnOk result (StillGoes program.now B.lending (B.making program.now) self.old self.new) }
+        ensures follows { OnOk result (HasFollowed program.now B.lending (B.making program.now) order.now self.old [] self.new) }
     {
         'order: for number in order {
             self.go(alloc, program, *number)?;
@@ -111,8 +110,8 @@ impl<H: Drop, B: Lends<H>> Run<Lent<B, H>, H> {
     fn go_lowest(&mut self, alloc: Global, program: &Program) -> Result<Found, AllocError>
         requires going { AreGoing program.now (lent_bodies B.lending (B.making program.now)) self.old }
         requires in_turn { AreInTurn self.old }
-        ensures still { IfOk result (λ found. StillGoes program.now (lent_bodies B.lending (B.making program.now)) self.old self.new) }
-        ensures found { IfOk result (IsFound program.now (lent_bodies B.lending (B.making program.now)) (HasUsed self.old.shared.first.value) (WaitsAfter B.lending (B.making program.now) self.old.shared.first.value) self.old self.new) }
+        ensures still { IfOk result (λ found. StillGoes program.now B.lending (B.making program.now) self.old self.new) }
+        ensures found { IfOk result (LowestGoesTo program.now B.lending (B.making program.now) self.old self.new) }
     {
         let mut held = None;
         'threads: for number in 0..self.threads.len() {
@@ -134,8 +133,8 @@ impl<H: Drop, B: Lends<H>> Run<Lent<B, H>, H> {
         requires going { AreGoing program.now (lent_bodies B.lending (B.making program.now)) self.old }
         requires in_turn { AreInTurn self.old }
         requires number { number < length self.old.threads.items }
-        requires held { ThreadAt self.old number (IsHeld program.now (lent_bodies B.lending (B.making program.now)) (WaitsAfter B.lending (B.making program.now) self.old.shared.first.value self.old.shared.turns.items number) self.old.log) }
-        ensures alone { GoesAlone program.now (lent_bodies B.lending (B.making program.now)) number self.old self.new }
+        requires held { HoldsAt program.now B.lending (B.making program.now) number self.old }
+        ensures alone { GoesAlone program.now B.lending (B.making program.now) number self.old self.new }
         ensures log { self.new.log ≡ self.old.log }
         ensures gave_up { ThreadAt self.new number (λ w. w.gave_up ≡ true) }
     {
@@ -150,8 +149,8 @@ impl<H: Drop, B: Lends<H>> Run<Lent<B, H>, H> {
     pub(crate) fn finish(&mut self, alloc: Global, program: &Program) -> Result<(), AllocError>
         requires going { AreGoing program.now (lent_bodies B.lending (B.making program.now)) self.old }
         requires in_turn { AreInTurn self.old }
-        ensures still { OnOk result (StillGoes program.now (lent_bodies B.lending (B.making program.now)) self.old self.new) }
-        ensures follows { OnOk result ((later : List ℕ) × Leads program.now (lent_bodies B.lending (B.making program.now)) (HasUsed self.old.shared.first.value) (WaitsAfter B.lending (B.making program.now) self.old.shared.first.value) [] [] self.old [] later self.new) }
+        ensures still { OnOk result (StillGoes program.now B.lending (B.making program.now) self.old self.new) }
+        ensures follows { OnOk result ((later : List ℕ) × HasFollowed program.now B.lending (B.making program.now) [] self.old later self.new) }
         ensures ended { OnOk result (AllThreads (λ t w. HasDone w) self.new) }
     {
         'rounds: for _ in 0..u64::MAX {

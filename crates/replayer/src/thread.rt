@@ -5,11 +5,10 @@ ghost use Rattle.init_core.specs.declared.procedure.Next.TheVariants as nexts;
 ghost use Rattle.init_core.specs.Advance.{next_of, is_running};
 ghost use Rattle.init_core.specs.ProcedureWord.{IsOfFiles};
 ghost use Rattle.bodies.specs.Lending.{lent_at_start, lent_bodies};
-ghost use Rattle.replayer.specs.Going.{Going, GoesOrEnds, HasStepped, IsNew, IsPaused, IsSameThread, Resting, TurnsTo, turn_by};
+ghost use Rattle.replayer.specs.Going.{Going, GoesOrEnds, HasStepped, IsNew, IsSameThread, Resting, turn_by};
 ghost use Rattle.replayer.specs.declared.thread.Turn.TheVariants as turns;
 ghost use Rattle.replayer.specs.Logged.{IsLog};
-ghost use Rattle.replayer.specs.OrderedRun.{WaitsAt};
-ghost use Rattle.replayer.specs.Turning.{HasTurned};
+ghost use Rattle.replayer.specs.Turning.{HasTurned, IsPausedWith, TurnsWith};
 
 use crate::lent::Lent;
 use crate::log::EventLog;
@@ -105,7 +104,7 @@ impl<H, B: Lends<H>> Thread<Lent<B, H>> {
     ) -> Result<Turn, AllocError>
         requires going { Going program.now (lent_bodies B.lending (B.making program.now)) log.old self.old }
         requires next { next_of self.old.procedure.frames ≡ nexts.Look class }
-        ensures turn { IfOk result (TurnsTo program.now (lent_bodies B.lending (B.making program.now)) (WaitsAt B.lending (B.making program.now) shared.now.state) log.old self.old log.new self.new) }
+        ensures turn { IfOk result (TurnsWith program.now B.lending (B.making program.now) shared.now.state log.old self.old log.new self.new) }
         ensures same { IsSameThread self.old self.new }
         ensures bodies { self.new.bodies ≡ self.old.bodies }
     {
@@ -201,7 +200,7 @@ impl<H, B: Lends<H>> Thread<Lent<B, H>> {
         shared: &mut Shared<H>,
     ) -> Result<Turn, AllocError>
         requires { Resting program.now (lent_bodies B.lending (B.making program.now)) log.old self.old }
-        ensures turn { IfOk result (TurnsTo program.now (lent_bodies B.lending (B.making program.now)) (WaitsAt B.lending (B.making program.now) shared.new.state) log.old self.old log.new self.new) }
+        ensures turn { IfOk result (TurnsWith program.now B.lending (B.making program.now) shared.new.state log.old self.old log.new self.new) }
         ensures same { IsSameThread self.old self.new }
         ensures turned { IfOk result (λ turn. HasTurned self.old.number shared.old shared.new self.old.bodies.uses self.new.bodies.uses) }
         ensures still { IfOk result (λ turn. turn ≡ turns.Waits → shared.new ≡ shared.old) }
@@ -239,7 +238,7 @@ impl<H, B: Lends<H>> Thread<Lent<B, H>> {
         shared: &mut Shared<H>,
     ) -> Result<Turn, AllocError>
         requires { Resting program.now (lent_bodies B.lending (B.making program.now)) log.old self.old }
-        ensures turn { IfOk result (TurnsTo program.now (lent_bodies B.lending (B.making program.now)) (WaitsAt B.lending (B.making program.now) shared.new.state) log.old self.old log.new self.new) }
+        ensures turn { IfOk result (TurnsWith program.now B.lending (B.making program.now) shared.new.state log.old self.old log.new self.new) }
         ensures moves { IfOk result (λ turn. turn ≢ turns.Silent) }
         ensures same { IsSameThread self.old self.new }
         ensures turned { IfOk result (λ turn. HasTurned self.old.number shared.old shared.new self.old.bodies.uses self.new.bodies.uses) }
@@ -277,7 +276,7 @@ impl<H, B: Lends<H>> Thread<Lent<B, H>> {
         log: &EventLog,
         shared: &mut Shared<H>,
     ) -> Option<Outcome>
-        requires paused { IsPaused program.now (lent_bodies B.lending (B.making program.now)) (WaitsAt B.lending (B.making program.now) shared.old.state) log.now self.old }
+        requires paused { IsPausedWith program.now B.lending (B.making program.now) shared.old.state log.now self.old }
         ensures going { GoesOrEnds program.now (lent_bodies B.lending (B.making program.now)) log.now self.new result }
         ensures same { IsSameThread (record self.old { gave_up = true }) self.new }
         ensures turned { HasTurned self.old.number shared.old shared.new self.old.bodies.uses self.new.bodies.uses }

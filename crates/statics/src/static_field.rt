@@ -115,10 +115,7 @@ fn constant_of(program: &Program, base: Option<BaseType>, constant: &Constant) -
 pub fn static_field_at(program: &Program, class: ClassId, place: usize) -> Option<&Field>
     ensures { option_copied result ≡ slice_get (static_fields program.now class) place }
 {
-    match program.class(class) {
-        Some(class) => static_among(class.fields.as_slice(), place),
-        None => None,
-    }
+    static_among(program.class(class)?.fields.as_slice(), place)
 }
 
 /// The static field of that place among the static ones of these.

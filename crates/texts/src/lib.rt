@@ -68,10 +68,7 @@ impl Texts {
     pub fn at(&self, place: usize) -> Option<&[u8]>
         ensures { option_copied result ≡ slice_get self.now place }
     {
-        match self.texts.get(place) {
-            Some(text) => Some(text.as_slice()),
-            None => None,
-        }
+        Some(self.texts.get(place)?.as_slice())
     }
 
     /// How many texts there are.

@@ -129,10 +129,7 @@ fn has_colon(word: &[u8]) -> bool
 fn static_of(program: &Program, class: ClassId, word: &[u8]) -> Option<(usize, Option<BaseType>)>
     ensures { result ≡ field_from 0 (static_fields program.now class) word.now }
 {
-    match program.class(class) {
-        Some(class) => static_named(class.fields.as_slice(), word),
-        None => None,
-    }
+    static_named(program.class(class)?.fields.as_slice(), word)
 }
 
 /// The static field of the class that a word names, by its place, and its base type.

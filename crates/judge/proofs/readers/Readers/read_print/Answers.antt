@@ -5,7 +5,7 @@ use Rattle.judge.proofs.Threads.{thread_unknown}
 use Rattle.judge.proofs.readers.Readers.read_print.Goals as goal
 
 pub returns-else-thread-len-clause-no : goal.returns-else-thread-len-clause-no
-returns-else-thread-len-clause-no c = λ q mains h text all k. thread_unknown c.args.program.now mains c.args.self.now.of_threads.items h (printed c.args.thread text) all (search rules) k
+returns-else-thread-len-clause-no c = λ q text mains h all k. thread_unknown c.args.program.now mains c.args.self.now.of_threads.items h (printed c.args.thread text) all (search rules) k
 
 pub returns-then-thread-len-clause-yes : goal.returns-then-thread-len-clause-yes
 returns-then-thread-len-clause-yes c =
