@@ -19,8 +19,8 @@ modify Prim.Native.Nat.zero f (x ∷ xs) = f x ∷ xs
 modify (suc n) f (x ∷ xs) = x ∷ modify n f xs
 
 -- a place of a table that has a word for stamps and eight words and a slot for each place
-abbrev pub IsPlaceOf : ℕ → TableId → Type 0
-IsPlaceOf n t = (n < t.slots) × (t.words ≡ t.slots * 8 + 8) × (t.slots < 2 ^ 58)
+abbrev pub IsInTable : ℕ → TableId → Type 0
+IsInTable n t = (n < t.slots) × (t.words ≡ t.slots * 8 + 8) × (t.slots < 2 ^ 58)
 
 -- the place whose slot a seat carries once that of the place n has gone home
 abbrev pub without : ℕ → Opt ℕ → Opt ℕ

@@ -5,7 +5,7 @@ ghost use mathlib.Core.Option.{some};
 ghost use Rattle.init_lock.specs.declared.views.Custody.TheVariants.{Carried};
 ghost use Rattle.init_lock.specs.Rule.{Each};
 ghost use Rattle.init_lock.specs.Log.{is_at};
-ghost use Rattle.init_lock.specs.Steps.{Found, IsOnePass, IsPlaceOf, JustTook, HasOut, MayReturn, in_custody, custody_beside, slots_of, without as without_place, took, missed, released};
+ghost use Rattle.init_lock.specs.Steps.{Found, IsOnePass, IsInTable, JustTook, HasOut, MayReturn, in_custody, custody_beside, slots_of, without as without_place, took, missed, released};
 
 use crate::block::Block;
 use crate::keeps::Keeps;
@@ -31,7 +31,7 @@ pub(crate) fn see<R: Keeps>(
     place: usize,
 ) -> bool
     requires table { seat.old.table_id ≡ shared.now.table_id }
-    requires place { IsPlaceOf place shared.now.table_id }
+    requires place { IsInTable place shared.now.table_id }
     requires pass { IsOnePass _number _carried seat.old.me }
     ensures table { (seat.new.table_id ≡ seat.old.table_id) × (seat.new.id ≡ seat.old.id) }
     ensures seat { MatchBool result (seat.new.me ≡ seat.old.me) (seat.new.me ≡ (map missed seat.old.me.0, seat.old.me.1)) }
@@ -69,7 +69,7 @@ fn park<R: Keeps>(
     _taken: &Block<R>,
 )
     requires table { seat.old.table_id ≡ shared.now.table_id }
-    requires place { IsPlaceOf place shared.now.table_id }
+    requires place { IsInTable place shared.now.table_id }
     requires taken { JustTook R.kept carried place _taken.now seat.old.me }
     ensures table { (seat.new.table_id ≡ seat.old.table_id) × (seat.new.id ≡ seat.old.id) }
     ensures parked { seat.new.me ≡ (map (in_custody place (custody_beside carried)) seat.old.me.0, slots_of (option_or carried (Some place))) }
@@ -87,7 +87,7 @@ fn fetch<R: Keeps>(
     place: usize,
 )
     requires table { seat.old.table_id ≡ shared.now.table_id }
-    requires place { IsPlaceOf place shared.now.table_id }
+    requires place { IsInTable place shared.now.table_id }
     requires out { HasOut carried place seat.old.me }
     ensures table { (seat.new.table_id ≡ seat.old.table_id) × (seat.new.id ≡ seat.old.id) }
     ensures fetched { seat.new.me ≡ (map (in_custody place Carried) seat.old.me.0, (place, None) ∷ slots_of (without_place place carried)) }
@@ -107,7 +107,7 @@ pub(crate) fn take_out<R: Keeps>(
     place: usize,
 ) -> Option<Block<R>>
     requires table { seat.old.table_id ≡ shared.now.table_id }
-    requires place { IsPlaceOf place shared.now.table_id }
+    requires place { IsInTable place shared.now.table_id }
     requires pass { (number < 16) × IsOnePass number carried seat.old.me }
     ensures table { (seat.new.table_id ≡ seat.old.table_id) × (seat.new.id ≡ seat.old.id) }
     ensures some { IfSome result (λ r. (seat.new.me ≡ (map (took R.kept place r (custody_beside carried)) seat.old.me.0, slots_of (option_or carried (Some place)))) × Each (Found R.kept R.may_draw R.follows place r) seat.old.me.0) }
@@ -135,7 +135,7 @@ pub(crate) fn put_back<R: Keeps>(
     back: Block<R>,
 )
     requires table { seat.old.table_id ≡ shared.now.table_id }
-    requires place { IsPlaceOf place shared.now.table_id }
+    requires place { IsInTable place shared.now.table_id }
     requires held { MayReturn R.kept R.may_draw R.follows carried place back seat.old.me }
     ensures table { (seat.new.table_id ≡ seat.old.table_id) × (seat.new.id ≡ seat.old.id) }
     ensures freed { seat.new.me ≡ (map (released place back) seat.old.me.0, slots_of (without_place place carried)) }
