@@ -2,7 +2,7 @@
 """Builds the program jinit, after the crates that it stands on: along their graph, side by side on the processors there
 are, first those with the longest path of others after them.
 
-What was built before is kept in the crates' folders out/. Each crate has a line on standard error with the time so far. A
+What was built before is kept in the crates' folders out/. Each crate has a line on standard error with its own time and the time so far. A
 crate that fails stops the build: its own last lines follow, and the exit status is 70."""
 import copy
 import os
@@ -60,10 +60,14 @@ def along_the_graph():
         built = [os.path.getmtime(f"{it.folder}/out/rlib/stamp") for it in [*crate.below(), crate] if it.is_built()]
         return crate.is_built() and built[-1] == max(built)
 
+    kept = set()
+    for it in crates:
+        if not it.is_program and kept.issuperset(below.name for below in it.below()) and is_built(it):
+            kept.add(it.name)
+
     def build(crate, jobs):
         crate = copy.copy(crate)
-        was_built = not crate.is_program and is_built(crate)
-        if not crate.is_program and not was_built:
+        if not crate.is_program and crate.name not in kept:
             shutil.rmtree(f"{crate.folder}/out/rlib", ignore_errors=True)
         if is_new:
             # (of a library only its statements are built, which are loaded sooner than its proofs. With several jobs a proof from nothing
@@ -81,14 +85,13 @@ def along_the_graph():
         if status:
             stop(crate.name, log)
         done.append(crate.name)
-        how = "was built before" if was_built else f"is proved and built in {time.time() - start:.0f} s"
+        how = "was built before" if crate.name in kept else f"is proved and built in {time.time() - start:.0f} s"
         say(f"{len(done)} of {len(crates)}: {crate.name} {how}, {time.time() - began:.0f} s so far")
 
     tasks = {}
     for it in crates:
         waits = [(below.name, "proof") for below in it.below()]
-        # (what is built is no work, unless something below it is built anew)
-        work = 0 if not it.is_program and is_built(it) else kit.weight(rt, it)
+        work = 0 if it.name in kept else kit.weight(rt, it)
         tasks[it.name, "proof"] = waits, work, lambda given, jobs, it=it: build(it, jobs)
     lanes.run(tasks, {}, *kit.lanes(rt), kit.memory_for)
     return held

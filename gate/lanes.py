@@ -3,7 +3,8 @@
 What has nearly the longest path of others after it leads. The other proofs and the tests run beside it at a lower priority, and edits
 at a still lower one. So each takes what those before it leave: no task has work for all processors all the time. Only what has nearly the
 longest path of what could run has more jobs than it needs: two where that path is longer than what is left for each processor, and as
-many as the others leave idle. Several jobs take the processors 20 to 50 % longer than one."""
+many as the others leave idle, of which a proof with less work counts for its share alone. Several jobs take the processors 20 to 50 %
+longer than one."""
 import os
 from concurrent.futures import FIRST_COMPLETED, ThreadPoolExecutor, wait
 

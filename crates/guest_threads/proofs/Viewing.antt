@@ -13,9 +13,9 @@ use Rattle.guest_threads.specs.Tasks.{TaskFacts, IsWhy, IsLimitOf}
 use Rattle.guest_threads.proofs.Acting.{HasWaited}
 use Rattle.guest_threads.specs.Working.{Working, HasComeTo, IsDoing, IsOver}
 
--- what a task is seen as, written of its fields
-abbrev pub inside_of : {S : Type 0} {k j : TaskFacts S} → k ≡ j → TaskFacts S
-inside_of {k = k} e = k
+-- what a task is seen as, by its fields
+abbrev pub by_fields : {S : Type 0} {k j : TaskFacts S} → k ≡ j → TaskFacts S
+by_fields {k = k} e = k
 
 module _ {S : Type 0} (F : LinkedProgram → Making S) {k j : TaskFacts S} (e : k ≡ j) where
   pub working_at : {w : Work S} → Working (F k.program) k w → Working (F j.program) j w

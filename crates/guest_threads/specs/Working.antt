@@ -86,7 +86,7 @@ pub record Took (p : LinkedProgram) (c : ClassId) (before after : PassFacts Guar
   pub others : IsSameBut c.number before.places after.places
   pub away : IsAwayBut c.number after.places
 
--- the pass has this record and no other, as it found it, and may give it back with these events
+-- the pass has this record of the table and no other; it was found with what the pass has seen there, now keeps these events, and is of the class that it was
 pub record MayGiveBack (table : TableFacts) (x : PassFacts Guarded Event) (h : HeldFacts Guarded) (events : List Event) : Type 0 where
   pub of_table : x.table ≡ table.id
   pub out : out_of h.place x.places ≡ Some h.taken

@@ -1,6 +1,6 @@
 //! All that one thread does.
 
-ghost use Rattle.std.specs.Prelude.{◌≡◌, ℕ, [], ◌∷◌, None, IfOk, true, false};
+ghost use Rattle.std.specs.Prelude.{◌≡◌, ℕ, [], ◌∷◌, None, IfOk, false};
 ghost use Rattle.init_core.specs.declared.frames.Phase.TheVariants.{Looking};
 ghost use Rattle.init_core.specs.declared.procedure.Next.TheVariants as nexts;
 ghost use Rattle.init_core.specs.Advance.{next_of, is_running};

@@ -2,7 +2,6 @@
 //! (JLS SE 8 12.4.2 steps 7 and 12; JVMS SE 8 6.3).
 
 ghost use Rattle.std.specs.Prelude.{◌≡◌, ℕ, List};
-ghost use Rattle.hierarchy.specs.declared.class.ClassId.{ClassId};
 ghost use Rattle.hierarchy.specs.LinkedProgram.{LinkedProgram};
 ghost use Rattle.init_core.specs.declared.event.Event.{Event};
 ghost use Rattle.init_core.specs.Advance.{MayEndThread, thread_ended};

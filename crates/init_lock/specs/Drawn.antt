@@ -1,4 +1,4 @@
--- What a draw and the way back of a record leave of the pass that makes them.
+-- What a pass knows once it has drawn an event, or has given a record back.
 use Rattle.std.specs.Prelude.{◌≡◌, ℕ, ◌+◌, ◌^◌, ◌<◌, List, [], ◌∷◌, ◌++◌, length, Option as Opt, Some, None}
 use Rattle.init_lock.specs.Known.{PassFacts, IsSamePass, look, seen_at, out_of, last_at, IsSameBut, IsAway, IsAwayBut}
 use Rattle.init_lock.specs.Log.{stamped, AreBelow}
@@ -11,12 +11,12 @@ pub record Draws {R E : Type 0} (stamp : ℕ) (place : Opt ℕ) (event : E) (bef
   pub room : after.room + 1 ≡ before.room
   pub below : stamp < 2 ^ 62
   pub rising : AreBelow stamp before.journal
-  -- the pass has seen it at its place, and knows else what it knew
+  -- the pass has seen it at its place, and otherwise knows what it knew
   pub places : after.places ≡ drawn_places place event before.places
   pub looks : after.looks ≡ before.looks
   pub same : IsSamePass before after
 
--- the pass has seen one more event at place n, whose record it has, and knows else what it knew
+-- the pass has seen one more event at place n; which records it has, and what it knows of other places, is as before
 pub record HasSeenMore {R E : Type 0} (n : ℕ) (event : E) (before after : PassFacts R E) : Type 0 where
   pub seen : seen_at n after.places ≡ seen_at n before.places ++ event ∷ []
   pub out : out_of n after.places ≡ out_of n before.places
@@ -33,7 +33,7 @@ pub record WentBack {R E : Type 0} (n : ℕ) (r : R) (events : List E) (before a
   pub others : IsSameBut n before.places after.places
   pub looks : after.looks ≡ look n (length before.journal) events ∷ before.looks
   pub away : IsAwayBut n before.places → IsAway after.places
-  -- its journal is as it was
+  -- the pass's journal is as it was
   pub journal : after.journal ≡ before.journal
   pub room : after.room ≡ before.room
   pub same : IsSamePass before after

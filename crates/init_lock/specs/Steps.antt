@@ -18,7 +18,7 @@ modify n f [] = []
 modify Prim.Native.Nat.zero f (x ∷ xs) = f x ∷ xs
 modify (suc n) f (x ∷ xs) = x ∷ modify n f xs
 
--- a place of a table that has a word for stamps and eight words and a slot for each place
+-- a place of a table of fewer than 2 ^ 58 places, with a slot and eight words for each, and eight words for the stamps
 abbrev pub IsInTable : ℕ → TableId → Type 0
 IsInTable n t = (n < t.slots) × (t.words ≡ t.slots * 8 + 8) × (t.slots < 2 ^ 58)
 

@@ -23,7 +23,7 @@ pub record Taken {R E : Type 0} (kept : R → List E) (may : ℕ → Opt ℕ →
   pub others : IsSameBut n before.places after.places
   pub looks : after.looks ≡ look n (length before.journal) (kept h.kept) ∷ before.looks
   pub holding : IsAway before.places → IsAwayBut n after.places
-  -- its journal is as it was
+  -- the pass's journal is as it was
   pub journal : after.journal ≡ before.journal
   pub room : after.room ≡ before.room
   pub same : IsSamePass before after

@@ -1,5 +1,5 @@
 //! The table of locked records, and one try of a lock.
-ghost use Rattle.std.specs.Prelude.{◌≡◌, ◌+◌, ◌<◌, ◌≤◌, MatchBool, Option, Some, None, IfSome, IfNone, OnSome};
+ghost use Rattle.std.specs.Prelude.{◌≡◌, ◌+◌, ◌<◌, ◌≤◌, MatchBool, Some, IfSome, IfNone, OnSome};
 ghost use Rattle.init_lock.specs.Drawn.{WentBack};
 ghost use Rattle.init_lock.specs.Known.{seen_at, out_of};
 ghost use Rattle.init_lock.specs.Taken.{Taken};

@@ -1,6 +1,6 @@
 //! The targets of switches.
 
-ghost use Rattle.std.specs.Prelude.{◌≡◌, Some, None};
+ghost use Rattle.std.specs.Prelude.{◌≡◌, Some};
 ghost use Rattle.interpreter.specs.Leads.{case_target, switch_lead, target_at as target_behind, target_of};
 ghost use Rattle.interpreter.specs.Methods.{instruction_at as text_at};
 

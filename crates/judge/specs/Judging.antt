@@ -41,10 +41,11 @@ BreaksAt p c h t k rule.Label = Allows (label_of h) t k → ⊥
 BreaksAt p c h t k rule.Value = Allows (label_of h) t k × (Holds (statics_of p c) h k → ⊥)
 BreaksAt p c h t k _ = ⊥
 
--- t does this at the class, whichever it is, and its state goes from this to that; or it breaks this rule
+-- thread t does this at the class, whichever it is, and its state goes from this to that
 abbrev pub StateTakes : State → State → ℕ → Kind → Type 0
 StateTakes before after t k = (p : LinkedProgram) (c : ClassId) (h : List Event) → IsStateAfter p c before h → IsStateAfter p c after (h ++ event t c k ∷ [])
 
+-- it breaks this rule at the class
 abbrev pub StateRefuses : State → ℕ → Kind → Rule → Type 0
 StateRefuses before t k rule = (p : LinkedProgram) (c : ClassId) (h : List Event) → IsStateAfter p c before h → BreaksAt p c h t k rule
 
@@ -53,10 +54,11 @@ pub record AreStatesAfter (p : LinkedProgram) (states : List State) (events : Li
   pub each : (n : ℕ) (s : State) → slice_get states n ≡ Some s → IsStateAfter p (id n) s (of_class (id n) events)
   pub beyond : (c : ClassId) → length states ≤ c.number → of_class c events ≡ []
 
--- t does this at c, and the states go from these to those; or it breaks this rule
+-- thread t does this at c, and the states of all classes go from these to those
 abbrev pub StatesTake : LinkedProgram → List State → List State → ℕ → ClassId → Kind → Type 0
 StatesTake p before after t c k = (events : List Event) → AreStatesAfter p before events → AreStatesAfter p after (events ++ event t c k ∷ [])
 
+-- it breaks this rule at c
 abbrev pub StatesRefuse : LinkedProgram → List State → ℕ → ClassId → Kind → Rule → Type 0
 StatesRefuse p before t c k rule = (events : List Event) → AreStatesAfter p before events → BreaksAt p c (of_class c events) t k rule
 
@@ -69,10 +71,11 @@ IsReaderAfter p t m r xs = ⊥
 abbrev pub AreReadersAfter : LinkedProgram → List ClassId → List Reader → List Event → Type 0
 AreReadersAfter p mains readers events = (t : ℕ) → IsReaderAfter p t (slice_get mains t) (slice_get readers t) (of_thread t events)
 
--- the readers read this event, and go from these states to those; or it can't come next
+-- the readers of all threads take this event, and go from these states to those
 abbrev pub ReadersTake : LinkedProgram → List Reader → List Reader → Event → Type 0
 ReadersTake p before after e = (mains : List ClassId) (h : List Event) → AreReadersAfter p mains before h → AreReadersAfter p mains after (h ++ e ∷ [])
 
+-- this event can't come next
 abbrev pub ReadersRefuse : LinkedProgram → List Reader → Event → Type 0
 ReadersRefuse p before e = (mains : List ClassId) (h : List Event) → AreReadersAfter p mains before h → ThreadsBegin p mains (h ++ e ∷ []) → ⊥
 
@@ -80,10 +83,11 @@ pub record HasJudged (p : LinkedProgram) (mains : List ClassId) (j : Judge) (eve
   pub readers : AreReadersAfter p mains j.readers.of_threads.items events
   pub classes : AreStatesAfter p j.classes.states.items events
 
--- the judge takes this event, and goes from one state to another; or it breaks this rule
+-- the judge takes this event, and goes from one state to another
 abbrev pub JudgeTakes : LinkedProgram → Judge → Judge → Event → Type 0
 JudgeTakes p before after e = (mains : List ClassId) (h : List Event) → HasJudged p mains before h → HasJudged p mains after (h ++ e ∷ [])
 
+-- this event breaks this rule
 abbrev pub JudgeRefuses : LinkedProgram → Judge → Event → Rule → Type 0
 JudgeRefuses p before e rule = (mains : List ClassId) (h : List Event) → HasJudged p mains before h → Breaks p mains rule (h ++ e ∷ [])
 

@@ -20,8 +20,8 @@ use Rattle.init_core.specs.Standing.{Standing}
 use Rattle.init_core.specs.Leads.{frame, standing, outcome_of}
 use Rattle.init_core.specs.Advance.{after_needs, after_word}
 
--- whether an event may come next, after which the procedures, as they stand now, stand there
-pub record Moves (May : Type 0) (there now : Standing) (b : Bool) : Type 0 where
+-- b says whether an event may come next; where it may, the procedures stand there now
+pub record MovesIf (May : Type 0) (there now : Standing) (b : Bool) : Type 0 where
   pub yes : b ≡ true → May
   pub leads : b ≡ true → now ≡ there
   pub no : b ≡ false → May → ⊥

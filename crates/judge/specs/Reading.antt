@@ -75,12 +75,13 @@ pub data Reads (p : LinkedProgram) (t : ℕ) : Bool → Standing → Event → B
   -- a further one
   main_goes_on : {last : Option Completed} {e : Event} {s : Standing} → GoesOn last → GoesOnBy p t [] last e s → Reads p t true (standing [] last) e true s
 
--- a thread, whichever it is, reads its next event, of this class and kind; or it can't come next
-abbrev pub ThreadReads : LinkedProgram → Bool → Standing → Option ClassId → Kind → Bool → Standing → Type 0
-ThreadReads p a s c k b u = (t : ℕ) → Reads p t a s (made_by t c k) b u
+-- the next event of a thread, whichever it is, is of this class and kind, and its procedures go from one state to another
+abbrev pub ReadsNext : LinkedProgram → Bool → Standing → Option ClassId → Kind → Bool → Standing → Type 0
+ReadsNext p a s c k b u = (t : ℕ) → Reads p t a s (made_by t c k) b u
 
-abbrev pub ThreadRefuses : LinkedProgram → Bool → Standing → Option ClassId → Kind → Type 0
-ThreadRefuses p a s c k = (t : ℕ) (b : Bool) (u : Standing) → Reads p t a s (made_by t c k) b u → ⊥
+-- no such event comes next
+abbrev pub RefusesNext : LinkedProgram → Bool → Standing → Option ClassId → Kind → Type 0
+RefusesNext p a s c k = (t : ℕ) (b : Bool) (u : Standing) → Reads p t a s (made_by t c k) b u → ⊥
 
 -- the events of a list, one after the other
 pub data ReadsAll (p : LinkedProgram) (t : ℕ) : Bool → Standing → List Event → Bool → Standing → Type 0 where

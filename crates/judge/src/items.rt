@@ -2,11 +2,11 @@
 //!
 //! Each call answers whether the event may come next, and moves the procedures if so; else nothing is said of them.
 
-ghost use Rattle.std.specs.Prelude.{◌≡◌, ◌↔◌, IsTrue, IfOk, Some, true, false};
+ghost use Rattle.std.specs.Prelude.{◌≡◌, ◌↔◌, IsTrue, IfOk, Some};
 ghost use Rattle.hierarchy.specs.Subclasses.{IsError};
 ghost use Rattle.init_core.specs.ProcedureWord.{IsMachineError, completed, given_up};
 ghost use Rattle.init_core.specs.declared.frames.Outcome.TheVariants as outcomes;
-ghost use Rattle.judge.specs.NextEvent.{Moves, MayLook, look_to, MayGoOn, item_to};
+ghost use Rattle.judge.specs.NextEvent.{MovesIf, MayLook, look_to, MayGoOn, item_to};
 
 use crate::open_class::{Pending, Procedures, Stage};
 use hierarchy::laws::throwables_are_subclasses;
@@ -69,7 +69,7 @@ impl Procedures {
         waited: bool,
         kind: &Kind,
     ) -> Result<bool, AllocError>
-        ensures { IfOk result (Moves (MayLook waited kind.now) (look_to program.now class self.old.frames kind.now) self.new) }
+        ensures { IfOk result (MovesIf (MayLook waited kind.now) (look_to program.now class self.old.frames kind.now) self.new) }
     {
         match kind {
             Kind::Waits => {
@@ -107,7 +107,7 @@ impl Procedures {
         class: Option<ClassId>,
         kind: &Kind,
     ) -> Result<bool, AllocError>
-        ensures { IfOk result (Moves (MayGoOn program.now last class kind.now) (item_to program.now self.old.frames class kind.now) self.new) }
+        ensures { IfOk result (MovesIf (MayGoOn program.now last class kind.now) (item_to program.now self.old.frames class kind.now) self.new) }
     {
         match class {
             None => {
@@ -126,7 +126,7 @@ impl Procedures {
         class: ClassId,
         kind: &Kind,
     ) -> Result<bool, AllocError>
-        ensures { IfOk result (Moves (MayGoOn program.now last (Some class) kind.now) (item_to program.now self.old.frames (Some class) kind.now) self.new) }
+        ensures { IfOk result (MovesIf (MayGoOn program.now last (Some class) kind.now) (item_to program.now self.old.frames (Some class) kind.now) self.new) }
     {
         match kind {
             Kind::Gets { .. } | Kind::Puts { .. } => {

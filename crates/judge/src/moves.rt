@@ -3,7 +3,7 @@
 //! Each call answers whether the event may come next, and moves the procedures if so; else nothing is said of them. The
 //! innermost open class, where there is one, was taken off before and is passed.
 
-ghost use Rattle.std.specs.Prelude.{◌≡◌, IfOk, None, Some, true, false};
+ghost use Rattle.std.specs.Prelude.{◌≡◌, IfOk, None, Some};
 ghost use Rattle.init_core.specs.ProcedureWord.{IsMachineError, given_up};
 ghost use Rattle.init_core.specs.declared.event.Kind.TheVariants as kinds;
 ghost use Rattle.init_core.specs.declared.frames.Ending.TheVariants as endings;
@@ -11,7 +11,7 @@ ghost use Rattle.init_core.specs.declared.frames.Outcome.TheVariants as outcomes
 ghost use Rattle.init_core.specs.Advance.{after_word};
 ghost use Rattle.init_core.specs.Leads.{outcome_of};
 ghost use Rattle.judge.specs.OpenClass.{phase_in};
-ghost use Rattle.judge.specs.NextEvent.{Moves, MayBeUnanswered, unanswered_to, MayAnswer, answer_to, MayRun, run_to, MayBeInBody, MayEndBody, body_to, MayEnd, MayBeInMain, item_to, MayInPhase, phase_to, MayRead, read_to};
+ghost use Rattle.judge.specs.NextEvent.{MovesIf, MayBeUnanswered, unanswered_to, MayAnswer, answer_to, MayRun, run_to, MayBeInBody, MayEndBody, body_to, MayEnd, MayBeInMain, item_to, MayInPhase, phase_to, MayRead, read_to};
 
 use crate::items::{ending_error, is_error, is_machine_error, is_of};
 use crate::open_class::{OpenClass, Procedures, Stage};
@@ -28,7 +28,7 @@ impl Procedures {
         of: Option<ClassId>,
         error: ClassId,
     ) -> Result<bool, AllocError>
-        ensures { IfOk result (Moves ((of ≡ Some class) × IsMachineError program.now error) (after_word self.old.frames class (outcomes.Ended error)) self.new) }
+        ensures { IfOk result (MovesIf ((of ≡ Some class) × IsMachineError program.now error) (after_word self.old.frames class (outcomes.Ended error)) self.new) }
     {
         if !is_of(of, class) || !is_machine_error(program, error) {
             return Ok(false);
@@ -44,7 +44,7 @@ impl Procedures {
         of: Option<ClassId>,
         error: ClassId,
     ) -> Result<bool, AllocError>
-        ensures { IfOk result (Moves (MayBeUnanswered program.now self.old.frames of (kinds.SuperFails error)) (unanswered_to self.old.frames error) self.new) }
+        ensures { IfOk result (MovesIf (MayBeUnanswered program.now self.old.frames of (kinds.SuperFails error)) (unanswered_to self.old.frames error) self.new) }
     {
         match self.pop() {
             Some(
@@ -64,7 +64,7 @@ impl Procedures {
         of: Option<ClassId>,
         error: ClassId,
     ) -> Result<bool, AllocError>
-        ensures { IfOk result (Moves (MayBeUnanswered program.now self.old.frames of (kinds.Fails error)) (unanswered_to self.old.frames error) self.new) }
+        ensures { IfOk result (MovesIf (MayBeUnanswered program.now self.old.frames of (kinds.Fails error)) (unanswered_to self.old.frames error) self.new) }
     {
         match self.pop() {
             Some(
@@ -87,7 +87,7 @@ impl Procedures {
         of: Option<ClassId>,
         kind: &Kind,
     ) -> Result<bool, AllocError>
-        ensures { IfOk result (Moves (MayAnswer program.now waited class self.old.frames of kind.now) (answer_to program.now class self.old.frames kind.now) self.new) }
+        ensures { IfOk result (MovesIf (MayAnswer program.now waited class self.old.frames of kind.now) (answer_to program.now class self.old.frames kind.now) self.new) }
     {
         match kind {
             Kind::SuperFails(error) => self.unanswered_need(program, of, *error),
@@ -110,7 +110,7 @@ impl Procedures {
         of: Option<ClassId>,
         kind: &Kind,
     ) -> Result<bool, AllocError>
-        ensures { IfOk result (Moves (MayRun program.now class of kind.now) (run_to class self.old.frames kind.now) self.new) }
+        ensures { IfOk result (MovesIf (MayRun program.now class of kind.now) (run_to class self.old.frames kind.now) self.new) }
     {
         match kind {
             Kind::Runs => {
@@ -135,7 +135,7 @@ impl Procedures {
         of: Option<ClassId>,
         kind: &Kind,
     ) -> Result<bool, AllocError>
-        ensures { IfOk result (Moves (MayEndBody by class of kind.now) (after_word self.old.frames class (outcomes.Ended by)) self.new) }
+        ensures { IfOk result (MovesIf (MayEndBody by class of kind.now) (after_word self.old.frames class (outcomes.Ended by)) self.new) }
     {
         match kind {
             Kind::Fails(error) => {
@@ -156,7 +156,7 @@ impl Procedures {
         of: Option<ClassId>,
         kind: &Kind,
     ) -> Result<bool, AllocError>
-        ensures { IfOk result (Moves (MayBeInBody program.now None class self.old.last of kind.now) (body_to program.now None class self.old.frames of kind.now) self.new) }
+        ensures { IfOk result (MovesIf (MayBeInBody program.now None class self.old.last of kind.now) (body_to program.now None class self.old.frames of kind.now) self.new) }
     {
         match kind {
             Kind::Completes => {
@@ -183,7 +183,7 @@ impl Procedures {
         of: Option<ClassId>,
         kind: &Kind,
     ) -> Result<bool, AllocError>
-        ensures { IfOk result (Moves (MayBeInBody program.now (given_up self.old.last) class self.old.last of kind.now) (body_to program.now (given_up self.old.last) class self.old.frames of kind.now) self.new) }
+        ensures { IfOk result (MovesIf (MayBeInBody program.now (given_up self.old.last) class self.old.last of kind.now) (body_to program.now (given_up self.old.last) class self.old.frames of kind.now) self.new) }
     {
         match ending_error(self.last) {
             Some(by) => self.in_ended_body(class, by, of, kind),
@@ -200,7 +200,7 @@ impl Procedures {
         of: Option<ClassId>,
         kind: &Kind,
     ) -> Result<bool, AllocError>
-        ensures { IfOk result (Moves (MayEnd (endings.SuperFails error) class of kind.now) (after_word self.old.frames class (outcome_of (endings.SuperFails error) by_machine)) self.new) }
+        ensures { IfOk result (MovesIf (MayEnd (endings.SuperFails error) class of kind.now) (after_word self.old.frames class (outcome_of (endings.SuperFails error) by_machine)) self.new) }
     {
         let Kind::SuperFails(thrown) = kind else {
             return Ok(false);
@@ -224,7 +224,7 @@ impl Procedures {
         of: Option<ClassId>,
         kind: &Kind,
     ) -> Result<bool, AllocError>
-        ensures { IfOk result (Moves (MayBeInMain program.now begun self.old.last of kind.now) (item_to program.now self.old.frames of kind.now) self.new) }
+        ensures { IfOk result (MovesIf (MayBeInMain program.now begun self.old.last of kind.now) (item_to program.now self.old.frames of kind.now) self.new) }
     {
         let last = self.last;
         if begun {
@@ -252,7 +252,7 @@ impl Procedures {
         of: Option<ClassId>,
         kind: &Kind,
     ) -> Result<bool, AllocError>
-        ensures { IfOk result (Moves (MayInPhase program.now (phase_in innermost.stage) innermost.class self.old.frames self.old.last of kind.now) (phase_to program.now (phase_in innermost.stage) innermost.class self.old.frames self.old.last of kind.now) self.new) }
+        ensures { IfOk result (MovesIf (MayInPhase program.now (phase_in innermost.stage) innermost.class self.old.frames self.old.last of kind.now) (phase_to program.now (phase_in innermost.stage) innermost.class self.old.frames self.old.last of kind.now) self.new) }
     {
         let OpenClass { class, stage } = innermost;
         match stage {
@@ -277,7 +277,7 @@ impl Procedures {
         of: Option<ClassId>,
         kind: &Kind,
     ) -> Result<bool, AllocError>
-        ensures { IfOk result (Moves (MayRead program.now begun self.old.frames self.old.last of kind.now) (read_to program.now self.old.frames self.old.last of kind.now) self.new) }
+        ensures { IfOk result (MovesIf (MayRead program.now begun self.old.frames self.old.last of kind.now) (read_to program.now self.old.frames self.old.last of kind.now) self.new) }
     {
         match self.pop() {
             None => self.in_main(alloc, program, begun, of, kind),

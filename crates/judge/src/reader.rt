@@ -2,8 +2,7 @@
 
 ghost use Rattle.std.specs.Prelude.{◌≡◌, ℕ, List, IfOk, None, true, false};
 ghost use Rattle.init_core.specs.declared.event.Kind.TheVariants as kinds;
-ghost use Rattle.judge.specs.NextEvent.{begun_after};
-ghost use Rattle.judge.specs.Reading.{ThreadReads, ThreadRefuses, opening};
+ghost use Rattle.judge.specs.Reading.{ReadsNext, RefusesNext, opening};
 
 use crate::open_class::Procedures;
 use hierarchy::{ClassId, Program};
@@ -44,8 +43,8 @@ impl Reader {
         class: Option<ClassId>,
         kind: &Kind,
     ) -> Result<bool, AllocError>
-        ensures yes { IfOk result (λ b. b ≡ true → ThreadReads program.now self.old.begun self.old.procedures class kind.now self.new.begun self.new.procedures) }
-        ensures no { IfOk result (λ b. b ≡ false → ThreadRefuses program.now self.old.begun self.old.procedures class kind.now) }
+        ensures yes { IfOk result (λ b. b ≡ true → ReadsNext program.now self.old.begun self.old.procedures class kind.now self.new.begun self.new.procedures) }
+        ensures no { IfOk result (λ b. b ≡ false → RefusesNext program.now self.old.begun self.old.procedures class kind.now) }
     {
         let begun = self.begun;
         self.begun = self.procedures.begun_after(begun);
@@ -60,8 +59,8 @@ impl Reader {
         alloc: Global,
         program: &Program,
     ) -> Result<bool, AllocError>
-        ensures yes { IfOk result (λ b. b ≡ true → (text : List ℕ) → ThreadReads program.now self.old.begun self.old.procedures None (kinds.Prints text) self.new.begun self.new.procedures) }
-        ensures no { IfOk result (λ b. b ≡ false → (text : List ℕ) → ThreadRefuses program.now self.old.begun self.old.procedures None (kinds.Prints text)) }
+        ensures yes { IfOk result (λ b. b ≡ true → (text : List ℕ) → ReadsNext program.now self.old.begun self.old.procedures None (kinds.Prints text) self.new.begun self.new.procedures) }
+        ensures no { IfOk result (λ b. b ≡ false → (text : List ℕ) → RefusesNext program.now self.old.begun self.old.procedures None (kinds.Prints text)) }
     {
         self.read(alloc, program, None, &Kind::Prints(Sequence::new(alloc)))
     }

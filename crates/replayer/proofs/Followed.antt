@@ -25,7 +25,7 @@ use Rattle.replayer.specs.Going.{Going, HasLeft, IsInBody, IsPaused, Resting, at
 use Rattle.init_core.specs.Advance.{is_waiting}
 use Rattle.init_core.specs.Standing.{Standing}
 use Rattle.replayer.specs.OrderedRun.{HasJustMade, Follows, HasEnded, IsAt, IsInBodyAt, IsStuck, IsWaiting, WaitsFor, WaitsInBody, made as makes, gives_up, goes_on, lowest, skipped}
-use Rattle.replayer.specs.Turning.{HasOwn}
+use Rattle.replayer.specs.Turning.{HadTurnsAlone}
 use Rattle.replayer.specs.Turns.{AreOf}
 use Rattle.replayer.proofs.Acting.{not_gone}
 use Rattle.replayer.proofs.Stepping.{not_both}
@@ -153,7 +153,7 @@ module _ {S H : Type 0} (p : LinkedProgram) (M : Making S) (U : List (ℕ × H) 
   not_gave_up : (gone : List ℕ) (t : ℕ) (r : Run S H) (other : Thread S) → (Contains gone t → ⊥) → t < length r.threads.items → AreGone gone r → (slice_index_or r.threads.items t other).gave_up ≡ false
   not_gave_up gone t r other none low a = not_gone p M _ (λ y. none ((a t other low).0 y))
 
-  abbrev no_turns : (t : ℕ) (r s : Run S H) → s.shared ≡ r.shared → HasOwn t r s
+  abbrev no_turns : (t : ℕ) (r s : Run S H) → s.shared ≡ r.shared → HadTurnsAlone t r s
   no_turns t r s same = record { turned = []; own = tt; turns = ap (λ x. x.turns.items) same ∙ sym (append-nil r.shared.turns.items) }
 
   -- where a thread stands
@@ -172,7 +172,7 @@ module _ {S H : Type 0} (p : LinkedProgram) (M : Making S) (U : List (ℕ × H) 
   }
 
   -- after its event, in the events and turns before it and its own
-  after_event : (t : ℕ) (r s : Run S H) (w : Thread S) → t < length r.threads.items → AreGoing p M s → (x : HasOwn t r s) (g : HasGone p M U W t r s turn.Event) → IsSameBut t r s →
+  after_event : (t : ℕ) (r s : Run S H) (w : Thread S) → t < length r.threads.items → AreGoing p M s → (x : HadTurnsAlone t r s) (g : HasGone p M U W t r s turn.Event) → IsSameBut t r s →
       IsAt p M (HasJustMade g.0.event.kind) (U (r.shared.turns.items ++ x.turned) g.0.event.thread) (starts_of s) (mains_of s) g.0.event.thread (r.log.events.items ++ g.0.event ∷ [])
   after_event t r s w low going x g o =
       let here = g.3 w in
@@ -183,7 +183,7 @@ module _ {S H : Type 0} (p : LinkedProgram) (M : Making S) (U : List (ℕ × H) 
       (at_event just (U s.shared.turns.items t) t s w (slice_index_or s.threads.items t w) (let many = same_length o in omega (arith, many, low)) refl going here.0 here.2 here.1)))
 
   -- it makes an event
-  event_made : (order : List ℕ) (t : ℕ) (r s : Run S H) → t < length r.threads.items → AreGoing p M s → HasOwn t r s → HasGone p M U W t r s turn.Event → IsSameBut t r s → IsSameThere t r s → Leads p M U W (t ∷ order) [] r order [] s
+  event_made : (order : List ℕ) (t : ℕ) (r s : Run S H) → t < length r.threads.items → AreGoing p M s → HadTurnsAlone t r s → HasGone p M U W t r s turn.Event → IsSameBut t r s → IsSameThere t r s → Leads p M U W (t ∷ order) [] r order [] s
   event_made order t r s low going x g o h =
       let m = g.0 in
       record {
@@ -204,20 +204,20 @@ module _ {S H : Type 0} (p : LinkedProgram) (M : Making S) (U : List (ℕ × H) 
       }
 
   -- what follows after a turn without an event, as it was before the turn
-  as_before : {order gone : List ℕ} {outcomes : List ThreadOutcome} {rest : List Event} {more : List (ℕ × H)} {t : ℕ} {r s : Run S H} → s.log ≡ r.log → (x : HasOwn t r s) →
+  as_before : {order gone : List ℕ} {outcomes : List ThreadOutcome} {rest : List Event} {more : List (ℕ × H)} {t : ℕ} {r s : Run S H} → s.log ≡ r.log → (x : HadTurnsAlone t r s) →
       Follows p M U W (starts_of s) (mains_of s) outcomes order gone s.log.events.items s.shared.turns.items rest more → Follows p M U W (starts_of s) (mains_of s) outcomes order gone r.log.events.items (r.shared.turns.items ++ x.turned) rest more
   as_before {order = order} {gone = gone} {outcomes = outcomes} {rest = rest} {more = more} {r = r} {s = s} same x f =
       subst (λ (xs : List (ℕ × H)). Follows p M U W (starts_of s) (mains_of s) outcomes order gone r.log.events.items xs rest more) x.turns
       (subst (λ (es : List Event). Follows p M U W (starts_of s) (mains_of s) outcomes order gone es s.shared.turns.items rest more) (ap (λ l. l.events.items) same) f)
 
-  stuck_before : {gone : List ℕ} {outcomes : List ThreadOutcome} {rest : List Event} {more : List (ℕ × H)} {t : ℕ} {r s : Run S H} → s.log ≡ r.log → (x : HasOwn t r s) →
+  stuck_before : {gone : List ℕ} {outcomes : List ThreadOutcome} {rest : List Event} {more : List (ℕ × H)} {t : ℕ} {r s : Run S H} → s.log ≡ r.log → (x : HadTurnsAlone t r s) →
       IsStuck p M (W s.shared.turns.items) (starts_of s) (mains_of s) outcomes gone t s.log.events.items rest more → IsStuck p M (W (r.shared.turns.items ++ x.turned)) (starts_of s) (mains_of s) outcomes gone t r.log.events.items rest more
   stuck_before {gone = gone} {outcomes = outcomes} {rest = rest} {more = more} {t = t} {r = r} {s = s} same x stuck =
       subst (λ (xs : List (ℕ × H)). IsStuck p M (W xs) (starts_of s) (mains_of s) outcomes gone t r.log.events.items rest more) x.turns
       (subst (λ (es : List Event). IsStuck p M (W s.shared.turns.items) (starts_of s) (mains_of s) outcomes gone t es rest more) (ap (λ l. l.events.items) same) stuck)
 
   -- it can't go on, or can't any more
-  skips : (order : List ℕ) (t : ℕ) (r s : Run S H) → s.log ≡ r.log → (x : HasOwn t r s) → IsSameBut t r s → IsSameThere t r s → ((outcomes : List ThreadOutcome) (rest : List Event) (more : List (ℕ × H)) → AreToCome outcomes s rest more → AreToCome outcomes r rest (x.turned ++ more)) →
+  skips : (order : List ℕ) (t : ℕ) (r s : Run S H) → s.log ≡ r.log → (x : HadTurnsAlone t r s) → IsSameBut t r s → IsSameThere t r s → ((outcomes : List ThreadOutcome) (rest : List Event) (more : List (ℕ × H)) → AreToCome outcomes s rest more → AreToCome outcomes r rest (x.turned ++ more)) →
       (AreGone [] s → (outcomes : List ThreadOutcome) (rest : List Event) (more : List (ℕ × H)) → AreToCome outcomes s rest more → IsStuck p M (W s.shared.turns.items) (starts_of s) (mains_of s) outcomes [] t s.log.events.items rest more) → Leads p M U W (t ∷ order) [] r order [] s
   skips order t r s same x o h back stuck = record {
     mains = o.mains;
@@ -280,7 +280,7 @@ module _ {S H : Type 0} (p : LinkedProgram) (M : Making S) (U : List (ℕ × H) 
   stuck_there gone u r other outcomes rest more low g a c (inl d) = inl (done_ended gone u r other d.0 outcomes rest more low g a d.1 c)
   stuck_there gone u r other outcomes rest more low g a c (inr h) = inr (held_waits gone u r other low g a h)
 
-  pub one_turn : (order : List ℕ) (t : ℕ) (r s : Run S H) (of_turn : Turn) → t < length r.threads.items → AreGoing p M s → HasOwn t r s → HasGone p M U W t r s of_turn → IsSameBut t r s → IsSameThere t r s → Leads p M U W (t ∷ order) [] r order [] s
+  pub one_turn : (order : List ℕ) (t : ℕ) (r s : Run S H) (of_turn : Turn) → t < length r.threads.items → AreGoing p M s → HadTurnsAlone t r s → HasGone p M U W t r s of_turn → IsSameBut t r s → IsSameThere t r s → Leads p M U W (t ∷ order) [] r order [] s
   one_turn order t r s turn.Event low g x gone o h = event_made order t r s low g x gone o h
   one_turn order t r s turn.Comes low g x gone o h = absurd gone
   one_turn order t r s turn.Silent low g x gone o h =
@@ -311,7 +311,7 @@ module _ {S H : Type 0} (p : LinkedProgram) (M : Making S) (U : List (ℕ × H) 
       (stuck_there gone u r other outcomes rest more (omega (arith, under, low)) g a c (passed u other under)))
 
   -- the lowest thread that can makes an event
-  pub lowest_turn : (gone : List ℕ) (t : ℕ) (r s : Run S H) → t < length r.threads.items → AreGoing p M r → AreGoing p M s → HavePassed t r → HasOwn t r s → HasGone p M U W t r s turn.Event → IsSameBut t r s → IsSameThere t r s → Leads p M U W [] gone r [] gone s
+  pub lowest_turn : (gone : List ℕ) (t : ℕ) (r s : Run S H) → t < length r.threads.items → AreGoing p M r → AreGoing p M s → HavePassed t r → HadTurnsAlone t r s → HasGone p M U W t r s turn.Event → IsSameBut t r s → IsSameThere t r s → Leads p M U W [] gone r [] gone s
   lowest_turn gone t r s low g going passed x gone_on o h =
       let m = gone_on.0 in
       record {
@@ -339,7 +339,7 @@ module _ {S H : Type 0} (p : LinkedProgram) (M : Making S) (U : List (ℕ × H) 
           by false is = absurd (n is)
 
   -- or it goes on without an event
-  pub silent_turn : (gone : List ℕ) (t : ℕ) (r s : Run S H) → t < length r.threads.items → AreGoing p M r → AreGoing p M s → HavePassed t r → HasOwn t r s → HasGone p M U W t r s turn.Silent → IsSameBut t r s → IsSameThere t r s → Leads p M U W [] gone r [] gone s
+  pub silent_turn : (gone : List ℕ) (t : ℕ) (r s : Run S H) → t < length r.threads.items → AreGoing p M r → AreGoing p M s → HavePassed t r → HadTurnsAlone t r s → HasGone p M U W t r s turn.Silent → IsSameBut t r s → IsSameThere t r s → Leads p M U W [] gone r [] gone s
   silent_turn gone t r s low g going passed x gone_on o h = record {
     mains = o.mains;
     starts = o.starts;
@@ -424,7 +424,7 @@ module _ {S H : Type 0} (p : LinkedProgram) (M : Making S) (U : List (ℕ × H) 
 
   -- the lowest that waits gives up
   pub gave_up_turn : (gone : List ℕ) (t : ℕ) (r s : Run S H) → t < length r.threads.items → AreGoing p M r → ThreadAt r t (IsHeld p M (W r.shared.turns.items t) r.log) → ((u : ℕ) (other : Thread S) → u < length r.threads.items → HasDone (slice_index_or r.threads.items u other) ⊎ IsHeld p M (W r.shared.turns.items u) r.log (slice_index_or r.threads.items u other)) →
-      ((u : ℕ) (other : Thread S) → u < length r.threads.items → u < t → HasDone (slice_index_or r.threads.items u other)) → HasOwn t r s → s.log ≡ r.log → IsSameBut t r s → ThreadAt s t (λ w. w.gave_up ≡ true) → Leads p M U W [] gone r [] (t ∷ gone) s
+      ((u : ℕ) (other : Thread S) → u < length r.threads.items → u < t → HasDone (slice_index_or r.threads.items u other)) → HadTurnsAlone t r s → s.log ≡ r.log → IsSameBut t r s → ThreadAt s t (λ w. w.gave_up ≡ true) → Leads p M U W [] gone r [] (t ∷ gone) s
   gave_up_turn gone t r s low g held all under own same o gave_up = record {
     mains = o.mains;
     starts = o.starts;

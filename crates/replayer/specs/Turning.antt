@@ -1,4 +1,4 @@
--- The turns that the threads of a run have had.
+-- The turns that the threads of a run have had, and what comes of each call on the run.
 use Rattle.std.specs.Prelude.{◌≡◌, ℕ, [], ◌++◌, List, map}
 use Rattle.bodies.specs.Lending.{Lending, Lent, lent_at_start, lent_bodies}
 use Rattle.bodies.specs.Making.{Making}
@@ -24,10 +24,11 @@ pub record HasTurned {H : Type 0} (t : ℕ) (before after : Shared H) (uses used
   pub has_used : used ≡ uses ++ uses_of t before.state turned
   pub first : after.first ≡ before.first
 
--- what a turn of a thread comes to, where the threads share this; and that it waits there
+-- what a turn of a thread comes to, while the threads share h
 abbrev pub TurnsWith : {S H : Type 0} → LinkedProgram → Lending S H → Making S → H → EventLog → Thread (Lent S H) → EventLog → Thread (Lent S H) → Turn → Type 0
 TurnsWith p L M h l w m x = TurnsTo p (lent_bodies L M) (WaitsAt L M h) l w m x
 
+-- a thread waits, while they share h
 abbrev pub IsPausedWith : {S H : Type 0} → LinkedProgram → Lending S H → Making S → H → EventLog → Thread (Lent S H) → Type 0
 IsPausedWith p L M h l w = IsPaused p (lent_bodies L M) (WaitsAt L M h) l w
 
@@ -47,14 +48,14 @@ pub record HasBegun {S H : Type 0} (p : LinkedProgram) (L : Lending S H) (M : Ma
   pub starts : starts_of r ≡ map lent_at_start bodies
   pub first : r.shared.first.value ≡ h
 
--- the run goes on, of the same beginning
+-- the run goes on; what its threads shared at first is the same
 pub record StillGoes {S H : Type 0} (p : LinkedProgram) (L : Lending S H) (M : Making S) (before after : Run (Lent S H) H) : Type 0 where
   pub going : AreGoing p (lent_bodies L M) after
   pub in_turn : AreInTurn after
   pub first : after.shared.first ≡ before.shared.first
 
--- only thread t has had turns
-pub record HasOwn {S H : Type 0} (t : ℕ) (before after : Run S H) : Type 0 where
+-- from before to after only thread t has had turns
+pub record HadTurnsAlone {S H : Type 0} (t : ℕ) (before after : Run S H) : Type 0 where
   pub turned : List (ℕ × H)
   pub own : AreOf t turned
   pub turns : after.shared.turns.items ≡ before.shared.turns.items ++ turned
@@ -62,20 +63,21 @@ pub record HasOwn {S H : Type 0} (t : ℕ) (before after : Run S H) : Type 0 whe
 -- the run goes on by thread t alone
 pub record GoesAlone {S H : Type 0} (p : LinkedProgram) (L : Lending S H) (M : Making S) (t : ℕ) (before after : Run (Lent S H) H) : Type 0 where
   pub still : StillGoes p L M before after
-  pub turned : HasOwn t before after
+  pub turned : HadTurnsAlone t before after
   pub others : IsSameBut t before after
 
--- what it comes to that thread t goes on, and that the lowest one that can does
-abbrev pub GoesTo : {S H : Type 0} → LinkedProgram → Lending S H → Making S → ℕ → Run (Lent S H) H → Run (Lent S H) H → Turn → Type 0
-GoesTo p L M t before after = HasGone p (lent_bodies L M) (HasUsed before.shared.first.value) (WaitsAfter L M before.shared.first.value) t before after
+-- what came of it that thread t went on
+abbrev pub HasGoneWith : {S H : Type 0} → LinkedProgram → Lending S H → Making S → ℕ → Run (Lent S H) H → Run (Lent S H) H → Turn → Type 0
+HasGoneWith p L M t before after = HasGone p (lent_bodies L M) (HasUsed before.shared.first.value) (WaitsAfter L M before.shared.first.value) t before after
 
-abbrev pub LowestGoesTo : {S H : Type 0} → LinkedProgram → Lending S H → Making S → Run (Lent S H) H → Run (Lent S H) H → Found → Type 0
-LowestGoesTo p L M before after = IsFound p (lent_bodies L M) (HasUsed before.shared.first.value) (WaitsAfter L M before.shared.first.value) before after
+-- what came of it that the lowest thread that can went on
+abbrev pub IsFoundWith : {S H : Type 0} → LinkedProgram → Lending S H → Making S → Run (Lent S H) H → Run (Lent S H) H → Found → Type 0
+IsFoundWith p L M before after = IsFound p (lent_bodies L M) (HasUsed before.shared.first.value) (WaitsAfter L M before.shared.first.value) before after
 
 -- thread t waits, and hasn't given up
-abbrev pub HoldsAt : {S H : Type 0} → LinkedProgram → Lending S H → Making S → ℕ → Run (Lent S H) H → Type 0
-HoldsAt p L M t r = ThreadAt r t (IsHeld p (lent_bodies L M) (WaitsAfter L M r.shared.first.value r.shared.turns.items t) r.log)
+abbrev pub IsHeldAt : {S H : Type 0} → LinkedProgram → Lending S H → Making S → ℕ → Run (Lent S H) H → Type 0
+IsHeldAt p L M t r = ThreadAt r t (IsHeld p (lent_bodies L M) (WaitsAfter L M r.shared.first.value r.shared.turns.items t) r.log)
 
--- the run has followed this order to its end, while no thread had given up before, and afterwards these have
+-- the run has followed this order to its end; if no thread had given up before it, these have after it
 abbrev pub HasFollowed : {S H : Type 0} → LinkedProgram → Lending S H → Making S → List ℕ → Run (Lent S H) H → List ℕ → Run (Lent S H) H → Type 0
 HasFollowed p L M order before gone after = Leads p (lent_bodies L M) (HasUsed before.shared.first.value) (WaitsAfter L M before.shared.first.value) order [] before [] gone after

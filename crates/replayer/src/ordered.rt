@@ -1,8 +1,7 @@
 //! The ordered run of main classes.
 
-ghost use Rattle.std.specs.Prelude.{◌≡◌, ◌<◌, ◌≤◌, IfOk, length, vec_len};
+ghost use Rattle.std.specs.Prelude.{◌≡◌, ◌<◌, IfOk, length, vec_len};
 ghost use Rattle.std.specs.List.{AllByRecursion};
-ghost use Rattle.init_core.specs.declared.event.TheConstants.{THREADS};
 ghost use Rattle.init_core.specs.Interleaving.{labels_of};
 ghost use Rattle.trace.specs.Output.{output_of};
 ghost use Rattle.bodies.specs.Lending.{lent_bodies};
@@ -16,7 +15,7 @@ use crate::run::Run;
 use crate::thread::Thread;
 use bodies::Lends;
 use hierarchy::{ClassId, Program};
-use init_core::{Outcome, THREADS};
+use init_core::Outcome;
 use sequence::Sequence;
 use std::alloc::{AllocError, Global};
 use trace::{Limit, Report, ThreadOutcome, printed_by};

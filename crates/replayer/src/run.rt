@@ -1,10 +1,9 @@
 //! All threads of an ordered run.
 
-ghost use Rattle.std.specs.Prelude.{◌≡◌, ℕ, ◌<◌, ◌≤◌, List, [], IfOk, OnOk, true, length, vec_len};
-ghost use Rattle.init_core.specs.declared.event.TheConstants.{THREADS};
+ghost use Rattle.std.specs.Prelude.{◌≡◌, ℕ, ◌<◌, List, [], IfOk, OnOk, true, length, vec_len};
 ghost use Rattle.bodies.specs.Runs.{AreMains};
 ghost use Rattle.replayer.specs.AllGoing.{AllThreads, AreGoing, HasDone, IsSameThere, ThreadAt};
-ghost use Rattle.replayer.specs.Turning.{AreInTurn, GoesAlone, GoesTo, HasBegun, HasFollowed, HoldsAt, LowestGoesTo, StillGoes};
+ghost use Rattle.replayer.specs.Turning.{AreInTurn, GoesAlone, HasGoneWith, HasBegun, HasFollowed, IsHeldAt, IsFoundWith, StillGoes};
 ghost use Rattle.bodies.specs.Lending.{lent_bodies};
 ghost use Rattle.std.specs.List.{AllByRecursion};
 
@@ -14,7 +13,6 @@ use crate::shared::Shared;
 use crate::thread::{Thread, Turn};
 use bodies::Lends;
 use hierarchy::{ClassId, Program};
-use init_core::THREADS;
 use std::alloc::{AllocError, Global};
 
 /// The threads of a run, by their numbers, and what they have done.
@@ -70,7 +68,7 @@ impl<H: Drop, B: Lends<H>> Run<Lent<B, H>, H> {
         requires in_turn { AreInTurn self.old }
         requires number { number < length self.old.threads.items }
         ensures alone { IfOk result (λ turn. GoesAlone program.now B.lending (B.making program.now) number self.old self.new) }
-        ensures gone { IfOk result (GoesTo program.now B.lending (B.making program.now) number self.old self.new) }
+        ensures gone { IfOk result (HasGoneWith program.now B.lending (B.making program.now) number self.old self.new) }
         ensures there { IfOk result (λ turn. IsSameThere number self.old self.new) }
     {
         let thread = &mut self.threads[number];
@@ -111,7 +109,7 @@ impl<H: Drop, B: Lends<H>> Run<Lent<B, H>, H> {
         requires going { AreGoing program.now (lent_bodies B.lending (B.making program.now)) self.old }
         requires in_turn { AreInTurn self.old }
         ensures still { IfOk result (λ found. StillGoes program.now B.lending (B.making program.now) self.old self.new) }
-        ensures found { IfOk result (LowestGoesTo program.now B.lending (B.making program.now) self.old self.new) }
+        ensures found { IfOk result (IsFoundWith program.now B.lending (B.making program.now) self.old self.new) }
     {
         let mut held = None;
         'threads: for number in 0..self.threads.len() {
@@ -133,7 +131,7 @@ impl<H: Drop, B: Lends<H>> Run<Lent<B, H>, H> {
         requires going { AreGoing program.now (lent_bodies B.lending (B.making program.now)) self.old }
         requires in_turn { AreInTurn self.old }
         requires number { number < length self.old.threads.items }
-        requires held { HoldsAt program.now B.lending (B.making program.now) number self.old }
+        requires held { IsHeldAt program.now B.lending (B.making program.now) number self.old }
         ensures alone { GoesAlone program.now B.lending (B.making program.now) number self.old self.new }
         ensures log { self.new.log ≡ self.old.log }
         ensures gave_up { ThreadAt self.new number (λ w. w.gave_up ≡ true) }

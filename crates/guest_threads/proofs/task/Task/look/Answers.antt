@@ -7,7 +7,7 @@ use Rattle.guest_threads.specs.declared.guarded.Guarded.{Guarded}
 use Rattle.guest_threads.specs.Working.{Working, drawn}
 use Rattle.bodies.proofs.Asking.{looks_at, in_files}
 use Rattle.guest_threads.proofs.Telling.{keeps_drawn, look_waits, looked, looked_again, untouched, entered_once, entered_none}
-use Rattle.guest_threads.proofs.Viewing.{inside_of, working_at}
+use Rattle.guest_threads.proofs.Viewing.{by_fields, working_at}
 use Rattle.guest_threads.proofs.task.Task.look.Goals as goal
 
 pub look_at-told-requires-clause-waiting : goal.look_at-told-requires-clause-waiting
@@ -18,7 +18,7 @@ pub give_up-requires-in_default-told-clause-working : goal.give_up-requires-in_d
 give_up-requires-in_default-told-clause-working g c = working_at g.B.Bodies.making c.self.view_is (let took = c.in-Ok.ensures.took in
     let e = c.in_default-told.ensures in
     let l = looks_at c.args.work.now.procedure c.args.class c.requires.next in
-    subst (λ (s : Standing). Working (g.B.Bodies.making c.self.inside.program.now) (inside_of c.self.view_is) (record c.args.work.now { pass = c.give_back_untouched.new.pass; procedure = s })) (sym e.err_standing)
+    subst (λ (s : Standing). Working (g.B.Bodies.making c.self.inside.program.now) (by_fields c.self.view_is) (record c.args.work.now { pass = c.give_back_untouched.new.pass; procedure = s })) (sym e.err_standing)
     (untouched _ _ c.args.work.now c.args.class c.take_record-taken.new.pass c.give_back_untouched.new.pass c.in-Ok.held c.in-Ok.held.place c.look_at-told.new.class_record.events c.kept.result.now.record (in_files c.self.inside.program.now c.args.work.now.procedure c.args.class _ l.1 (working_at g.B.Bodies.making (sym c.self.view_is) c.requires.working).stands.files)
     took.place e.err_events (ap (λ (x : Guarded). x.record) c.kept.ensures.record) took c.give_back_untouched.ensures.back c.give_back_untouched.ensures.journal c.give_back_untouched.ensures.room (working_at g.B.Bodies.making (sym c.self.view_is) c.requires.working)))
 

@@ -3,7 +3,7 @@ use Rattle.bodies.specs.declared.does.Does.{Does}
 use Rattle.bodies.specs.declared.does.Does.TheVariants as does
 use Rattle.bodies.specs.Doing.{MayDo}
 use Rattle.guest_threads.proofs.Acting.{not_yet, next_is_doing, still_waits}
-use Rattle.guest_threads.proofs.Viewing.{doing_at, inside_of, waited_at, working_at}
+use Rattle.guest_threads.proofs.Viewing.{doing_at, by_fields, waited_at, working_at}
 use Rattle.guest_threads.proofs.task.Task.next.Goals as goal
 
 pub asking-init : goal.asking-init
@@ -21,5 +21,5 @@ returns-then-looks-self-clause-doing g c = doing_at g.B.Bodies.making c.self.vie
 
 pub asking-preserved : goal.asking-preserved
 asking-preserved g c =
-    let x = still_waits _ (inside_of c.self.view_is) c.args.work.now c.asking.work c.last-last.result c.next-does.new.self (λ s u x. g.met.B.Bodies.waits_on c.self.inside.program.now s u x _ _) (waited_at g.B.Bodies.making (sym c.self.view_is) c.asking.invariant.0) c.asking.invariant.1 c.last-last.ensures (subst (λ (d : Does). (g.B.Bodies.making c.self.inside.program.now).does c.asking.work.bodies c.last-last.result d c.next-does.new.self) c.in-Waits.is c.next-does.ensures.does) in
+    let x = still_waits _ (by_fields c.self.view_is) c.args.work.now c.asking.work c.last-last.result c.next-does.new.self (λ s u x. g.met.B.Bodies.waits_on c.self.inside.program.now s u x _ _) (waited_at g.B.Bodies.making (sym c.self.view_is) c.asking.invariant.0) c.asking.invariant.1 c.last-last.ensures (subst (λ (d : Does). (g.B.Bodies.making c.self.inside.program.now).does c.asking.work.bodies c.last-last.result d c.next-does.new.self) c.in-Waits.is c.next-does.ensures.does) in
     (waited_at g.B.Bodies.making c.self.view_is x.0, x.1)
