@@ -52,9 +52,9 @@ pub enum Form {
     TypeUse(TypeUse),
 }
 
-/// Each word that begins an instruction, with what it asks for. A word is compared with one row after the other, so those that
-/// are common in code stand first. Of several words that ask for the same, the canonical spelling has the first.
-pub const FORMS: [(&[u8], Form); 112] = [
+/// The words of instructions that are common in code, with what each asks for. A word is compared with one row after the other, here
+/// and then in [`OTHER_FORMS`], so the commonest stand first. Of several words that ask for the same, the canonical spelling has the first.
+pub const COMMON_FORMS: [(&[u8], Form); 56] = [
     (b"iload_1", Form::LocalAt(Local::ILoad, 1)),
     (b"aload_0", Form::LocalAt(Local::ALoad, 0)),
     (b"iload_2", Form::LocalAt(Local::ILoad, 2)),
@@ -111,6 +111,10 @@ pub const FORMS: [(&[u8], Form); 112] = [
     (b"aastore", Form::Plain(Plain::AAStore)),
     (b"ifnull", Form::Jump(Jump::IfNull)),
     (b"ifnonnull", Form::Jump(Jump::IfNonNull)),
+];
+
+/// The other words that begin an instruction, with what each asks for.
+pub const OTHER_FORMS: [(&[u8], Form); 56] = [
     (b"ifle", Form::Jump(Jump::IfLe)),
     (b"iflt", Form::Jump(Jump::IfLt)),
     (b"ifge", Form::Jump(Jump::IfGe)),
@@ -169,8 +173,34 @@ pub const FORMS: [(&[u8], Form); 112] = [
     (b"instanceof", Form::TypeUse(TypeUse::InstanceOf)),
 ];
 
-/// The words of instructions that are left out.
-pub const LEFT_OUT: [&[u8]; 95] = [
+/// Words of instructions on longs, floats and doubles, which are left out, behind the letter of the type.
+pub const WIDE_OR_FLOATING: [&[u8]; 22] = [
+    b"const_0",
+    b"const_1",
+    b"load",
+    b"load_0",
+    b"load_1",
+    b"load_2",
+    b"load_3",
+    b"aload",
+    b"store",
+    b"store_0",
+    b"store_1",
+    b"store_2",
+    b"store_3",
+    b"astore",
+    b"add",
+    b"sub",
+    b"mul",
+    b"div",
+    b"rem",
+    b"neg",
+    b"2i",
+    b"return",
+];
+
+/// The other words of instructions that are left out.
+pub const LEFT_OUT: [&[u8]; 29] = [
     b"jsr",
     b"jsr_w",
     b"ret",
@@ -179,67 +209,7 @@ pub const LEFT_OUT: [&[u8]; 95] = [
     b"invokedynamic",
     b"breakpoint",
     b"ldc2_w",
-    b"lconst_0",
-    b"lconst_1",
-    b"fconst_0",
-    b"fconst_1",
     b"fconst_2",
-    b"dconst_0",
-    b"dconst_1",
-    b"lload",
-    b"fload",
-    b"dload",
-    b"lload_0",
-    b"lload_1",
-    b"lload_2",
-    b"lload_3",
-    b"fload_0",
-    b"fload_1",
-    b"fload_2",
-    b"fload_3",
-    b"dload_0",
-    b"dload_1",
-    b"dload_2",
-    b"dload_3",
-    b"laload",
-    b"faload",
-    b"daload",
-    b"lstore",
-    b"fstore",
-    b"dstore",
-    b"lstore_0",
-    b"lstore_1",
-    b"lstore_2",
-    b"lstore_3",
-    b"fstore_0",
-    b"fstore_1",
-    b"fstore_2",
-    b"fstore_3",
-    b"dstore_0",
-    b"dstore_1",
-    b"dstore_2",
-    b"dstore_3",
-    b"lastore",
-    b"fastore",
-    b"dastore",
-    b"ladd",
-    b"fadd",
-    b"dadd",
-    b"lsub",
-    b"fsub",
-    b"dsub",
-    b"lmul",
-    b"fmul",
-    b"dmul",
-    b"ldiv",
-    b"fdiv",
-    b"ddiv",
-    b"lrem",
-    b"frem",
-    b"drem",
-    b"lneg",
-    b"fneg",
-    b"dneg",
     b"lshl",
     b"lshr",
     b"lushr",
@@ -249,13 +219,10 @@ pub const LEFT_OUT: [&[u8]; 95] = [
     b"i2l",
     b"i2f",
     b"i2d",
-    b"l2i",
     b"l2f",
     b"l2d",
-    b"f2i",
     b"f2l",
     b"f2d",
-    b"d2i",
     b"d2l",
     b"d2f",
     b"lcmp",
@@ -263,25 +230,28 @@ pub const LEFT_OUT: [&[u8]; 95] = [
     b"fcmpg",
     b"dcmpl",
     b"dcmpg",
-    b"lreturn",
-    b"freturn",
-    b"dreturn",
 ];
 
 /// What the word asks for, if it begins an instruction.
-#[tactic(auto, unfolding(crate::specs::Forms::form_at, crate::specs::Forms::forms))]
+#[tactic(auto, unfolding(crate::specs::Forms::form_at))]
 pub fn form_of(word: &[u8]) -> Option<Form>
     ensures { result ≡ form_at word.now }
 {
-    find(word, &FORMS)
+    match find(word, &COMMON_FORMS) {
+        None => find(word, &OTHER_FORMS),
+        common => common,
+    }
 }
 
 /// Whether the word begins an instruction that is left out.
-#[tactic(auto, unfolding(crate::specs::Forms::is_left_out, crate::specs::Forms::left_out_words))]
+#[tactic(auto, unfolding(crate::specs::Forms::is_left_out))]
 pub fn left_out(word: &[u8]) -> bool
     ensures { result ≡ is_left_out word.now }
 {
-    stands_in(word, &LEFT_OUT)
+    match word {
+        [b'l' | b'f' | b'd', behind @ ..] if stands_in(behind, &WIDE_OR_FLOATING) => true,
+        _ => stands_in(word, &LEFT_OUT),
+    }
 }
 
 /// What a line that begins with a dot says.

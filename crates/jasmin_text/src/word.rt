@@ -5,19 +5,18 @@ ghost use Rattle.jasmin_text.specs.Tables.{rows};
 ghost use Rattle.jasmin_text.specs.Forms.{first_word as first_word_at, word_of as word_at};
 ghost use Rattle.jasmin_text.specs.BaseWords.{base_word as base_word_spelling};
 
-use crate::form::{FORMS, Form};
+use crate::form::{COMMON_FORMS, Form, OTHER_FORMS};
 use descriptors::BaseType;
 
-/// The canonical word of what asks for this: the first such word of the table. It is empty where the table has none.
-#[tactic(auto, unfolding(crate::specs::Forms::word_of, crate::specs::Forms::forms))]
+/// The canonical word of what asks for this: the first such word of the tables. It is empty where they have none.
 pub(crate) fn word_of(form: Form) -> &'static [u8]
     ensures { result.now ≡ word_at form }
 {
-    first_word(form, &FORMS)
+    first_word(form, &COMMON_FORMS, first_word(form, &OTHER_FORMS, b""))
 }
 
-fn first_word(form: Form, table: &[(&'static [u8], Form)]) -> &'static [u8]
-    ensures { result.now ≡ first_word_at form (rows table.now) }
+fn first_word(form: Form, table: &[(&'static [u8], Form)], otherwise: &'static [u8]) -> &'static [u8]
+    ensures { result.now ≡ first_word_at form (rows table.now) otherwise.now }
 {
     let mut rest = table;
     while let [(word, row), after @ ..] = rest {
@@ -26,7 +25,7 @@ fn first_word(form: Form, table: &[(&'static [u8], Form)]) -> &'static [u8]
         }
         rest = after;
     }
-    b""
+    otherwise
 }
 
 /// The word of a base type as `newarray` names it.

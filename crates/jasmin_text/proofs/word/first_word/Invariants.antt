@@ -4,7 +4,7 @@ use Rattle.jasmin_text.specs.Forms.{first_word}
 use Rattle.jasmin_text.proofs.word.first_word.Given as goal
 
 abbrev pub invariant-loop-rest : goal.invariant-loop-rest
-invariant-loop-rest l = first_word l.form (rows l.rest) ≡ first_word l.form (rows l.table)
+invariant-loop-rest l = first_word l.form (rows l.rest) l.otherwise ≡ first_word l.form (rows l.table) l.otherwise
 
 abbrev pub decreases-loop-rest : goal.decreases-loop-rest
 decreases-loop-rest l = length l.rest
