@@ -147,38 +147,39 @@ impl Words<'_> {
         self.say("\n");
     }
 
+    /// That a thread waits for a class, and for which thread.
+    fn waits_for(&mut self, thread: usize, class: ClassId) {
+        self.step(" waits for ", class);
+        if let (Label::InProgress(owner), _) = self.label(class) {
+            if owner != thread {
+                self.say(", which ");
+                self.thread(owner);
+                self.say(" initializes");
+            }
+        }
+    }
+
+    /// That a thread initializes a class, since when, and how far it is.
+    fn initializes(&mut self, class: ClassId, stage: &Stage) {
+        self.step(" initializes ", class);
+        let (_, number) = self.label(class);
+        self.since(number);
+        self.say(match stage {
+            Stage::Looking { .. } => "",
+            Stage::Needing(_) => ": in step 7, what it needs comes first",
+            Stage::Running { ran: false } => ": all that it needs is done",
+            Stage::Running { ran: true } => ": its initializer runs",
+            Stage::SuperFails { .. } => ": what it needs has failed",
+        });
+    }
+
     /// What a thread is doing with an open class.
     pub(crate) fn open_class(&mut self, thread: usize, open: &OpenClass) {
         self.thread(thread);
         match open.stage {
-            Stage::Looking { waited: false } => {
-                self.say(" comes to ");
-                self.class(open.class);
-            }
-            Stage::Looking { waited: true } => {
-                self.say(" waits for ");
-                self.class(open.class);
-                if let (Label::InProgress(owner), _) = self.label(open.class) {
-                    if owner != thread {
-                        self.say(", which ");
-                        self.thread(owner);
-                        self.say(" initializes");
-                    }
-                }
-            }
-            _ => {
-                self.say(" initializes ");
-                self.class(open.class);
-                let (_, number) = self.label(open.class);
-                self.since(number);
-                self.say(match &open.stage {
-                    Stage::Looking { .. } => "",
-                    Stage::Needing(_) => ": in step 7, what it needs comes first",
-                    Stage::Running { ran: false } => ": all that it needs is done",
-                    Stage::Running { ran: true } => ": its initializer runs",
-                    Stage::SuperFails { .. } => ": what it needs has failed",
-                });
-            }
+            Stage::Looking { waited: false } => self.step(" comes to ", open.class),
+            Stage::Looking { waited: true } => self.waits_for(thread, open.class),
+            _ => self.initializes(open.class, &open.stage),
         }
         self.say("\n");
     }
@@ -222,6 +223,19 @@ impl Words<'_> {
         }
     }
 
+    /// What may come in an initializer that runs.
+    fn running(&mut self, class: ClassId, last: Option<Completed>) {
+        match ending_error(last) {
+            Some(error) => self.step_by("step12 ", class, error),
+            None => {
+                self.step("step10 ", class);
+                self.step(", step12 ", class);
+                self.say(" by an Error, ");
+                self.items(last);
+            }
+        }
+    }
+
     /// What may come while this class is the innermost open one.
     fn within(&mut self, thread: usize, open: &OpenClass, last: Option<Completed>) {
         match &open.stage {
@@ -232,17 +246,19 @@ impl Words<'_> {
                 self.step(", step7 ", open.class);
                 self.say(" java/lang/OutOfMemoryError")
             }
-            Stage::Running { ran: true } => match ending_error(last) {
-                Some(error) => self.step_by("step12 ", open.class, error),
-                None => {
-                    self.step("step10 ", open.class);
-                    self.step(", step12 ", open.class);
-                    self.say(" by an Error, ");
-                    self.items(last);
-                }
-            },
+            Stage::Running { ran: true } => self.running(open.class, last),
             Stage::SuperFails { error, .. } => self.step_by("step7 ", open.class, *error),
         }
+    }
+
+    /// What may come beside a look: the request is given up in the class around it.
+    fn giving_up(&mut self, around: &OpenClass) {
+        let step = match around.stage {
+            Stage::Needing(_) => ", step7 ",
+            _ => ", step12 ",
+        };
+        self.step(step, around.class);
+        self.say(MACHINE_ERRORS);
     }
 
     /// What a thread could do next.
@@ -257,13 +273,7 @@ impl Words<'_> {
             [.., around, innermost] => {
                 self.within(thread, innermost, last);
                 if let Stage::Looking { .. } = innermost.stage {
-                    // (it may give up the request in the class around)
-                    let step = match around.stage {
-                        Stage::Needing(_) => ", step7 ",
-                        _ => ", step12 ",
-                    };
-                    self.step(step, around.class);
-                    self.say(MACHINE_ERRORS);
+                    self.giving_up(around);
                 }
             }
             [innermost] => self.within(thread, innermost, last),
