@@ -1,5 +1,4 @@
 pub mod Checked
-pub mod CommandLine
 pub mod KnownFiles
 pub mod KnownOutput
 pub mod Names

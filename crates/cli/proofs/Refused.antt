@@ -4,7 +4,7 @@ use Rattle.clap.specs.Words.{HasKind, Text}
 use Rattle.clap.specs.Words.{kind_of}
 use Rattle.clap.specs.declared.error.Error.{Error}
 use Rattle.clap.specs.declared.error.kind.ErrorKind.TheVariants.{DisplayHelp, DisplayVersion, OutOfMemory}
-use Rattle.cli.specs.CommandLine.{faults_in}
+use Rattle.command_line.specs.CommandLine.{faults_in}
 use Rattle.cli.specs.Files.{Files}
 use Rattle.cli.specs.Refusals.{AreWordsRefused, wrong_words}
 

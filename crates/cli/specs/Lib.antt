@@ -1,4 +1,3 @@
-pub mod CommandLine
 pub mod Serving
 pub mod Status
 pub mod Running

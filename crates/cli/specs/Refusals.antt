@@ -9,7 +9,7 @@ use Rattle.trace.specs.declared.report.Limits.{Limits}
 use Rattle.cli.specs.declared.fault.Fault.{Fault}
 use Rattle.cli.specs.declared.fault.Fault.TheVariants.{Words}
 use Rattle.cli.specs.Checking.{IsCheckRefusal}
-use Rattle.cli.specs.CommandLine.{Request, RunWords, check, faults_in, needs, request_in, run, unfit}
+use Rattle.command_line.specs.CommandLine.{Request, RunWords, check, faults_in, needs, request_in, run, unfit}
 use Rattle.cli.specs.FaultText.{fault_line}
 use Rattle.cli.specs.Files.{AreSpelled, Files}
 use Rattle.cli.specs.Limits.{AreLimits, IsLimitRefusal}

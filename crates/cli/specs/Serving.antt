@@ -13,7 +13,7 @@ use Rattle.hierarchy.specs.declared.class.ClassId.{ClassId}
 use Rattle.init_core.specs.declared.event.Event.{Event}
 use Rattle.judge.specs.declared.verdict.Verdict.{Verdict}
 use Rattle.cli.specs.Checking.{IsJudged, TellsVerdict, status_by}
-use Rattle.cli.specs.CommandLine.{CheckWords, Request, RunWords, check, faults_in, needs, request_in, run, unfit}
+use Rattle.command_line.specs.CommandLine.{CheckWords, Request, RunWords, check, faults_in, needs, request_in, run, unfit}
 use Rattle.cli.specs.Files.{AreSpelled, FileHolds, Files, KeepsAllBut}
 use Rattle.cli.specs.Limits.{AreLimits}
 use Rattle.cli.specs.NeedsText.{needs_text}

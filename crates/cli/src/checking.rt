@@ -5,7 +5,7 @@ ghost use Rattle.sequence.specs.Written.{Adds};
 ghost use Rattle.clap.specs.Walk.{texts};
 ghost use Rattle.judge.specs.Verdicts.{IsVerdict};
 ghost use Rattle.cli.specs.Checking.{IsCheckRefusal, IsJudgeRefusal, IsJudged, IsJudgedOf, IsTraceRefusal, TellsVerdict, TraceHolds, rule_text, status_by, verdict_line};
-ghost use Rattle.cli.specs.CommandLine.{text_of};
+ghost use Rattle.command_line.specs.CommandLine.{text_of};
 ghost use Rattle.cli.specs.Files.{KeepsAllBut};
 
 use crate::fault::Fault;

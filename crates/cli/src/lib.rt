@@ -14,7 +14,6 @@ pub mod orders;
 pub mod outcomes;
 pub mod running;
 pub mod serving;
-pub mod words;
 
 pub use checking::{Judged, check_named, status_of_verdict, write_judged};
 pub use fault::Fault;
@@ -23,4 +22,3 @@ pub use needed::write_needs;
 pub use outcomes::{status_of_outcomes, write_outcomes};
 pub use running::{ProgramRun, run_texts};
 pub use serving::serve;
-pub use words::{Asked, Check, Run, parse};

@@ -2,7 +2,7 @@
 
 ghost use Rattle.std.specs.Prelude.{◌≡◌, ◌≤◌, ℕ, IfErr, IfOk, IfSome, None};
 ghost use Rattle.cli.specs.declared.fault.Fault.TheVariants.{Patience, Steps};
-ghost use Rattle.cli.specs.CommandLine.{text_of};
+ghost use Rattle.command_line.specs.CommandLine.{text_of};
 ghost use Rattle.cli.specs.Limits.{AreLimits, IsLimitRefusal, IsNumber, IsPatience, IsSteps};
 
 use crate::fault::Fault;

@@ -2,7 +2,7 @@
 
 ghost use Rattle.std.specs.Prelude.{◌≡◌, [], IfErr, IfOk, Some};
 ghost use Rattle.std.specs.Option.{option_map};
-ghost use Rattle.cli.specs.CommandLine.{text_of};
+ghost use Rattle.command_line.specs.CommandLine.{text_of};
 ghost use Rattle.cli.specs.Orders.{IsOrderRefusal, commas_in, is_of_threads, number_up_to, number_with_digit, numbers_from, numbers_in, numbers_of, order_in};
 
 use crate::fault::Fault;

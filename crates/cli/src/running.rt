@@ -13,7 +13,7 @@ ghost use Rattle.bodies.specs.Lending.{nothing_shared};
 ghost use Rattle.bodies.specs.Runs.{AreMains, IsRunOf};
 ghost use Rattle.replayer.specs.OrderedRun.{IsOrderedRunOf};
 ghost use Rattle.cli.specs.declared.fault.Fault.TheVariants.{Mains, Memory, Threads};
-ghost use Rattle.cli.specs.CommandLine.{text_of};
+ghost use Rattle.command_line.specs.CommandLine.{text_of};
 ghost use Rattle.cli.specs.Files.{IsLinkedFrom, KeepsAllBut};
 ghost use Rattle.cli.specs.Orders.{is_of_threads, numbers_of};
 ghost use Rattle.cli.specs.ReadRefusals.{AreUnlinked};

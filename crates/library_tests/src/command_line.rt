@@ -1,7 +1,8 @@
 //! What the words of the command line ask for, and the exit status of a fault. Runs of the whole program are cases of
 //! the crate `cases`.
 
-use cli::{Asked, Fault, parse};
+use cli::Fault;
+use command_line::{Asked, parse};
 use std::alloc::Global;
 
 const WORDS: &[&str] = &[

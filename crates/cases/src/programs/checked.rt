@@ -2,7 +2,7 @@
 
 use crate::programs::named_texts::Texts;
 use crate::programs::serve_with;
-use cli::Run;
+use command_line::Run;
 use std::alloc::{AllocError, Global};
 use std::sync::Wait;
 use std::thread::Threads;

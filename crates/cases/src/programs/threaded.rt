@@ -2,7 +2,8 @@
 
 use crate::linked::add_class;
 use crate::programs::named_texts::Texts;
-use cli::{Named, Run, write_outcomes};
+use cli::{Named, write_outcomes};
+use command_line::Run;
 use guest_threads::{NoGate, run_threads};
 use hierarchy::{ClassId, LinkFault, Program, link};
 use interpreter::{SharedInterpreter, SharedObjects};

@@ -1,5 +1,5 @@
 use Rattle.std.proofs.Common.{subst, sym}
-use Rattle.cli.specs.CommandLine.{text_of}
+use Rattle.command_line.specs.CommandLine.{text_of}
 use Rattle.cli.specs.Limits.{IsLimitRefusal, no_steps, no_patience}
 use Rattle.cli.proofs.limits.limits_of.Goals as goal
 

@@ -1,5 +1,5 @@
 use Rattle.std.proofs.Common.{subst}
-use Rattle.cli.specs.CommandLine.{request_of}
+use Rattle.command_line.specs.CommandLine.{request_of}
 use Rattle.cli.specs.Serving.{IsServed, around}
 use Rattle.cli.proofs.Quiet.{quiet}
 use Rattle.cli.proofs.serving.answer_or_tell.Goals as goal

@@ -7,7 +7,7 @@ use Rattle.clap.specs.declared.parser.matches.ArgMatches.TheViews.{out-ArgMatche
 use Rattle.clap.specs.declared.parser.matches.Found.{Found}
 use Rattle.clap.proofs.WalkLemmas.{first_value-rows, raw_values-rows}
 use Rattle.clap.proofs.OnLiterals.{clap_on_literals}
-use Rattle.cli.specs.CommandLine.{bare_line, command_line, file_words, flag_named, option_named, request_by, request_found, subcommand_named, with_run_options, with_trace}
+use Rattle.command_line.specs.CommandLine.{bare_line, command_line, file_words, flag_named, option_named, request_by, request_found, subcommand_named, with_run_options, with_trace}
 
 pub found_by_rows : (name : Text) (f : Found) → request_found name f ≡ request_by (Some (name, rows_of f))
 found_by_rows name f = rw (first_value-rows f (codes "mains"), first_value-rows f (codes "trace"), first_value-rows f (codes "explain"), first_value-rows f (codes "order"), first_value-rows f (codes "steps"), first_value-rows f (codes "patience"), raw_values-rows f (codes "files")) refl

@@ -2,9 +2,9 @@ use Rattle.std.proofs.Common.{ap, subst, ◌∙◌}
 use Rattle.std.proofs.lemmas.Result.{IfOk-weaker}
 use Rattle.clap.specs.Walk.{texts}
 use Rattle.clap.specs.Words.{FailsBy, fault_of, is_simple, is_simple_and_free, subcommand_of}
-use Rattle.cli.specs.CommandLine.{faults_in, rows_in}
-use Rattle.cli.proofs.CommandLine.{is_told, is_told_of_faults}
-use Rattle.cli.proofs.words.matches_of.Goals as goal
+use Rattle.command_line.specs.CommandLine.{faults_in, rows_in}
+use Rattle.command_line.proofs.CommandLine.{is_told, is_told_of_faults}
+use Rattle.command_line.proofs.matches_of.Goals as goal
 
 pub returns-clause-found : goal.returns-clause-found
 unfolding rows_in

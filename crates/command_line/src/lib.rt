@@ -1,10 +1,13 @@
-//! The words of the command line.
+//! What the words of the program's command line ask for, as `clap` reads them.
+//!
+//! Enter by [`parse`]; `specs/CommandLine` has the subcommands with their options.
+#![tactic(auto)]
 
 ghost use Rattle.std.specs.Prelude.{◌≡◌, IfOk, false};
 ghost use Rattle.clap.specs.Walk.{texts};
 ghost use Rattle.clap.specs.Words.{FailsBy, app_of, first_value, found_of, rule_of, subcommand_rows_of, with_rule, with_subcommand};
 ghost use Rattle.clap.specs.declared.builder.command.Command.TheViews.{out-Command as fields_of};
-ghost use Rattle.cli.specs.CommandLine.{bare_line, check_found, command_line, faults_in, file_words, files_found, flag_named, is_set, mains_or_trace_found, option_named, request_found, request_in, request_of, rows_in, run_found, run_options_found, subcommand_named, with_run_options as with_options_of_run, with_trace as with_trace_options};
+ghost use Rattle.command_line.specs.CommandLine.{bare_line, check_found, command_line, faults_in, file_words, files_found, flag_named, is_set, mains_or_trace_found, option_named, request_found, request_in, request_of, rows_in, run_found, run_options_found, subcommand_named, with_run_options as with_options_of_run, with_trace as with_trace_options};
 
 use clap::{Arg, ArgAction, ArgMatches, Command, Error};
 use std::alloc::{AllocError, Global};

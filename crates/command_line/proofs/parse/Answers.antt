@@ -1,9 +1,9 @@
 use Rattle.std.proofs.Common.{ap, sym, ◌∙◌}
 use Rattle.clap.specs.Walk.{rows_of}
 use Rattle.clap.specs.Words.{found_of}
-use Rattle.cli.specs.CommandLine.{request_by}
-use Rattle.cli.proofs.CommandLine.{entered_by, entered_none, found_by_rows}
-use Rattle.cli.proofs.words.parse.Goals as goal
+use Rattle.command_line.specs.CommandLine.{request_by}
+use Rattle.command_line.proofs.CommandLine.{entered_by, entered_none, found_by_rows}
+use Rattle.command_line.proofs.parse.Goals as goal
 
 pub returns-in-Some-clause-asked : goal.returns-in-Some-clause-asked
 returns-in-Some-clause-asked c =

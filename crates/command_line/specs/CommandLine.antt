@@ -9,10 +9,10 @@ use Rattle.clap.specs.Kinds.{Kinds}
 use Rattle.clap.specs.Simple.{on_top}
 use Rattle.clap.specs.declared.builder.action.ArgAction.TheVariants.{Append, SetTrue}
 use Rattle.clap.specs.declared.parser.matches.Found.{Found}
-use Rattle.cli.specs.declared.words.Asked.{Asked}
-use Rattle.cli.specs.declared.words.Check.{Check}
-use Rattle.cli.specs.declared.words.Run.{Run}
-use Rattle.cli.specs.declared.words.Asked.TheVariants as asked
+use Rattle.command_line.specs.declared.Asked.{Asked}
+use Rattle.command_line.specs.declared.Check.{Check}
+use Rattle.command_line.specs.declared.Run.{Run}
+use Rattle.command_line.specs.declared.Asked.TheVariants as asked
 
 -- an option `--<name>` with one value
 unfoldable pub option_named : Text → Rule
