@@ -14,7 +14,7 @@ import places
 from tally import say
 
 # How many edits a batch has at most: with more, an edit that is refused slowly holds up many others.
-MOST = 24
+MOST = 28
 # How many functions that no edit changes a batch may have the prover look at again: each takes a second, a batch more some fifteen.
 BETWEEN = 12
 # An edit that takes more processor seconds than these to be refused is shown: another one of the same meaning may take less.
