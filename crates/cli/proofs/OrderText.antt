@@ -1,10 +1,11 @@
 -- The text of an order, read from the left.
-use Rattle.std.proofs.Common.{◌≡◌, ◌++◌, ◌+◌, ◌*◌, ◌&&◌, ◌<◌, ◌≤◌, ℕ, Bool, true, false, List, [], ◌∷◌, Option, Some, None, option_and_then, option_map, if◌then◌else◌, length, nat_le, nat_lt, refl, arith, sym}
+use Rattle.std.proofs.Common.{◌≡◌, ◌∙◌, ◌++◌, ◌+◌, ◌-◌, ◌*◌, ◌&&◌, ◌<◌, ◌≤◌, ℕ, Bool, true, false, List, [], ◌∷◌, Option, Some, None, ap, drop, get_or, option_and_then, option_map, if◌then◌else◌, length, nat_le, nat_lt, refl, arith, sym, take}
 use Rattle.std.specs.Char.{digit_value, is_digit}
 use Rattle.std.specs.List.{AllByRecursion, list_all}
 use Rattle.std.specs.Str.Parse.{digits_value_after}
 use Rattle.std.proofs.lemmas.Bool.{and_parts}
 use Rattle.std.proofs.lemmas.Bool.Decides.{nat_tests}
+use Rattle.std.proofs.lemmas.List.{take_all}
 use Rattle.cli.specs.Orders.{number_up_to, number_with_digit, numbers_from, numbers_in}
 
 -- these numbers, and after them further ones, where those are there
@@ -51,3 +52,11 @@ are_threads threads [] all = tt
 are_threads threads (t ∷ ts) all =
     let parts = and_parts (nat_lt t threads) (list_all (λ u. nat_lt u threads) ts) all in
     (grind (arith, nat_tests), are_threads threads ts parts.1)
+
+-- one digit more was read
+pub next_digit : (most n m : ℕ) (digits rest : List ℕ) → 1 ≤ length rest → number_up_to most digits ≡ goes_on most n rest → Some m ≡ number_with_digit most n (get_or rest 0 0)
+    → number_up_to most digits ≡ goes_on most m (take (length rest - 1) (drop 1 rest))
+next_digit most n m digits [] some before next = absurd (omega arith)
+next_digit most n m digits (d ∷ ds) some before next =
+    let all : take (length (d ∷ ds) - 1) ds ≡ ds = take_all _ ds (omega arith) in
+    before ∙ (one_digit most n d ds ∙ (ap (option_and_then (λ k. goes_on most k ds)) (sym next) ∙ ap (goes_on most m) (sym all)))

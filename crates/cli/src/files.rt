@@ -75,7 +75,6 @@ fn read_text<'a, N: Named>(
 }
 
 /// The class texts of all files, one after the other.
-#[tactic(auto, using(crate::proofs::KnownFiles::keeps_all, crate::proofs::KnownFiles::keeps_then))]
 pub(crate) fn read_texts<'a, N: Named>(
     alloc: Global,
     named: &mut N,

@@ -22,7 +22,6 @@ fn with_digit(number: usize, byte: u8, most: usize) -> Option<usize>
 }
 
 /// The decimal number that these digits write, and nothing else, where it is at most `most`.
-#[tactic(auto, using(crate::proofs::OrderText::begins, crate::proofs::OrderText::one_digit))]
 fn number_of(digits: &[u8], most: usize) -> Option<usize>
     ensures { result ≡ number_up_to most digits.now }
 {

@@ -203,6 +203,20 @@ fn with_command<'a>(
     command.subcommand(subcommand)
 }
 
+/// The command with the subcommand of that name.
+fn with_named<'a>(
+    alloc: Global,
+    command: Command<'a>,
+    name: &'a str,
+    about: &'a str,
+    shown: Shown<'a>,
+) -> Result<Command<'a>, AllocError>
+    ensures { IfOk result (λ c. app_of c ≡ with_subcommand (app_of command.entry) (subcommand_named name.entry.now).top) }
+{
+    let named = subcommand(alloc, name, about, shown)?;
+    with_command(command, named)
+}
+
 /// The program's command line.
 #[tactic(auto, unfolding(crate::specs::CommandLine::command_line))]
 fn command<'a>(alloc: Global) -> Result<Command<'a>, AllocError>
@@ -214,24 +228,21 @@ fn command<'a>(alloc: Global) -> Result<Command<'a>, AllocError>
         explain: false,
         run_options: true,
     };
-    let run = subcommand(alloc, "run", about, shown)?;
-    let command = with_command(bare_command(alloc), run)?;
+    let command = with_named(alloc, bare_command(alloc), "run", about, shown)?;
     let about = "Judges whether a trace is a legal interleaving of the main classes' threads";
     let shown = Shown {
         trace: Some("The trace to judge"),
         explain: true,
         run_options: false,
     };
-    let check = subcommand(alloc, "check", about, shown)?;
-    let command = with_command(command, check)?;
+    let command = with_named(alloc, command, "check", about, shown)?;
     let about = "Writes for each class what is initialized before its own initializer runs";
     let shown = Shown {
         trace: None,
         explain: false,
         run_options: false,
     };
-    let needs = subcommand(alloc, "needs", about, shown)?;
-    with_command(command, needs)
+    with_named(alloc, command, "needs", about, shown)
 }
 
 fn files_of<'a>(alloc: Global, matches: &ArgMatches<'a>) -> Result<Vec<&'a str>, AllocError>
