@@ -1,4 +1,4 @@
-use Rattle.std.proofs.Common.{◌≡◌, ◌∙◌, ap, rules}
+use Rattle.std.proofs.Common.{◌≡◌, rules}
 use Rattle.std.proofs.lemmas.Result.{IfOk-weaker}
 use Rattle.clap.specs.Words.{App, Rule, Text, app_of, new_app, with_rule}
 use Rattle.command_line.specs.CommandLine.{file_words, subcommand_named, with_run_options, with_trace}
