@@ -47,7 +47,7 @@ use Rattle.bodies.proofs.ThreadSteps.{allows_use, asks_one, uses_one, goes_of, p
 use Rattle.init_world.proofs.Sound.{no_more}
 use Rattle.replayer.specs.declared.log.EventLog.{EventLog}
 use Rattle.replayer.specs.declared.thread.Thread.{Thread}
-use Rattle.replayer.specs.Going.{Going, HasStepped, IsWhy, IsInBody, HasComeTo, IsDoing, WaitsInside, IsOver, IsPaused, at_class, in_body, Resting, IsSameThread, TurnsTo, limit_error}
+use Rattle.replayer.specs.Going.{Going, GoesOrEnds, HasStepped, IsWhy, IsInBody, HasComeTo, IsDoing, WaitsInside, IsOver, IsPaused, at_class, in_body, Resting, IsSameThread, TurnsTo, limit_error, turn_by}
 use Rattle.replayer.specs.declared.thread.Turn.{Turn}
 use Rattle.replayer.specs.declared.thread.Turn.TheVariants as turn
 use Rattle.replayer.specs.Logged.{IsLog, IsStateAfter, histories}
@@ -63,6 +63,15 @@ none_of (Some e) n = absurd (n e refl)
 no_look : (fs : List Frame) → IsBodyAt fs → (d : ClassId) → next_of fs ≢ next.Look d
 no_look [] of_main d q = cc
 no_look (f ∷ fs) (of_a_class c gs) d q = cc
+
+-- the same thread after two calls
+pub same_then : {S : Type 0} {w v x : Thread S} → IsSameThread w v → IsSameThread v x → IsSameThread w x
+same_then a b = record { number = b.number ∙ a.number; main = b.main ∙ a.main; start = b.start ∙ a.start; gave_up = b.gave_up ∙ a.gave_up; done = b.done ∙ a.done }
+
+-- a turn without an event, by how the thread ended, isn't one in which it waits
+pub never_waits : {A : Type 0} (t : Turn) (o : Option Outcome) → t ≡ turn_by o → t ≡ turn.Waits → A
+never_waits t None is q = cc
+never_waits t (Some r) is q = cc
 
 module _ {S : Type 0} (p : LinkedProgram) (M : Making S) where
   not_of_main : {A : Type 0} (w : Thread S) → IsInBody w → w.in_main ≡ false → w.procedure.frames ≡ [] → A
@@ -401,6 +410,11 @@ module _ {S : Type 0} (p : LinkedProgram) (M : Making S) where
 
   pub paused_was : {W : Bool → S → Type 0} (l : EventLog) (w : Thread S) → ((c : ClassId) → next_of w.procedure.frames ≢ next.Look c) → IsPaused p M W l w → w.gave_up ≡ false
   paused_was l w other h = kept_calm l w (paused_body l w other h)
+
+  -- what comes of a step after which it goes on, or has ended
+  pub turn_done : (W : Bool → S → Type 0) (l : EventLog) (w x : Thread S) (t : Turn) (o : Option Outcome) → t ≡ turn_by o → GoesOrEnds p M l x o → TurnsTo p M W l w l x t
+  turn_done W l w x t None is h = subst (TurnsTo p M W l w l x) (sym is) (inl h, refl)
+  turn_done W l w x t (Some r) is h = subst (TurnsTo p M W l w l x) (sym is) (h, refl)
 
   -- a turn after turns without an event
   pub turns_from : (W : Bool → S → Type 0) (l k : EventLog) (w v : Thread S) (m : EventLog) (x : Thread S) (t : Turn) → k ≡ l → IsSameThread w v → TurnsTo p M W k v m x t → TurnsTo p M W l w m x t

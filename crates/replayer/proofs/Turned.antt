@@ -1,7 +1,7 @@
 -- The turns that threads have had, one after the other.
 use Rattle.std.proofs.Common.{◌≡◌, ◌≢◌, ◌⊎◌, inl, inr, ℕ, ◌<◌, ◌==◌, List, [], ◌∷◌, ◌++◌, Bool, true, false, length, refl, sym, ap, subst, ◌∙◌, append-nil, append_assoc, arith}
 use Rattle.std.specs.Prelude.{slice_index_or}
-use Rattle.std.proofs.lemmas.Bool.{ne_eqb}
+use Rattle.std.proofs.lemmas.Bool.{eq-eqb, ne_eqb}
 use Rattle.std.proofs.lemmas.Bool.Decides.{eqb_tells}
 use Rattle.hierarchy.specs.LinkedProgram.{LinkedProgram}
 use Rattle.trace.specs.declared.report.Limit.{Limit}
@@ -58,6 +58,27 @@ module _ {H : Type 0} where
   -- those of the same thread by another name
   pub then_by : {t n : ℕ} {r s u : Shared H} {uses used more : List (H × H)} → n ≡ t → HasTurned t r s uses used → HasTurned n s u used more → HasTurned t r u uses more
   then_by {r = r} {s = s} {u = u} {used = used} {more = more} same a b = then_turned a (subst (λ (k : ℕ). HasTurned k s u used more) same b)
+
+  -- the turn in which a thread met this and left that
+  pub turned_once : (t : ℕ) (r m s : Shared H) {uses had used : List (H × H)} {met left : H} → had ≡ uses → met ≡ r.state → m.first ≡ r.first → m.turns ≡ r.turns → s.state ≡ left → s.first ≡ m.first → s.turns.items ≡ m.turns.items ++ (t, left) ∷ [] → used ≡ had ++ (met, left) ∷ [] → HasTurned t r s uses used
+  turned_once t r m s {left = left} same is first turns state still more more_uses = record {
+    turned = (t, left) ∷ [];
+    own = (refl, tt);
+    turns = more ∙ ap (λ xs. xs.items ++ (t, left) ∷ []) turns;
+    state = state;
+    has_used = more_uses ∙ rw (eq-eqb t t refl, same, is) refl;
+    first = still ∙ first;
+  }
+
+-- a step of a thread that takes what is shared, which is k then, and gives back what it left
+pub stepped : {S H : Type 0} (L : Lending S H) (R : S → S → Type 0) {a u z : Lent S H} {v : S} {h k met : H} → u ≡ record a { state = L.with_shared a.state h } → k ≡ L.shared_of a.state → met ≡ h → R u.state v → z.state ≡ L.with_shared v k → z.uses ≡ u.uses ++ (met, L.shared_of v) ∷ [] → StepsWith L R a z
+stepped L R {a = a} {v = v} {h = h} own is same step state uses = record {
+  met = h;
+  left = v;
+  step = subst (λ b. R b v) (ap (λ l. l.state) own) step;
+  state = state ∙ ap (L.with_shared v) is;
+  uses = uses ∙ rw (own, same) refl;
+}
 
 -- the turns of one thread leave all in turn
 pub still_in_turn : {S H : Type 0} (t : ℕ) (r s : Run (Lent S H) H) (w x : Thread (Lent S H)) → t < length r.threads.items → ((other : Thread (Lent S H)) → slice_index_or r.threads.items t other ≡ w) → ((other : Thread (Lent S H)) → slice_index_or s.threads.items t other ≡ x) →

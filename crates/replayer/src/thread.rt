@@ -229,7 +229,6 @@ impl<H, B: Lends<H>> Thread<Lent<B, H>> {
 
     /// Goes on until it has made one event, has ended or can't go on. An `Err` is out of memory; so are more turns than there
     /// are numbers.
-    #[tactic(auto, using(crate::proofs::Turned::then_by))]
     pub(crate) fn advance(
         &mut self,
         alloc: Global,

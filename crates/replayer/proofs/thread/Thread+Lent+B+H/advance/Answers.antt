@@ -3,7 +3,7 @@ use Rattle.bodies.specs.Lending.{lent_bodies}
 use Rattle.replayer.specs.declared.thread.Turn.TheVariants as turn
 use Rattle.replayer.specs.Going.{TurnsTo}
 use Rattle.replayer.specs.OrderedRun.{WaitsAt}
-use Rattle.replayer.proofs.Acting.{turns_from}
+use Rattle.replayer.proofs.Acting.{same_then, turns_from}
 use Rattle.replayer.proofs.Turned.{then_by}
 use Rattle.replayer.proofs.thread.Thread+Lent+B+H.advance.Goals as goal
 
@@ -24,12 +24,25 @@ turns-preserved g c =
     let p = c.args.program.now in
     let is : c.in_ok-turn.turn ≡ turn.Silent = search rules in
     let x = subst (TurnsTo p (lent_bodies g.B.Lends.lending (g.B.Bodies.making p)) (WaitsAt g.B.Lends.lending (g.B.Bodies.making p) c.turn.new.shared.state) c.turns.log c.turns.self c.turn.new.log c.turn.new.self) is c.in_ok-turn.ensures.turn in
-    let before = c.turns.invariant.same in
-    let same = c.in_ok-turn.ensures.same in
     record {
       rests = x.0;
       log = x.1 ∙ c.turns.invariant.log;
-      same = record { number = same.number ∙ before.number; main = same.main ∙ before.main; start = same.start ∙ before.start; gave_up = same.gave_up ∙ before.gave_up; done = same.done ∙ before.done };
-      turned = then_by before.number c.turns.invariant.turned c.in_ok-turn.ensures.turned;
+      same = same_then c.turns.invariant.same c.in_ok-turn.ensures.same;
+      turned = then_by c.turns.invariant.same.number c.turns.invariant.turned c.in_ok-turn.ensures.turned;
       still = λ q. absurd cc;
     }
+
+pub returns-then-eq-clause-same : goal.returns-then-eq-clause-same
+returns-then-eq-clause-same g c = same_then c.turns.invariant.same c.in_ok-turn.ensures.same
+
+pub returns-then-eq-clause-turned : goal.returns-then-eq-clause-turned
+returns-then-eq-clause-turned g c = then_by c.turns.invariant.same.number c.turns.invariant.turned c.in_ok-turn.ensures.turned
+
+pub returns-else-has_gone_on-clause-same : goal.returns-else-has_gone_on-clause-same
+returns-else-has_gone_on-clause-same g c = same_then c.turns.invariant.same c.in_ok-turn.ensures.same
+
+pub returns-else-has_gone_on-clause-turned : goal.returns-else-has_gone_on-clause-turned
+returns-else-has_gone_on-clause-turned g c = then_by c.turns.invariant.same.number c.turns.invariant.turned c.in_ok-turn.ensures.turned
+
+pub returns-in_err-turn-clause-same : goal.returns-in_err-turn-clause-same
+returns-in_err-turn-clause-same g c = same_then c.turns.invariant.same c.turn.ensures.same
