@@ -10,3 +10,4 @@ pub mod Acting
 pub mod Viewing
 pub mod Joining
 pub mod Started
+pub mod Returning

@@ -190,7 +190,6 @@ impl Interpreter {
 
     /// Goes on with the instruction for which a class was made ready: what the body does by it, or nothing where it makes no event.
     /// An `Err` is want of memory, and changes nothing.
-    #[tactic(auto, using(crate::proofs::Saying::idles_at, crate::proofs::Saying::gets_at, crate::proofs::Saying::puts_at, crate::proofs::Saying::gets_said, crate::proofs::Saying::puts_said))]
     pub(crate) fn resume(
         &mut self,
         program: &Program,

@@ -6,6 +6,7 @@ use Rattle.init_core.specs.Standing.{Standing}
 use Rattle.guest_threads.specs.declared.guarded.Guarded.{Guarded}
 use Rattle.guest_threads.specs.Working.{Working, drawn}
 use Rattle.bodies.proofs.Asking.{looks_at, in_files}
+use Rattle.guest_threads.proofs.Returning.{may_go_back}
 use Rattle.guest_threads.proofs.Telling.{keeps_drawn, look_waits, looked, looked_again, untouched, entered_once, entered_none}
 use Rattle.guest_threads.proofs.Viewing.{by_fields, working_at}
 use Rattle.guest_threads.proofs.task.Task.look.Goals as goal
@@ -58,3 +59,9 @@ pub returns-then-waits_again-clause-waits : goal.returns-then-waits_again-clause
 returns-then-waits_again-clause-waits g c = λ e. record {
   procedure = looked_again _ _ c.args.work.now c.look_at-told.new.self c.args.class c.in-Ok-told.decision _ c.requires.next (c.if-waits_again.ensures.yes refl) c.in-Ok-told.ensures.standing (working_at g.B.Bodies.making (sym c.self.view_is) c.requires.working);
 }
+
+pub give_back_untouched-requires : goal.give_back_untouched-requires
+give_back_untouched-requires g c = record { back = may_go_back c.in-Ok.ensures.took _ _ _ (search rules) (search rules) (search rules) }
+
+pub give_back_asleep-requires-clause-back : goal.give_back_asleep-requires-clause-back
+give_back_asleep-requires-clause-back g c = may_go_back c.in-Ok.ensures.took _ _ _ (search rules) (search rules) (search rules)

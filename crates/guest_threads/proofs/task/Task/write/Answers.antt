@@ -1,4 +1,4 @@
-use Rattle.std.proofs.Common.{ap, sym, subst, ◌∙◌, ◌++◌, ◌∷◌, []}
+use Rattle.std.proofs.Common.{rules, ap, sym, subst, ◌∙◌, ◌++◌, ◌∷◌, []}
 use Rattle.init_core.specs.declared.event.Event.{Event}
 use Rattle.init_core.specs.declared.event.Kind.TheVariants as kind
 use Rattle.init_core.specs.Decisions.{event}
@@ -8,6 +8,7 @@ use Rattle.bodies.specs.declared.does.Does.TheVariants as does
 use Rattle.guest_threads.specs.declared.guarded.Guarded.{Guarded}
 use Rattle.guest_threads.specs.Working.{drawn}
 use Rattle.guest_threads.proofs.Acting.{may_use_found, still_doing, has_come_on, write_was_made, range_of_last}
+use Rattle.guest_threads.proofs.Returning.{may_go_back}
 use Rattle.guest_threads.proofs.Telling.{untouched}
 use Rattle.guest_threads.proofs.Viewing.{come_at, doing_at, working_at}
 use Rattle.guest_threads.proofs.task.Task.write.Goals as goal
@@ -31,3 +32,6 @@ pub returns : goal.returns
 returns g c = working_at g.B.Bodies.making c.self.view_is (write_was_made _ _ c.args.work.now c.forget_last.new.self c.args.class c.args.field c.args.given c.value-value.result c.take_record-taken.new.pass c.give_back_with.new.pass c.in-Ok.held c.in-Ok.held.place c.kept.result.now.record c.write_static-written.new.self (doing_at g.B.Bodies.making (sym c.self.view_is) c.requires.doing) c.in-Ok.ensures.took
     (ap (λ (r : Guarded). r.record) c.kept.ensures.record) c.write_static-written.ensures.class.1 c.in-Ok-written.ensures.events c.value-value.ensures c.in-Ok.ensures.took.place c.give_back_with.ensures.back
     (c.give_back_with.ensures.journal ∙ ap (λ (e : Event). drawn c.take_record-taken.new.pass.journal ++ e ∷ []) c.new-event.ensures) c.give_back_with.ensures.room c.requires.room c.forget_last.ensures.standing)
+
+pub give_back_untouched-requires : goal.give_back_untouched-requires
+give_back_untouched-requires g c = record { back = may_go_back c.in-Ok.ensures.took _ _ _ (search rules) (search rules) (search rules) }

@@ -1,10 +1,13 @@
-use Rattle.std.proofs.Common.{subst, sym}
+use Rattle.std.proofs.Common.{◌≡◌, Some, None, subst, sym}
 use Rattle.bodies.specs.declared.does.Does.{Does}
 use Rattle.hierarchy.specs.declared.op.Op.TheVariants as op
 use Rattle.interpreter.specs.Rows.{IsAtOp}
 use Rattle.interpreter.specs.Says.{IsSayable}
 use Rattle.interpreter.proofs.Saying.{gets_said, gets_then, idles_then, number_of, puts_said, puts_then, still_waits}
 use Rattle.interpreter.proofs.interpreter.Interpreter.resume.Goals as goal
+
+not_none : {A P : Type 0} (x : A) → Some x ≡ None → P
+not_none x e = cc
 
 pub returns-then-not-branch-clause-row : goal.returns-then-not-branch-clause-row
 returns-then-not-branch-clause-row c _ = idles_then c.args.program.now c.args.self.now c.args.class c.in-Some.op c.in_ok-waits_for.field-0 c.requires c.in-Some.ensures c.in_ok-waits_for.ensures c.if-not-branch.true
@@ -38,3 +41,24 @@ returns-in-PutStatic-clause-sayable c =
     subst (λ (d : Does). IsSayable c.args.program.now c.args.self.now.phase d) (sym c.put_static.ensures.does)
     (puts_said c.args.program.now c.args.self.now.frames c.args.self.now.phase c.args.class c.in-PutStatic.field-0 c.in-PutStatic.field c.instructions_name_what_is_there.ensures
     (sym (number_of c.args.class c.in-PutStatic.field-0 waits.0)) c.requires (subst (IsAtOp c.args.program.now c.args.self.now.frames) c.in-PutStatic.is c.in-Some.ensures) waits.1)
+
+pub make-requires-clause-at : goal.make-requires-clause-at
+make-requires-clause-at c = subst (IsAtOp c.args.program.now c.args.self.now.frames) c.in-New.is c.in-Some.ensures
+
+pub make-requires-clause-room : goal.make-requires-clause-room
+make-requires-clause-room c = (still_waits c.args.program.now c.args.self.now.frames c.in-Some.op (op.New c.in-New.wanted) c.args.class c.in_ok-waits_for.field-0 c.in_ok-waits_for.ensures c.if-not-branch.false c.in-New.is).1
+
+pub call_static-requires-clause-at : goal.call_static-requires-clause-at
+call_static-requires-clause-at c = subst (IsAtOp c.args.program.now c.args.self.now.frames) c.in-InvokeStatic.is c.in-Some.ensures
+
+pub returns-in-GetStatic-clause-row : goal.returns-in-GetStatic-clause-row
+returns-in-GetStatic-clause-row c = not_none c.get_static.result
+
+pub returns-in-PutStatic-clause-row : goal.returns-in-PutStatic-clause-row
+returns-in-PutStatic-clause-row c = not_none c.put_static.result
+
+pub returns-in_ok-make-in-New-clause-row : goal.returns-in_ok-make-in-New-clause-row
+returns-in_ok-make-in-New-clause-row c _ = c.in_ok-make-in-New.ensures.row
+
+pub returns-in_ok-call_static-in-InvokeStatic-clause-row : goal.returns-in_ok-call_static-in-InvokeStatic-clause-row
+returns-in_ok-call_static-in-InvokeStatic-clause-row c _ = c.in_ok-call_static-in-InvokeStatic.ensures.row

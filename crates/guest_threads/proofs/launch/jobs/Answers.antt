@@ -1,0 +1,17 @@
+use Rattle.std.proofs.Common.{rules, ◌≡◌, List, ◌++◌, length, map, sym, ap, ◌∙◌, append-nil}
+use Rattle.guest_threads.specs.declared.launch.Job.{Job}
+use Rattle.guest_threads.proofs.Started.{none_in}
+use Rattle.guest_threads.proofs.launch.jobs.Goals as goal
+
+all_of : {A B : Type 0} (f : A → B) (xs : List A) (rest all : List B) → length rest ≡ 0 → map f xs ++ rest ≡ all → map f xs ≡ all
+all_of {B = B} f xs rest all none e = sym (append-nil (map f xs)) ∙ (ap (λ (ys : List B). map f xs ++ ys) (sym (none_in rest none)) ∙ e)
+
+pub returns-clause-passes : goal.returns-clause-passes
+returns-clause-passes g c =
+    let none : length c.loop-pass.pass-iterator.rest.items ≡ 0 = (let a = c.in-None.ensures.steps.0 in let o = c.loop-pass.pass-iterator.rest.ok in search rules) in
+    all_of (λ (j : Job g.row.B.Denot). j.pass) c.loop-pass.jobs.items c.loop-pass.pass-iterator.rest.items c.args.passes.items none c.loop-pass.invariant.0
+
+pub returns-clause-bodies : goal.returns-clause-bodies
+returns-clause-bodies g c =
+    let none : length c.loop-pass.pass-iterator.rest.items ≡ 0 = (let a = c.in-None.ensures.steps.0 in let o = c.loop-pass.pass-iterator.rest.ok in search rules) in
+    all_of (λ (j : Job g.row.B.Denot). j.bodies) c.loop-pass.jobs.items c.loop-pass.starts.rest.items c.args.bodies.items (c.loop-pass.invariant.2 ∙ none) c.loop-pass.invariant.1
