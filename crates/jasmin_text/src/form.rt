@@ -175,28 +175,9 @@ pub const OTHER_FORMS: [(&[u8], Form); 56] = [
 
 /// Words of instructions on longs, floats and doubles, which are left out, behind the letter of the type.
 pub const WIDE_OR_FLOATING: [&[u8]; 22] = [
-    b"const_0",
-    b"const_1",
-    b"load",
-    b"load_0",
-    b"load_1",
-    b"load_2",
-    b"load_3",
-    b"aload",
-    b"store",
-    b"store_0",
-    b"store_1",
-    b"store_2",
-    b"store_3",
-    b"astore",
-    b"add",
-    b"sub",
-    b"mul",
-    b"div",
-    b"rem",
-    b"neg",
-    b"2i",
-    b"return",
+    b"const_0", b"const_1", b"load", b"load_0", b"load_1", b"load_2", b"load_3", b"aload",
+    b"store", b"store_0", b"store_1", b"store_2", b"store_3", b"astore", b"add", b"sub", b"mul",
+    b"div", b"rem", b"neg", b"2i", b"return",
 ];
 
 /// The other words of instructions that are left out.

@@ -15,7 +15,11 @@ pub(crate) fn word_of(form: Form) -> &'static [u8]
     first_word(form, &COMMON_FORMS, first_word(form, &OTHER_FORMS, b""))
 }
 
-fn first_word(form: Form, table: &[(&'static [u8], Form)], otherwise: &'static [u8]) -> &'static [u8]
+fn first_word(
+    form: Form,
+    table: &[(&'static [u8], Form)],
+    otherwise: &'static [u8],
+) -> &'static [u8]
     ensures { result.now ≡ first_word_at form (rows table.now) otherwise.now }
 {
     let mut rest = table;

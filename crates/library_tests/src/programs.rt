@@ -143,7 +143,12 @@ fn programs_answer(rt: HostRuntime) {
     are_so(&rt, alloc, "frames are left", THROWS);
     are_so(&rt, alloc, "heaps and monitors", PARTS);
     are_so(&rt, alloc, "instructions are resolved once", RESOLVED);
-    are_so(&rt, alloc, "World agrees with the twin on small programs", AGREEING);
+    are_so(
+        &rt,
+        alloc,
+        "World agrees with the twin on small programs",
+        AGREEING,
+    );
     are_so(&rt, alloc, "the comparison notices other needs", DIFFERING);
     are_so(&rt, alloc, "threads play their scenes", SCENES);
     are_so(&rt, alloc, "two threads go on in order", IN_ORDER);
