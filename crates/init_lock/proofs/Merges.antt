@@ -1,7 +1,8 @@
 -- The log's last event stands last in the journal of its pass, and in no other.
-use Rattle.std.proofs.Common.{◌≡◌, ℕ, ◌+◌, ◌-◌, ◌<◌, ◌≤◌, ◌⊎◌, inl, inr, List, [], ◌∷◌, ◌++◌, length, map, reverse, slice_index_or, slice_set, refl, sym, ap, ◌∙◌, subst, arith, append-nil, append_assoc}
+use Rattle.std.proofs.Common.{◌≡◌, ℕ, ◌+◌, ◌-◌, ◌<◌, ◌≤◌, ◌⊎◌, inl, inr, List, [], ◌∷◌, ◌++◌, length, map, reverse, get_or, slice_index_or, slice_set, refl, sym, ap, ◌∙◌, subst, arith, append-nil, append_assoc}
 use Rattle.std.specs.List.{AllByRecursion}
 use Rattle.std.proofs.lemmas.List.{same_from_push, reverse-append, map-append, length-set, get_or-set_same, get_or-set_other, get_or_default}
+use Rattle.std.proofs.lemmas.Grind.{elements}
 use mathlib.Core.Logic.{dite}
 use native.Mathlib.Decide.{ℕ_discrete}
 use Rattle.init_lock.specs.declared.journal.Stamped.{Stamped}
@@ -23,14 +24,28 @@ last_of [] h = absurd (omega arith)
 last_of (x ∷ []) h = record { front = []; element = x; parts = refl }
 last_of (x ∷ y ∷ ys) h = let r = last_of (y ∷ ys) (omega arith) in record { front = x ∷ r.front; element = r.element; parts = ap (λ z. x ∷ z) r.parts }
 
+at_end : {A : Type 0} (l : List A) (x d : A) → get_or (l ++ x ∷ []) (length (l ++ x ∷ []) - 1) d ≡ x
+at_end l x d = grind (arith, elements)
+
 front_all : {A : Type 0} (P : A → Type 0) (l : List A) (x : A) → AllByRecursion P (l ++ x ∷ []) → AllByRecursion P l × P x
 front_all P [] x a = (tt, a.0)
 front_all P (y ∷ ys) x a = let r = front_all P ys x a.1 in ((a.0, r.0), r.1)
 
 module _ {E : Type 0} where
+  -- a journal ends with its last element
+  pub ends_with : (l : List (Stamped E)) (x : Stamped E) (j : Written E) → l ≡ j.events → 0 < length l → x ≡ get_or l (length l - 1) x → EndsAt x.stamp j
+  ends_with l x j e some at = let r = last_of l some in record { front = r.front; place = x.place; event = x.event; parts = sym e ∙ r.parts ∙ ap (λ z. r.front ++ z ∷ []) (sym (at ∙ ap (λ z. get_or z (length z - 1) x) r.parts ∙ at_end r.front r.element x)) }
+
+  -- it ends with one stamp
+  pub one_end : (j : Written E) (a b : ℕ) → EndsAt a j → EndsAt b j → a ≡ b
+  one_end j a b s t = ap (λ z. z.stamp) (same_from_push s.front t.front _ _ (sym s.parts ∙ t.parts)).1
+
+  pub end_below : (j : Written E) (stamp bound : ℕ) → EndsAt stamp j → AreBelow bound j.events → stamp < bound
+  end_below j stamp bound s a = (front_all _ s.front _ (subst (AreBelow bound) s.parts a)).1
+
   -- a journal of the log ends below the log's length
   ends_below : (by : ℕ) (log : List (Entry E)) (j : Written E) → j.events ≡ journal_of by 0 log → (stamp : ℕ) → EndsAt stamp j → stamp < length log
-  ends_below by log j e stamp s = (front_all _ s.front _ (subst (AreBelow (length log)) (sym e ∙ s.parts) (subst (λ m. AreBelow m (journal_of by 0 log)) (omega arith) (below by 0 log)))).1
+  ends_below by log j e stamp s = end_below j stamp (length log) s (subst (AreBelow (length log)) (sym e) (subst (λ m. AreBelow m (journal_of by 0 log)) (omega arith) (below by 0 log)))
 
   -- the number above all stamps with which the first journals end
   pub record Reaches (at next : ℕ) (journals : List (Written E)) : Type 0 where

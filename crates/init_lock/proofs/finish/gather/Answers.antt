@@ -1,6 +1,8 @@
-use Rattle.std.proofs.Common.{◌≡◌, ◌++◌, sym, ap, ◌∙◌, subst}
+use Rattle.std.proofs.Common.{◌≡◌, [], ◌∷◌, ◌++◌, map, length, sym, ap, ◌∙◌, subst, arith, append_assoc, length-append}
 use Rattle.std.specs.List.{AllByRecursion}
-use Rattle.init_lock.specs.Known.{IsAway}
+use Rattle.init_lock.specs.Known.{IsAway, view_of_pass}
+use Rattle.init_lock.specs.Closing.{written}
+use Rattle.init_lock.proofs.Lists.{length_map, map_snoc}
 use Rattle.init_lock.proofs.Passes.{carries_none}
 use Rattle.init_lock.proofs.Ends.{joins, all_middle}
 use Rattle.init_lock.proofs.finish.gather.Goals as goal
@@ -15,3 +17,28 @@ join_seat-requires g c =
       c.requires.table.1,
       joins g.R.Keeps.kept g.R.Keeps.may_draw g.R.Keeps.follows g.R.Keeps.settles _ _ _ _ _,
     )
+
+pub loop-pass-preserved : goal.loop-pass-preserved
+loop-pass-preserved g c =
+    let i = c.loop-pass.invariant in
+    let ys = c.loop-pass.yielded in
+    let p = c.in-Some.pass in
+    let j = c.join_seat.ensures in
+    let pushed = c.in-Ok.ensures in (
+      tt,
+      tt,
+      j.0 ∙ i.2,
+      j.1 ∙ i.3,
+      j.2 ∙ (ap (λ z. (z.0 ++ c.pass.inside.seat.me.0, z.1)) i.4 ∙ (ap (λ z. (map view_of_pass ys ++ z, [])) (ap (λ z. z.0) c.pass.invariant.tied ∙ ap (λ z. view_of_pass z ∷ []) c.pass.view_is) ∙ ap (λ z. (z, [])) (sym (map_snoc view_of_pass ys p)))),
+      pushed.items ∙ (ap (λ z. z ++ c.into_inner.result ∷ []) i.5 ∙ (ap (λ z. map written ys ++ z ∷ []) (c.into_inner.ensures ∙ ap written c.pass.view_is) ∙ sym (map_snoc written ys p))),
+      (let a = i.6 in let b = pushed.capacity in omega arith),
+      append_assoc ys (p ∷ []) c.next.new.self.rest.items ∙ (ap (λ z. ys ++ z) (sym c.in-Some.ensures.steps.0) ∙ i.7),
+    )
+
+pub unreachable-requires : goal.unreachable-requires
+unreachable-requires g c =
+    let i = c.loop-pass.invariant in
+    let a = ap length i.5 ∙ length_map written c.loop-pass.yielded in
+    let b = ap length i.7 in
+    let d = ap length c.in-Some.ensures.steps.0 in
+    let e = c.in_default.ensures.succeeds (omega (arith, length-append c.loop-pass.yielded c.loop-pass.pass-iterator.rest.items)) in cc
