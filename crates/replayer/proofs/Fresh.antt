@@ -1,7 +1,6 @@
 -- The threads of a run as it begins.
 use Rattle.std.proofs.Common.{◌≡◌, ◌≢◌, ◌⊎◌, inl, inr, ℕ, ◌+◌, ◌<◌, ◌==◌, List, [], ◌∷◌, ◌++◌, None, true, false, map, length, sym, ap, subst, ◌∙◌, arith, append_assoc}
 use Rattle.std.specs.Prelude.{slice_index_or, take}
-use Rattle.std.specs.List.{AllByRecursion}
 use Rattle.std.proofs.lemmas.Bool.Decides.{eqb_tells}
 use Rattle.std.proofs.lemmas.List.{get_or_append_left, get_or_push, length-append, map_push, take_more}
 use Rattle.hierarchy.specs.declared.class.ClassId.{ClassId}
@@ -38,12 +37,6 @@ module _ {S : Type 0} (p : LinkedProgram) (M : Making S) (B : S → Type 0) (l :
 -- the threads so far are those of the first main classes and starts
 abbrev pub HaveBegun : {S : Type 0} → LinkedProgram → Making S → (S → Type 0) → EventLog → List ClassId → List S → List (Thread S) → List S → Type 0
 HaveBegun p M B l mains starts ws rest = AreFresh p M B l ws × (map (λ w. w.main) ws ≡ take (length ws) mains) × (map (λ w. w.start.value) ws ++ rest ≡ starts) × (length ws + length rest ≡ length mains)
-
--- what holds of all holds of each
-pub each_holds : {A : Type 0} (P : A → Type 0) (xs : List A) (n : ℕ) (d : A) → AllByRecursion P xs → n < length xs → P (slice_index_or xs n d)
-each_holds P [] n d all low = absurd (omega arith)
-each_holds P (x ∷ xs) Prim.Native.Nat.zero d all low = all.0
-each_holds P (x ∷ xs) (Prim.Native.Nat.suc n) d all low = each_holds P xs n d all.1 (omega arith)
 
 module _ {S : Type 0} (p : LinkedProgram) (M : Making S) (B : S → Type 0) (l : EventLog) where
   pub one_begins : (mains : List ClassId) (starts : List S) (ws vs : List (Thread S)) (rest later : List S) (w : Thread S) (n : ℕ) (d : ClassId) (b : S) → vs ≡ ws ++ w ∷ [] → n ≡ length ws → w.main ≡ slice_index_or mains n d → w.start.value ≡ b → rest ≡ b ∷ later → Going p M l w → w.number ≡ n → w.done ≡ None → w.gave_up ≡ false → B w.bodies →

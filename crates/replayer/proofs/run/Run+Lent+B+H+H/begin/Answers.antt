@@ -3,7 +3,8 @@ use Rattle.std.proofs.lemmas.Grind.{common_steps}
 use Rattle.std.proofs.lemmas.List.{length-map}
 use Rattle.init_core.specs.ProcedureWord.{IsOfFiles}
 use Rattle.bodies.specs.Lending.{lent_at_start, lent_bodies}
-use Rattle.replayer.proofs.Fresh.{each_holds, one_begins}
+use Rattle.replayer.proofs.Followed.{all_at}
+use Rattle.replayer.proofs.Fresh.{one_begins}
 use Rattle.replayer.proofs.Others.{there_of}
 use Rattle.replayer.proofs.Turned.{fresh_in_turn}
 use Rattle.replayer.proofs.run.Run+Lent+B+H+H.begin.Goals as goal
@@ -24,7 +25,7 @@ begin-requires g c =
     let all = c.threads.invariant.3 in
     let low : c.len-number.result < length c.args.mains.now = omega (arith, at, more, mapped, all) in
     record {
-      main = each_holds (λ m. IsOfFiles c.args.program.now m) c.args.mains.now c.len-number.result _ c.requires.mains.of_files low;
+      main = all_at (λ m. IsOfFiles c.args.program.now m) c.args.mains.now c.len-number.result _ c.requires.mains.of_files low;
       number = (let threads = c.in_ok-log.ensures.threads in omega (arith, low, threads));
       log = c.in_ok-log.ensures.log;
       none = c.in_ok-log.ensures.events;
