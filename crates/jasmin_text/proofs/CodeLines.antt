@@ -10,7 +10,7 @@ use Rattle.descriptors.specs.Spelling.{method_spelling}
 use Rattle.jasmin_words.specs.Lexing.{Word, Colon, fits}
 use Rattle.jasmin_words.specs.Names.{is_member_name}
 use Rattle.jasmin_words.proofs.Numbers.{written_again}
-use Rattle.jasmin_text.specs.Forms.{form_at, word_of}
+use Rattle.jasmin_text.specs.Forms.{form_at, forms, word_of}
 use Rattle.jasmin_text.specs.Keywords.{spelled}
 use Rattle.jasmin_text.specs.Canonical.{label_text, caught_text, range_text, handler_line, method_text, interface_count, interface_line, increment_line, case_line}
 use Rattle.jasmin_text.specs.Spellable.{is_class_word, is_int, is_short, is_caught, is_method_type}
@@ -76,7 +76,7 @@ short_in (pos n) h = let less = ltb-true n 32768 h in record { value = written_a
 short_in (negsuc n) h = let less = ltb-true n 32768 h in record { value = written_again (negsuc n) (short_is_int (negsuc n) h); from = le-leb n 32767 (omega arith); to = refl }
 
 pub increment_row : (n : ℕ) (by : ℤ) → n ≤ 65535 → is_short by ≡ true → IsLine (increment_line n by) (InstructionRow (instruction.Increment n by) ∷ [])
-unfolding increment_line word_of form_at
+unfolding increment_line word_of form_at forms
 increment_row n by h s =
     three_words (word_of form.Increment) (decimal n) (signed_decimal by) _ ((refl, refl), refl) (number_fixed n (omega arith)) (int_fixed by (short_is_int by s))
     (operation (simple {f = form.Increment} refl (increment (number_in 0 65535 n (omega arith) h (omega arith)) (short_in by s))))
@@ -85,7 +85,7 @@ increment_row n by h s =
 
 pub interface_row : (r : MethodReference) → is_class_name r.class ≡ true → is_member_name r.name ≡ true → is_method_type r.method_type ≡ true → fits (r.class ++ 47 ∷ r.name ++ method_spelling r.method_type) ≡ true
     → IsLine (interface_line r) (InstructionRow (instruction.CallInterface r) ∷ [])
-unfolding interface_line method_text word_of form_at
+unfolding interface_line method_text word_of form_at forms
 interface_row r h k t f =
     let n : ℕ = interface_count r in
     let low : 1 ≤ n = omega arith in
@@ -96,13 +96,13 @@ interface_row r h k t f =
 -- ---- switches
 
 pub table_row : (low : ℤ) → is_int low ≡ true → IsLine (word_of form.TableSwitch ++ 32 ∷ signed_decimal low) (TableRow low None ∷ [])
-unfolding word_of form_at
+unfolding word_of form_at forms
 table_row low h =
     let i = int_of low h in
     two_words (word_of form.TableSwitch) (signed_decimal low) _ ((refl, refl), refl) (int_fixed low i) (operation (table refl (written_again low i)))
 
 pub lookup_row : IsLine (word_of form.LookupSwitch) (LookupRow ∷ [])
-unfolding word_of form_at
+unfolding word_of form_at forms
 lookup_row = said (word_of form.LookupSwitch) (Word (word_of form.LookupSwitch) ∷ []) (LookupRow ∷ []) (last_word true (word_of form.LookupSwitch) (refl, refl) refl) (operation (lookup refl))
 
 case_spaced : (c : ℤ × ℕ) → case_line c ≡ signed_decimal c.0 ++ (codes " : " ++ label_text c.1)

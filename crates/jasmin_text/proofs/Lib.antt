@@ -16,3 +16,4 @@ pub mod Instructions
 pub mod Places
 pub mod Bodies
 pub mod Classes
+pub mod Tables

@@ -21,7 +21,7 @@ use Rattle.jasmin_words.specs.Names.{is_member_name}
 use Rattle.jasmin_words.specs.Quoting.{quoted}
 use Rattle.jasmin_words.specs.Spelling.{IsWord}
 use Rattle.jasmin_words.proofs.Numbers.{written_again}
-use Rattle.jasmin_text.specs.Forms.{form_at, word_of}
+use Rattle.jasmin_text.specs.Forms.{form_at, forms, word_of}
 use Rattle.jasmin_text.specs.BaseWords.{base_word}
 use Rattle.jasmin_text.specs.Canonical.{constant_text, field_text, method_text}
 use Rattle.jasmin_text.specs.Spellable.{is_element_type, is_type, is_result_type, is_method_type}
@@ -56,11 +56,11 @@ int_fixed (negsuc n) h =
     ((refl, bytes.decimal_word (suc n) (omega (arith, h.sfits))), le-leb (length (45 ∷ decimal (suc n))) 65535 (omega arith))
 
 pub int_row : (z : ℤ) → FitsSigned w32 z → IsLine (word_of form.Constant ++ 32 ∷ constant_text (constant.Int z)) (InstructionRow (instruction.Constant (constant.Int z)) ∷ [])
-unfolding word_of constant_text form_at
+unfolding word_of constant_text form_at forms
 int_row z h = two_words (word_of form.Constant) (signed_decimal z) _ ((refl, refl), refl) (int_fixed z h) (operation (simple {f = form.Constant} refl (int (written_again z h))))
 
 pub text_row : (t : List ℕ) → is_utf8 t ≡ true → fits t ≡ true → IsLine (word_of form.Constant ++ 32 ∷ constant_text (constant.Text t)) (InstructionRow (instruction.Constant (constant.Text t)) ∷ [])
-unfolding word_of constant_text form_at
+unfolding word_of constant_text form_at forms
 text_row t u f =
     said (word_of form.Constant ++ 32 ∷ quoted t) (Word (word_of form.Constant) ∷ Text t ∷ []) (InstructionRow (instruction.Constant (constant.Text t)) ∷ [])
     (word_before (word_of form.Constant) (quoted t) _ ((refl, refl), refl) (last_text true t u f))
@@ -69,7 +69,7 @@ text_row t u f =
 -- ---- classes and arrays
 
 pub new_row : (name : List ℕ) → is_class_name name ≡ true → fits name ≡ true → IsLine (word_of form.New ++ 32 ∷ name) (InstructionRow (instruction.New name) ∷ [])
-unfolding word_of form_at
+unfolding word_of form_at forms
 new_row name h f = two_words (word_of form.New) name _ ((refl, refl), refl) (class_is_word true name h, f) (operation (simple {f = form.New} refl (new h)))
 
 base_fixed : (b : BaseType) → IsFixed (base_word b)
@@ -77,11 +77,11 @@ base_fixed base.Boolean = ((refl, refl), refl)
 base_fixed b = ((refl, refl), refl)
 
 pub new_array_row : (b : BaseType) → IsLine (word_of form.NewArray ++ 32 ∷ base_word b) (InstructionRow (instruction.NewArray b) ∷ [])
-unfolding word_of form_at
+unfolding word_of form_at forms
 new_array_row b = two_words (word_of form.NewArray) (base_word b) _ ((refl, refl), refl) (base_fixed b) (operation (simple {f = form.NewArray} refl new_array))
 
 types_fixed : (t : TypeUse) → IsFixed (word_of (form.TypeUse t))
-unfolding word_of
+unfolding word_of forms
 types_fixed type_use.ANewArray = ((refl, refl), refl)
 types_fixed t = ((refl, refl), refl)
 
@@ -121,7 +121,7 @@ member_is_word : (fresh : Bool) (class name : List ℕ) → is_class_name class 
 member_is_word fresh class name h k = class_first fresh class (47 ∷ name) (class_is_word fresh class h) (joined_words class (47 ∷ name) (bytes.class_name_word class h) (bytes.member_name_word name k))
 
 fields_fixed : (f : FieldAccess) → IsFixed (word_of (form.Field f))
-unfolding word_of
+unfolding word_of forms
 fields_fixed access.GetStatic = ((refl, refl), refl)
 fields_fixed f = ((refl, refl), refl)
 
@@ -153,7 +153,7 @@ is_signature m h =
     record { limit = leb-true (length m.parameters) 255 q.0; parameters = and_all is_type IsFieldType m.parameters is_known q.1; result = is_result m.result p.1 }
 
 calls_fixed : (c : Call) → IsFixed (word_of (form.Call c))
-unfolding word_of
+unfolding word_of forms
 calls_fixed a_call.InvokeStatic = ((refl, refl), refl)
 calls_fixed c = ((refl, refl), refl)
 

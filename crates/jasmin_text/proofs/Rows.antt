@@ -14,7 +14,7 @@ use Rattle.jasmin_words.proofs.Numbers.{written_again}
 use Rattle.jasmin_text.specs.Keywords.{spelled}
 use Rattle.jasmin_text.specs.declared.keyword.Keyword.TheVariants as keyword
 use Rattle.jasmin_text.specs.Canonical.{super_line, implements_line, label_text, label_line, stack_line, locals_line, default_line}
-use Rattle.jasmin_text.specs.Forms.{word_of}
+use Rattle.jasmin_text.specs.Forms.{word_of, forms}
 use Rattle.jasmin_text.specs.declared.form.Form.TheVariants as form
 use Rattle.jasmin_text.specs.declared.class_text.Code.{Code}
 use Rattle.jasmin_text.specs.declared.instruction.Instruction.TheVariants as instruction
@@ -127,17 +127,17 @@ default_row n h =
 -- ---- instructions
 
 plain_fixed : (p : Plain) → IsFixed (word_of (form.Plain p))
-unfolding word_of
+unfolding word_of forms
 plain_fixed plain.Nop = ((refl, refl), refl)
 plain_fixed p = ((refl, refl), refl)
 
 local_fixed : (w : Local) → IsFixed (word_of (form.Local w))
-unfolding word_of
+unfolding word_of forms
 local_fixed local.ILoad = ((refl, refl), refl)
 local_fixed w = ((refl, refl), refl)
 
 jump_fixed : (w : Jump) → IsFixed (word_of (form.Jump w))
-unfolding word_of
+unfolding word_of forms
 jump_fixed jump.IfEq = ((refl, refl), refl)
 jump_fixed w = ((refl, refl), refl)
 

@@ -1,6 +1,5 @@
 -- The words that begin a line, with what they ask for.
-use Rattle.std.specs.Prelude.{ℕ, ◌==◌, ◌&&◌, ◌||◌, Bool, false, List, [], ◌∷◌, Option, if◌then◌else◌, map}
-use Rattle.std.specs.Option.{option_or}
+use Rattle.std.specs.Prelude.{ℕ, ◌==◌, ◌&&◌, ◌||◌, Bool, false, List, [], ◌∷◌, ◌++◌, Option, if◌then◌else◌, map}
 use Rattle.jasmin_text.specs.Tables.{find_row, stands_in}
 use Rattle.jasmin_text.specs.declared.form.Form.{Form}
 use Rattle.jasmin_text.specs.declared.form.Directive.{Directive}
@@ -13,9 +12,12 @@ common_forms = map (λ r. (r.0.now, r.1)) COMMON_FORMS
 abbrev pub other_forms : List (List ℕ × Form)
 other_forms = map (λ r. (r.0.now, r.1)) OTHER_FORMS
 
+unfoldable pub forms : List (List ℕ × Form)
+forms = common_forms ++ other_forms
+
 -- what the word of an instruction asks for
 unfoldable pub form_at : List ℕ → Option Form
-form_at word = option_or (find_row word common_forms) (find_row word other_forms)
+form_at word = find_row word forms
 
 -- `==` on what words ask for
 abbrev pub same_form : Form → Form → Bool
@@ -28,7 +30,7 @@ first_word form (row ∷ rows) otherwise = if same_form row.1 form then row.0 el
 
 -- the canonical word of what asks for this (JVMS SE 8 6.5 names the instructions)
 unfoldable pub word_of : Form → List ℕ
-word_of form = first_word form common_forms (first_word form other_forms [])
+word_of form = first_word form forms []
 
 -- the word of an instruction on a long, a float or a double: the letter of the type, and what the table has
 abbrev pub is_wide_or_floating : List ℕ → Bool

@@ -214,7 +214,6 @@ pub const LEFT_OUT: [&[u8]; 29] = [
 ];
 
 /// What the word asks for, if it begins an instruction.
-#[tactic(auto, unfolding(crate::specs::Forms::form_at))]
 pub fn form_of(word: &[u8]) -> Option<Form>
     ensures { result ≡ form_at word.now }
 {
