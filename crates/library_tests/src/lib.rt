@@ -8,8 +8,6 @@
 #![tactic(auto)]
 
 #[cfg(test)]
-mod command_line;
-#[cfg(test)]
 mod comparing;
 #[cfg(test)]
 mod frame_runs;
@@ -33,6 +31,8 @@ mod lists;
 mod lock;
 #[cfg(test)]
 mod long_chain;
+#[cfg(test)]
+mod parsed;
 #[cfg(test)]
 mod procedures;
 #[cfg(test)]
