@@ -93,7 +93,8 @@ def along_the_graph():
         waits = [(below.name, "proof") for below in it.below()]
         work = 0 if it.name in kept else kit.weight(rt, it)
         tasks[it.name, "proof"] = waits, work, lambda given, jobs, it=it: build(it, jobs)
-    # (the reader's proof is among the longest, and little waits for it: beside what leads at a lower priority it would take three times as long)
+    # (little waits for the reader's proof, so it wouldn't lead, but it is among the longest: at a lower priority it takes three times as
+    # long)
     lanes.run(tasks, {}, *kit.lanes(rt), kit.memory_for, ahead=[("jasmin_reader", "proof")])
     return held
 

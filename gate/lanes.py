@@ -1,10 +1,10 @@
 """Tasks side by side, in the place of the kit's `in_lanes`.
 
-What has nearly the longest path of others after it leads. The other proofs and the tests run beside it at a lower priority, and edits
-at a still lower one. So each takes what those before it leave: no task has work for all processors all the time. Only what has nearly the
-longest path of what could run has more jobs than it needs: two where that path is longer than what is left for each processor, and as
-many as the others leave idle, of which a proof with less work counts for its share alone. Several jobs take the processors a fifth to two
-thirds longer than one."""
+What has nearly the longest path of others after it leads, and so does what the caller names in `ahead`. The other proofs and the tests run
+beside it at a lower priority, and edits at a still lower one. So each takes what those before it leave: no task has work for all
+processors all the time. Only what has nearly the longest path of what could run has more jobs than it needs: two where that path is longer
+than what is left for each processor, and as many as the others leave idle, of which a proof with less work counts for its share alone.
+Several jobs take the processors a fifth to two thirds longer than one."""
 import os
 from concurrent.futures import FIRST_COMPLETED, ThreadPoolExecutor, wait
 
@@ -42,8 +42,8 @@ class Lanes:
 def run(tasks, given, processors, memory, memory_for, fewest=lambda key: 1, ahead=()):
     """Runs each task once those that it waits for have ended, and adds what each gave to what is given. A task is what it waits
     for, its work, and a call that gets what was given and how many jobs it may use, of which all but edits have at least as many as
-    `fewest` says, 1 or 2; so many jobs take the memory that `memory_for` says. Those in `ahead` have three jobs beside what leads, at its
-    priority."""
+    `fewest` says, 1 or 2; so many jobs take the memory that `memory_for` says. Those in `ahead` have up to three jobs beside what leads,
+    at its priority."""
     behind = paths(tasks)
     # (several tasks may lead, each with several jobs)
     lead, front, back = Lanes(2 * processors, LEAD), Lanes(max(processors, 2), FRONT), Lanes(processors, BACK)

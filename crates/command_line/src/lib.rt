@@ -204,7 +204,7 @@ fn with_command<'a>(
 }
 
 /// The command with the subcommand of that name.
-fn with_named<'a>(
+fn with_subcommand_named<'a>(
     alloc: Global,
     command: Command<'a>,
     name: &'a str,
@@ -228,21 +228,21 @@ fn command<'a>(alloc: Global) -> Result<Command<'a>, AllocError>
         explain: false,
         run_options: true,
     };
-    let command = with_named(alloc, bare_command(alloc), "run", about, shown)?;
+    let command = with_subcommand_named(alloc, bare_command(alloc), "run", about, shown)?;
     let about = "Judges whether a trace is a legal interleaving of the main classes' threads";
     let shown = Shown {
         trace: Some("The trace to judge"),
         explain: true,
         run_options: false,
     };
-    let command = with_named(alloc, command, "check", about, shown)?;
+    let command = with_subcommand_named(alloc, command, "check", about, shown)?;
     let about = "Writes for each class what is initialized before its own initializer runs";
     let shown = Shown {
         trace: None,
         explain: false,
         run_options: false,
     };
-    with_named(alloc, command, "needs", about, shown)
+    with_subcommand_named(alloc, command, "needs", about, shown)
 }
 
 fn files_of<'a>(alloc: Global, matches: &ArgMatches<'a>) -> Result<Vec<&'a str>, AllocError>

@@ -1,5 +1,6 @@
 -- What all threads promised when they were started.
-use Rattle.std.proofs.Common.{◌≡◌, List, [], ◌∷◌, length, map, refl, subst}
+use Rattle.std.proofs.Common.{◌≡◌, List, [], ◌∷◌, ◌++◌, length, map, sym, ap, subst, ◌∙◌, append-nil}
+use Rattle.std.proofs.lemmas.List.{nil_from_length}
 use Rattle.std.specs.List.{AllByRecursion}
 use Rattle.hierarchy.specs.LinkedProgram.{LinkedProgram}
 use Rattle.bodies.specs.Making.{Making}
@@ -14,6 +15,6 @@ all_did [] (w ∷ ws) making plan job k same kept = absurd kept
 all_did (h ∷ hs) [] making plan job k same kept = absurd kept
 all_did (h ∷ hs) (w ∷ ws) making plan job k same kept = (subst (λ (x : PlanFacts). Did making x (job h) w) same.0 kept.0, all_did hs ws making plan job k same.1 kept.1)
 
-pub none_in : {A : Type 0} (xs : List A) → length xs ≡ 0 → xs ≡ []
-none_in [] e = refl
-none_in (x ∷ xs) e = cc
+-- what is left is nothing
+pub all_of : {A B : Type 0} (f : A → B) (xs : List A) (rest all : List B) → length rest ≡ 0 → map f xs ++ rest ≡ all → map f xs ≡ all
+all_of {B = B} f xs rest all none e = sym (append-nil (map f xs)) ∙ (ap (λ (ys : List B). map f xs ++ ys) (sym (nil_from_length rest none)) ∙ e)

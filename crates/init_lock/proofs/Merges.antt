@@ -40,12 +40,12 @@ module _ {E : Type 0} where
   pub one_end : (j : Written E) (a b : ℕ) → EndsAt a j → EndsAt b j → a ≡ b
   one_end j a b s t = ap (λ z. z.stamp) (same_from_push s.front t.front _ _ (sym s.parts ∙ t.parts)).1
 
-  pub end_below : (j : Written E) (stamp bound : ℕ) → EndsAt stamp j → AreBelow bound j.events → stamp < bound
-  end_below j stamp bound s a = (front_all _ s.front _ (subst (AreBelow bound) s.parts a)).1
+  pub stamp_below : (j : Written E) (stamp bound : ℕ) → EndsAt stamp j → AreBelow bound j.events → stamp < bound
+  stamp_below j stamp bound s a = (front_all _ s.front _ (subst (AreBelow bound) s.parts a)).1
 
   -- a journal of the log ends below the log's length
   ends_below : (by : ℕ) (log : List (Entry E)) (j : Written E) → j.events ≡ journal_of by 0 log → (stamp : ℕ) → EndsAt stamp j → stamp < length log
-  ends_below by log j e stamp s = end_below j stamp (length log) s (subst (AreBelow (length log)) (sym e) (subst (λ m. AreBelow m (journal_of by 0 log)) (omega arith) (below by 0 log)))
+  ends_below by log j e stamp s = stamp_below j stamp (length log) s (subst (AreBelow (length log)) (sym e) (subst (λ m. AreBelow m (journal_of by 0 log)) (omega arith) (below by 0 log)))
 
   -- the number above all stamps with which the first journals end
   pub record Reaches (at next : ℕ) (journals : List (Written E)) : Type 0 where

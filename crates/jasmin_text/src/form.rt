@@ -173,8 +173,8 @@ pub const OTHER_FORMS: [(&[u8], Form); 56] = [
     (b"instanceof", Form::TypeUse(TypeUse::InstanceOf)),
 ];
 
-/// Words of instructions on longs, floats and doubles, which are left out, behind the letter of the type.
-pub const WIDE_OR_FLOATING: [&[u8]; 22] = [
+/// What the words of instructions on longs, on floats and on doubles all have after the letter `l`, `f` or `d`. All three are left out.
+pub const LONG_FLOAT_DOUBLE: [&[u8]; 22] = [
     b"const_0", b"const_1", b"load", b"load_0", b"load_1", b"load_2", b"load_3", b"aload",
     b"store", b"store_0", b"store_1", b"store_2", b"store_3", b"astore", b"add", b"sub", b"mul",
     b"div", b"rem", b"neg", b"2i", b"return",
@@ -219,6 +219,7 @@ pub fn form_of(word: &[u8]) -> Option<Form>
 {
     match find(word, &COMMON_FORMS) {
         None => find(word, &OTHER_FORMS),
+        // (a closure for `or_else` would be proved as three functions)
         common => common,
     }
 }
@@ -229,7 +230,7 @@ pub fn left_out(word: &[u8]) -> bool
     ensures { result ≡ is_left_out word.now }
 {
     match word {
-        [b'l' | b'f' | b'd', behind @ ..] if stands_in(behind, &WIDE_OR_FLOATING) => true,
+        [b'l' | b'f' | b'd', rest @ ..] if stands_in(rest, &LONG_FLOAT_DOUBLE) => true,
         _ => stands_in(word, &LEFT_OUT),
     }
 }

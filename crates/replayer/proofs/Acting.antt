@@ -69,9 +69,9 @@ pub same_then : {S : Type 0} {w v x : Thread S} → IsSameThread w v → IsSameT
 same_then a b = record { number = b.number ∙ a.number; main = b.main ∙ a.main; start = b.start ∙ a.start; gave_up = b.gave_up ∙ a.gave_up; done = b.done ∙ a.done }
 
 -- a turn without an event, by how the thread ended, isn't one in which it waits
-pub never_waits : {A : Type 0} (t : Turn) (o : Option Outcome) → t ≡ turn_by o → t ≡ turn.Waits → A
-never_waits t None is q = cc
-never_waits t (Some r) is q = cc
+pub no_wait_by : {A : Type 0} (t : Turn) (o : Option Outcome) → t ≡ turn_by o → t ≡ turn.Waits → A
+no_wait_by t None is q = cc
+no_wait_by t (Some r) is q = cc
 
 module _ {S : Type 0} (p : LinkedProgram) (M : Making S) where
   not_of_main : {A : Type 0} (w : Thread S) → IsInBody w → w.in_main ≡ false → w.procedure.frames ≡ [] → A

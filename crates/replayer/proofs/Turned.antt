@@ -70,9 +70,9 @@ module _ {H : Type 0} where
     first = still ∙ first;
   }
 
--- a step of a thread that takes what is shared, which is k then, and gives back what it left
-pub stepped : {S H : Type 0} (L : Lending S H) (R : S → S → Type 0) {a u z : Lent S H} {v : S} {h k met : H} → u ≡ record a { state = L.with_shared a.state h } → k ≡ L.shared_of a.state → met ≡ h → R u.state v → z.state ≡ L.with_shared v k → z.uses ≡ u.uses ++ (met, L.shared_of v) ∷ [] → StepsWith L R a z
-stepped L R {a = a} {v = v} {h = h} own is same step state uses = record {
+-- a step of a thread that takes what is shared and gives back what it left
+pub steps_with : {S H : Type 0} (L : Lending S H) (R : S → S → Type 0) {a u z : Lent S H} {v : S} {h k met : H} → u ≡ record a { state = L.with_shared a.state h } → k ≡ L.shared_of a.state → met ≡ h → R u.state v → z.state ≡ L.with_shared v k → z.uses ≡ u.uses ++ (met, L.shared_of v) ∷ [] → StepsWith L R a z
+steps_with L R {a = a} {v = v} {h = h} own is same step state uses = record {
   met = h;
   left = v;
   step = subst (λ b. R b v) (ap (λ l. l.state) own) step;

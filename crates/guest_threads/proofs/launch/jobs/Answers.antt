@@ -1,10 +1,7 @@
-use Rattle.std.proofs.Common.{rules, ◌≡◌, List, ◌++◌, length, map, sym, ap, ◌∙◌, append-nil}
+use Rattle.std.proofs.Common.{rules, ◌≡◌, length, ◌∙◌}
 use Rattle.guest_threads.specs.declared.launch.Job.{Job}
-use Rattle.guest_threads.proofs.Started.{none_in}
+use Rattle.guest_threads.proofs.Started.{all_of}
 use Rattle.guest_threads.proofs.launch.jobs.Goals as goal
-
-all_of : {A B : Type 0} (f : A → B) (xs : List A) (rest all : List B) → length rest ≡ 0 → map f xs ++ rest ≡ all → map f xs ≡ all
-all_of {B = B} f xs rest all none e = sym (append-nil (map f xs)) ∙ (ap (λ (ys : List B). map f xs ++ ys) (sym (none_in rest none)) ∙ e)
 
 pub returns-clause-passes : goal.returns-clause-passes
 returns-clause-passes g c =

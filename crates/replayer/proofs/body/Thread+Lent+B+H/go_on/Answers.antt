@@ -4,7 +4,7 @@ use Rattle.hierarchy.specs.declared.class.ClassId.{ClassId}
 use Rattle.init_core.specs.declared.frames.Outcome.TheVariants.{Ended}
 use Rattle.init_core.specs.Advance.{FitsBody}
 use Rattle.init_core.specs.ProcedureWord.{given_up}
-use Rattle.replayer.proofs.Acting.{fits_limit, has_come, has_come_on, hasnt_given_up, is_kept, never_waits, same_then, stepped_from, turn_done, was_ended, why_ended, why_spent}
+use Rattle.replayer.proofs.Acting.{fits_limit, has_come, has_come_on, hasnt_given_up, is_kept, no_wait_by, same_then, stepped_from, turn_done, was_ended, why_ended, why_spent}
 use Rattle.replayer.specs.Going.{in_body}
 use Rattle.replayer.specs.OrderedRun.{WaitsAt}
 use Rattle.replayer.proofs.Turned.{then_by}
@@ -86,19 +86,19 @@ pub returns-in-Some-clause-turn : goal.returns-in-Some-clause-turn
 returns-in-Some-clause-turn g c = turn_done c.args.program.now (lent_bodies g.B.Lends.lending (g.B.Bodies.making c.args.program.now)) (WaitsAt g.B.Lends.lending (g.B.Bodies.making c.args.program.now) c.leave.new.shared.state) c.args.log.now c.args.self.now c.leave.new.self c.turn_of.result c.leave.result c.turn_of.ensures c.leave.ensures.going
 
 pub returns-in-Some-clause-still : goal.returns-in-Some-clause-still
-returns-in-Some-clause-still g c = never_waits c.turn_of.result c.leave.result c.turn_of.ensures
+returns-in-Some-clause-still g c = no_wait_by c.turn_of.result c.leave.result c.turn_of.ensures
 
 pub returns-in-Over-clause-turn : goal.returns-in-Over-clause-turn
 returns-in-Over-clause-turn g c = turn_done c.args.program.now (lent_bodies g.B.Lends.lending (g.B.Bodies.making c.args.program.now)) (WaitsAt g.B.Lends.lending (g.B.Bodies.making c.args.program.now) c.end_body.new.shared.state) c.args.log.now c.args.self.now c.end_body.new.self c.turn_of-in-Over.result c.in_ok-done-in-Over.done c.turn_of-in-Over.ensures c.in_ok-done-in-Over.ensures.going
 
 pub returns-in-Over-clause-still : goal.returns-in-Over-clause-still
-returns-in-Over-clause-still g c = never_waits c.turn_of-in-Over.result c.in_ok-done-in-Over.done c.turn_of-in-Over.ensures
+returns-in-Over-clause-still g c = no_wait_by c.turn_of-in-Over.result c.in_ok-done-in-Over.done c.turn_of-in-Over.ensures
 
 pub returns-in-Ended-Steps-clause-turn : goal.returns-in-Ended-Steps-clause-turn
 returns-in-Ended-Steps-clause-turn g c = turn_done c.args.program.now (lent_bodies g.B.Lends.lending (g.B.Bodies.making c.args.program.now)) (WaitsAt g.B.Lends.lending (g.B.Bodies.making c.args.program.now) c.leave-in-Ended-Steps.new.shared.state) c.args.log.now c.args.self.now c.leave-in-Ended-Steps.new.self c.turn_of-in-Ended-Steps.result c.leave-in-Ended-Steps.result c.turn_of-in-Ended-Steps.ensures c.leave-in-Ended-Steps.ensures.going
 
 pub returns-in-Ended-Steps-clause-still : goal.returns-in-Ended-Steps-clause-still
-returns-in-Ended-Steps-clause-still g c = never_waits c.turn_of-in-Ended-Steps.result c.leave-in-Ended-Steps.result c.turn_of-in-Ended-Steps.ensures
+returns-in-Ended-Steps-clause-still g c = no_wait_by c.turn_of-in-Ended-Steps.result c.leave-in-Ended-Steps.result c.turn_of-in-Ended-Steps.ensures
 
 pub returns-in-Asks-clause-turn : goal.returns-in-Asks-clause-turn
 returns-in-Asks-clause-turn g c = (inl c.in_ok-use_class-in-Asks.ensures.going, refl)
