@@ -18,6 +18,11 @@ import lanes
 
 ROOT = os.path.dirname(os.path.dirname(os.path.realpath(__file__)))
 FAILED = 70
+# How many jobs the proof of a crate has where nothing is built, if not two, and which proofs run at the lower priority. It is what served best
+# in a model of the build that was given measured times: no processor is idle before all that cli waits for ends, at about the same time.
+JOBS = {"sequence": 3, "jasmin_text": 3, "hierarchy": 3, "statics": 3, "cli": 4}
+JOBS |= dict.fromkeys(["texts", "descriptors", "command_line", "init_lock", "init_world", "trace_reader", "jinit"], 1)
+LATER = {"texts", "command_line", "init_lock", "init_world", "trace_reader", "judge", "replayer"}
 began = time.time()
 
 
@@ -88,14 +93,14 @@ def along_the_graph():
         how = "was built before" if crate.name in kept else f"is proved and built in {time.time() - start:.0f} s"
         say(f"{len(done)} of {len(crates)}: {crate.name} {how}, {time.time() - began:.0f} s so far")
 
-    tasks = {}
+    tasks, planned = {}, {}
     for it in crates:
+        key = it.name, "proof"
         waits = [(below.name, "proof") for below in it.below()]
         work = 0 if it.name in kept else kit.weight(rt, it)
-        tasks[it.name, "proof"] = waits, work, lambda given, jobs, it=it: build(it, jobs)
-    # (little waits for the reader's proof, so it wouldn't lead, but it is among the longest: at a lower priority it takes three times as
-    # long)
-    lanes.run(tasks, {}, *kit.lanes(rt), kit.memory_for, ahead=[("jasmin_reader", "proof")])
+        tasks[key] = waits, work, lambda given, jobs, it=it: build(it, jobs)
+        planned[key] = JOBS.get(it.name, 2), it.name not in LATER
+    lanes.run(tasks, {}, *kit.lanes(rt), kit.memory_for, planned=planned if is_new else None)
     return held
 
 

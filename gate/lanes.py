@@ -1,10 +1,11 @@
 """Tasks side by side, in the place of the kit's `in_lanes`.
 
-What has nearly the longest path of others after it leads, and so does what the caller names in `ahead`. The other proofs and the tests run
+What has nearly the longest path of others after it leads. The other proofs and the tests run
 beside it at a lower priority, and edits at a still lower one. So each takes what those before it leave: no task has work for all
 processors all the time. Only what has nearly the longest path of what could run has more jobs than it needs: two where that path is longer
 than what is left for each processor, and as many as the others leave idle, of which a proof with less work counts for its share alone.
-Several jobs take the processors a fifth to two thirds longer than one."""
+Several jobs take the processors a fifth to two thirds longer than one. A caller who has measured what serves best may say in its place
+how many jobs each task has, and which lead."""
 import os
 from concurrent.futures import FIRST_COMPLETED, ThreadPoolExecutor, wait
 
@@ -39,11 +40,11 @@ class Lanes:
         self.pool = ThreadPoolExecutor(number, initializer=step_back, initargs=(priority,))
 
 
-def run(tasks, given, processors, memory, memory_for, fewest=lambda key: 1, ahead=()):
+def run(tasks, given, processors, memory, memory_for, fewest=lambda key: 1, planned=None):
     """Runs each task once those that it waits for have ended, and adds what each gave to what is given. A task is what it waits
     for, its work, and a call that gets what was given and how many jobs it may use, of which all but edits have at least as many as
-    `fewest` says, 1 or 2; so many jobs take the memory that `memory_for` says. Those in `ahead` have up to three jobs beside what leads,
-    at its priority."""
+    `fewest` says, 1 or 2; so many jobs take the memory that `memory_for` says. Where `planned` is given, it says of each task how many jobs
+    it has, and whether it leads."""
     behind = paths(tasks)
     # (several tasks may lead, each with several jobs)
     lead, front, back = Lanes(2 * processors, LEAD), Lanes(max(processors, 2), FRONT), Lanes(processors, BACK)
@@ -55,15 +56,17 @@ def run(tasks, given, processors, memory, memory_for, fewest=lambda key: 1, ahea
     def lanes_of(key):
         if key[1] == "edits":
             return back
-        leads = key in ahead or 5 * behind[key] >= 4 * max(behind[it] for it in tasks if it not in given)
+        if planned:
+            return lead if planned[key][1] else front
+        leads = 5 * behind[key] >= 4 * max(behind[it] for it in tasks if it not in given)
         return lead if leads else front
 
     def jobs_for(key, lanes):
         """How many jobs the task may use: more than the fewest where its path is nearly the longest of those that could run now."""
         if lanes is back:
             return 1
-        if key in ahead:
-            return 3
+        if planned:
+            return min(planned[key][0], processors)
         could_run = [it for it in [*left, *(it for it, _, _ in running.values())] if is_ready(it)]
         longest = max(behind[it] for it in could_run)
         leading = [it for it in could_run if 10 * behind[it] >= 9 * longest]
