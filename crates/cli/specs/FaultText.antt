@@ -1,5 +1,5 @@
 -- The line that tells of a fault.
-use Rattle.std.specs.Prelude.{ℕ, List, ◌++◌, codes, decimal}
+use Rattle.std.specs.Prelude.{ℕ, List, [], ◌++◌, codes, decimal}
 use Rattle.hierarchy.specs.declared.fault.LinkFault.{LinkFault}
 use Rattle.hierarchy.specs.declared.fault.LinkFaultKind.{LinkFaultKind}
 use Rattle.hierarchy.specs.declared.fault.LinkFaultKind.TheVariants.{RepeatedName, UnknownSupertype, Cycle, SuperclassKind, InterfaceKind, ReservedName, RepeatedMember, TooMany, NoMemory}
@@ -22,6 +22,10 @@ link_number_of RepeatedMember = 7
 link_number_of TooMany = 8
 link_number_of NoMemory = 9
 
+-- io: <file>
+abbrev pub io_line : List ℕ → List ℕ
+io_line file = codes "io: " ++ file ++ codes "\n"
+
 -- <file>:<line>: <kind>
 abbrev pub jasmin_line : List ℕ → ReadFault → List ℕ
 jasmin_line file f = file ++ codes ":" ++ decimal f.line ++ codes ": J" ++ decimal (number_of f.kind) ++ codes "\n"
@@ -33,18 +37,26 @@ trace_line file f = file ++ codes ":" ++ decimal f.line ++ codes ": L" ++ decima
 abbrev pub link_line : LinkFault → List ℕ
 link_line f = codes "link: H" ++ decimal (link_number_of f.kind) ++ codes " " ++ f.class ++ codes "\n"
 
+-- the line of a fault that names no file and no class
+abbrev pub fixed_line_of : Fault → List ℕ
+fixed_line_of Words = codes "cli: words\n"
+fixed_line_of Files = codes "cli: files\n"
+fixed_line_of (Io file) = []
+fixed_line_of (Jasmin file f) = []
+fixed_line_of (Trace file f) = []
+fixed_line_of (Link f) = []
+fixed_line_of Order = codes "cli: order\n"
+fixed_line_of Steps = codes "cli: steps\n"
+fixed_line_of Patience = codes "cli: patience\n"
+fixed_line_of Mains = codes "cli: mains\n"
+fixed_line_of Threads = codes "threads\n"
+fixed_line_of Memory = codes "memory\n"
+fixed_line_of Output = codes "io: output\n"
+
 -- what is wrong, and of which file or class
 abbrev pub fault_line : Fault → List ℕ
-fault_line Words = codes "cli: words\n"
-fault_line Files = codes "cli: files\n"
-fault_line (Io file) = codes "io: " ++ file.now ++ codes "\n"
+fault_line (Io file) = io_line file.now
 fault_line (Jasmin file f) = jasmin_line file.now f
 fault_line (Trace file f) = trace_line file.now f
 fault_line (Link f) = link_line f
-fault_line Order = codes "cli: order\n"
-fault_line Steps = codes "cli: steps\n"
-fault_line Patience = codes "cli: patience\n"
-fault_line Mains = codes "cli: mains\n"
-fault_line Threads = codes "threads\n"
-fault_line Memory = codes "memory\n"
-fault_line Output = codes "io: output\n"
+fault_line f = fixed_line_of f

@@ -3,7 +3,7 @@
 ghost use Rattle.std.specs.Prelude.{◌≡◌, OnOk};
 ghost use Rattle.std.specs.Io.KnownBytes.{Appends};
 ghost use Rattle.cli.specs.declared.fault.Fault.TheVariants.{Memory};
-ghost use Rattle.cli.specs.FaultText.{fault_line, jasmin_line, link_line, link_number_of, trace_line};
+ghost use Rattle.cli.specs.FaultText.{fault_line, fixed_line_of, io_line, jasmin_line, link_line, link_number_of, trace_line};
 ghost use Rattle.cli.specs.Status.{status_of};
 
 use hierarchy::{LinkFault, LinkFaultKind};
@@ -84,26 +84,42 @@ impl Fault<'_> {
         }
     }
 
+    /// The line of a fault that names no file and no class; empty of one that does.
+    fn fixed_line(&self) -> &'static str
+        ensures { result.now ≡ fixed_line_of self.now }
+    {
+        match self {
+            Fault::Words => "cli: words\n",
+            Fault::Files => "cli: files\n",
+            Fault::Order => "cli: order\n",
+            Fault::Steps => "cli: steps\n",
+            Fault::Patience => "cli: patience\n",
+            Fault::Mains => "cli: mains\n",
+            Fault::Threads => "threads\n",
+            Fault::Memory => "memory\n",
+            Fault::Output => "io: output\n",
+            Fault::Io(_) | Fault::Jasmin { .. } | Fault::Trace { .. } | Fault::Link(_) => "",
+        }
+    }
+
     /// Writes the one line that tells of the fault.
     pub fn tell<W: io::Write>(&self, err: &mut W) -> io::Result<()>
         ensures { OnOk result (Appends (W.contents err.old) (W.contents err.new) (fault_line self.now)) }
     {
         match self {
-            Fault::Io(name) => writeln!(err, "io: {name}"),
+            Fault::Io(name) => tell_io(name, err),
             Fault::Jasmin { file, fault } => tell_jasmin(file, fault, err),
             Fault::Trace { file, fault } => tell_trace(file, fault, err),
             Fault::Link(fault) => tell_link(fault, err),
-            Fault::Words => err.write_all(b"cli: words\n"),
-            Fault::Files => err.write_all(b"cli: files\n"),
-            Fault::Order => err.write_all(b"cli: order\n"),
-            Fault::Steps => err.write_all(b"cli: steps\n"),
-            Fault::Patience => err.write_all(b"cli: patience\n"),
-            Fault::Mains => err.write_all(b"cli: mains\n"),
-            Fault::Threads => err.write_all(b"threads\n"),
-            Fault::Memory => err.write_all(b"memory\n"),
-            Fault::Output => err.write_all(b"io: output\n"),
+            _ => err.write_all(self.fixed_line().as_bytes()),
         }
     }
+}
+
+fn tell_io<W: io::Write>(name: &str, err: &mut W) -> io::Result<()>
+    ensures { OnOk result (Appends (W.contents err.old) (W.contents err.new) (io_line name.now)) }
+{
+    writeln!(err, "io: {name}")
 }
 
 fn tell_jasmin<W: io::Write>(file: &str, fault: &ReadFault, err: &mut W) -> io::Result<()>
