@@ -108,6 +108,21 @@ fn with_argument<'a>(command: Command<'a>, argument: Arg<'a>) -> Result<Command<
     command.arg(argument)
 }
 
+/// The command with one more option that has a value, with what the help says of it.
+fn with_option<'a>(
+    alloc: Global,
+    command: Command<'a>,
+    name: &'a str,
+    value: &'a str,
+    help: &'a str,
+    is_hidden: bool,
+) -> Result<Command<'a>, AllocError>
+    ensures rules { IfOk result (λ c. app_of c ≡ with_rule (app_of command.entry) (option_named name.entry.now)) }
+    ensures local { IfOk result (λ c. (fields_of c).has_globals ≡ (fields_of command.entry).has_globals) }
+{
+    with_argument(command, option(alloc, name, value, help, is_hidden))
+}
+
 /// The command with the options of how the threads of a run go on, and how far.
 #[tactic(auto, unfolding(crate::specs::CommandLine::with_run_options))]
 fn with_run_options<'a>(
@@ -120,14 +135,11 @@ fn with_run_options<'a>(
 {
     let help =
         "The threads go on in this order, one event at each number; then the lowest that can";
-    let order = option(alloc, "order", "N,..", help, is_hidden);
-    let command = with_argument(command, order)?;
+    let command = with_option(alloc, command, "order", "N,..", help, is_hidden)?;
     let help = "A thread that has begun so many instructions is ended; 1000000 if not given";
-    let steps = option(alloc, "steps", "N", help, is_hidden);
-    let command = with_argument(command, steps)?;
+    let command = with_option(alloc, command, "steps", "N", help, is_hidden)?;
     let help = "A thread that looks so often at what another holds is ended; 0: never";
-    let patience = option(alloc, "patience", "N", help, is_hidden);
-    with_argument(command, patience)
+    with_option(alloc, command, "patience", "N", help, is_hidden)
 }
 
 /// The command with the options of main classes and their trace, and of what is told of a trace.
@@ -143,10 +155,9 @@ fn with_trace<'a>(
 {
     let is_hidden = trace_help.is_none();
     let help = "The main classes, as their files name them, 1 to 16: each has a thread";
-    let mains = option(alloc, "mains", "CLASS,..", help, is_hidden);
-    let command = with_argument(command, mains)?;
-    let trace = option(alloc, "trace", "FILE", trace_help.unwrap_or(""), is_hidden);
-    let command = with_argument(command, trace)?;
+    let command = with_option(alloc, command, "mains", "CLASS,..", help, is_hidden)?;
+    let help = trace_help.unwrap_or("");
+    let command = with_option(alloc, command, "trace", "FILE", help, is_hidden)?;
     let help = "Says in words what is illegal, and what could have been done";
     with_argument(command, flag(alloc, "explain", help, !explains))
 }

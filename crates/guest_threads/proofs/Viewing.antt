@@ -1,5 +1,5 @@
 -- What a task is seen as, and its fields: a fact of the one is one of the other.
-use Rattle.std.proofs.Common.{◌≡◌, Option, subst}
+use Rattle.std.proofs.Common.{◌≡◌, ℕ, Option, sym, subst}
 use Rattle.hierarchy.specs.declared.class.ClassId.{ClassId}
 use Rattle.hierarchy.specs.LinkedProgram.{LinkedProgram}
 use Rattle.init_core.specs.declared.frames.Completed.{Completed}
@@ -11,7 +11,7 @@ use Rattle.bodies.specs.Making.{Making}
 use Rattle.guest_threads.specs.declared.task.Work.{Work}
 use Rattle.guest_threads.specs.Tasks.{TaskFacts, IsWhy, IsLimitOf}
 use Rattle.guest_threads.proofs.Acting.{HasWaited}
-use Rattle.guest_threads.specs.Working.{Working, HasComeTo, IsDoing, IsOver}
+use Rattle.guest_threads.specs.Working.{Works, Working, HasComeTo, IsDoing, IsOver}
 
 -- what a task is seen as, by its fields
 abbrev pub by_fields : {S : Type 0} {k j : TaskFacts S} → k ≡ j → TaskFacts S
@@ -20,6 +20,10 @@ by_fields {k = k} e = k
 module _ {S : Type 0} (F : LinkedProgram → Making S) {k j : TaskFacts S} (e : k ≡ j) where
   pub working_at : {w : Work S} → Working (F k.program) k w → Working (F j.program) j w
   working_at {w = w} o = subst (λ (x : TaskFacts S). Working (F x.program) x w) e o
+
+  -- the pass is that of the thread of its own number
+  pub works_at : {w : Work S} → Working (F k.program) k w → Works j.program j.table w.pass.number w.pass
+  works_at {w = w} o = let x = (working_at o).works in subst (λ (n : ℕ). Works j.program j.table n w.pass) (sym x.number) x
 
   pub come_at : {w : Work S} → HasComeTo (F k.program) k w → HasComeTo (F j.program) j w
   come_at {w = w} o = subst (λ (x : TaskFacts S). HasComeTo (F x.program) x w) e o

@@ -37,7 +37,6 @@ impl Heap {
 
     /// Adds an object or array with so many fields or elements, for which there is room, and answers its reference. An `Err` is out
     /// of memory, and changes nothing.
-    #[tactic(auto, using(crate::proofs::Taken::made_within, crate::proofs::Taken::taken_with))]
     fn add(
         &mut self,
         program: &Program,

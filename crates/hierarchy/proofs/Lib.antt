@@ -15,9 +15,11 @@ pub mod Enumerations
 pub mod FieldOrders
 pub mod FinishedLists
 pub mod FirstGiven
+mod Gotten
 pub mod InRange
 pub mod InheritedLists
 pub mod Linked
+mod Made
 pub mod MemberOrder
 pub mod MemberPlaces
 pub mod Named

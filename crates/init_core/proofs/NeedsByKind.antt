@@ -28,7 +28,7 @@ needs-class p c class e k = ap (needs_in p) (sym e) ∙ ap (needs_by p class) k 
 pub ruleset needs_rules = (needs-none, needs-interface, needs-class)
 
 -- a list of at most one class has no repeats
-distinct-one : (q : ClassId → Bool) (c : ClassId) → distinct (filter q (c ∷ [])) ≡ filter q (c ∷ [])
+pub distinct-one : (q : ClassId → Bool) (c : ClassId) → distinct (filter q (c ∷ [])) ≡ filter q (c ∷ [])
 distinct-one q c = elim (cases_Bool (q c)) [ inl e ↦ rw e refl | inr e ↦ rw e refl ]
 
 -- the repeats may be dropped before the filter

@@ -46,19 +46,34 @@ fn add_defaults(
     Ok(())
 }
 
-/// The superclass of a class, if it is in a file.
-fn superclass_first(
-    alloc: Global,
+/// Adds the superclass of a class, if it is in a file, unless it is there already.
+fn add_superclass(
     program: &Program,
     superclass: ClassId,
-) -> Result<IndexSet<ClassId>, AllocError>
-    ensures { IfOk result (λ found. found.keys ≡ filter (is_in_file program.now) (superclass ∷ [])) }
+    found: &mut IndexSet<ClassId>,
+) -> Result<(), AllocError>
+    ensures { OnOk result (found.new.keys ≡ add_all found.old.keys (filter (is_in_file program.now) (superclass ∷ []))) }
 {
-    let mut found = IndexSet::new(alloc);
     if superclass.number < program.len() {
         found.insert(superclass)?;
     }
-    Ok(found)
+    Ok(())
+}
+
+/// What a class with this superclass needs; the classes are gathered in the set, which is empty before.
+fn gather_needs(
+    alloc: Global,
+    program: &Program,
+    id: ClassId,
+    superclass: ClassId,
+    found: &mut IndexSet<ClassId>,
+) -> Result<Vec<ClassId>, AllocError>
+    requires { found.old.keys ≡ [] }
+    ensures { IfOk result (λ needed. needed.items ≡ class_needs program.now superclass (interfaces_of program.now.classes id)) }
+{
+    add_superclass(program, superclass, found)?;
+    add_defaults(program, program.superinterfaces(id), found)?;
+    Vec::from_slice(alloc, found.as_slice())
 }
 
 /// What a class with this superclass needs.
@@ -70,10 +85,8 @@ fn needs_of_class(
 ) -> Result<Vec<ClassId>, AllocError>
     ensures { IfOk result (λ found. found.items ≡ class_needs program.now superclass (interfaces_of program.now.classes id)) }
 {
-    let mut found = superclass_first(alloc, program, superclass)?;
-    add_defaults(program, program.superinterfaces(id), &mut found)?;
-    let needed = Vec::from_slice(alloc, found.as_slice())?;
-    Ok(needed)
+    let mut found = IndexSet::new(alloc);
+    gather_needs(alloc, program, id, superclass, &mut found)
 }
 
 /// The classes whose procedure is done before the initializer of a class runs, in order: none for an

@@ -1,5 +1,5 @@
 -- Lists that change at one place, and lists that are mapped.
-use Rattle.std.proofs.Common.{◌≡◌, ◌≢◌, ℕ, suc, ◌+◌, ◌<◌, ◌⊎◌, inl, inr, ⊎_elim, List, [], ◌∷◌, ◌++◌, Bool, true, false, Option as Opt, Some, None, length, replicate, map, set, get_or, refl, sym, ap, ◌∙◌, arith, length-append, get_or-set_other}
+use Rattle.std.proofs.Common.{◌≡◌, ◌≢◌, ℕ, suc, ◌+◌, ◌<◌, ◌⊎◌, inl, inr, ⊎_elim, List, [], ◌∷◌, ◌++◌, Bool, true, false, Option as Opt, Some, None, length, replicate, map, set, get_or, refl, sym, ap, ◌∙◌, arith, append-nil, length-append, get_or-set_other}
 use mathlib.Core.Logic.{dite}
 use mathlib.Core.Option.{some, some-injective, some-ne-none}
 use native.Mathlib.Decide.{ℕ_discrete}
@@ -112,3 +112,8 @@ zero_at (suc n) (suc i) = zero_at n i
 
 pub zeros : (n : ℕ) (xs : List ℕ) → xs ≡ replicate n 0 → (i : ℕ) → get_or xs i 0 ≡ 0
 zeros n xs e i = ap (λ (z : List ℕ). get_or z i 0) e ∙ zero_at n i
+
+-- nothing is left of a list of which so much was given
+pub all_given : {A : Type 0} (given left all : List A) (n : ℕ) → given ++ left ≡ all → n ≡ length left → n ≡ 0 → given ≡ all
+all_given given [] all n e l none = sym (append-nil given) ∙ e
+all_given given (x ∷ xs) all n e l none = absurd (omega arith)

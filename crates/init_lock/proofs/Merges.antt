@@ -36,6 +36,10 @@ module _ {E : Type 0} where
   pub ends_with : (l : List (Stamped E)) (x : Stamped E) (j : Written E) → l ≡ j.events → 0 < length l → x ≡ get_or l (length l - 1) x → EndsAt x.stamp j
   ends_with l x j e some at = let r = last_of l some in record { front = r.front; place = x.place; event = x.event; parts = sym e ∙ r.parts ∙ ap (λ z. r.front ++ z ∷ []) (sym (at ∙ ap (λ z. get_or z (length z - 1) x) r.parts ∙ at_end r.front r.element x)) }
 
+  -- one without events ends with none
+  pub never_ends : (l : List (Stamped E)) (j : Written E) (stamp : ℕ) → l ≡ j.events → length l ≤ 0 → EndsAt stamp j → ⊥
+  never_ends l j stamp e none s = let n = ap length (e ∙ s.parts) ∙ length_snoc s.front _ in omega arith
+
   -- it ends with one stamp
   pub one_end : (j : Written E) (a b : ℕ) → EndsAt a j → EndsAt b j → a ≡ b
   one_end j a b s t = ap (λ z. z.stamp) (same_from_push s.front t.front _ _ (sym s.parts ∙ t.parts)).1

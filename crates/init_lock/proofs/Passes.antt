@@ -9,7 +9,8 @@ use Rattle.init_lock.specs.declared.views.Custody.TheVariants.{Away, Carried}
 use Rattle.init_lock.specs.declared.journal.Stamped.{Stamped}
 use Rattle.init_lock.specs.Log.{is_at, IsPlace, stamped}
 use Rattle.init_lock.specs.Rule.{place_view, pass_view, unseen, Each}
-use Rattle.init_lock.specs.Known.{PassFacts, IsAway, IsNewPass, look, seen_at, out_by, out_of, last_at, places_of, misses_of, looks_of, opening_of}
+use Rattle.init_lock.specs.Known.{PassFacts, HeldFacts, IsAway, IsNewPass, look, seen_at, out_by, out_of, last_at, places_of, misses_of, looks_of, opening_of}
+use Rattle.init_lock.specs.Taken.{Taken as FoundFree}
 use Rattle.init_lock.specs.Steps.{SeatView, modify, took, missed, leave, released, drawn_places, drew, view_of, PassHolds, IsOnePass, MayReturn, Found, IsHolding, IsHoldingAt, IsOutAt, slots_of, without, custody_beside, IsCarried}
 use Rattle.init_lock.proofs.Lists.{length_map, length-modify, length_snoc, some_at, at_low}
 use Rattle.init_lock.proofs.Entries.{length-drawn}
@@ -38,6 +39,31 @@ module _ {R E : Type 0} where
   tied_again : (number misses : ℕ) (carried : Opt ℕ) (journal : List (Stamped E)) (looks : List (Look E)) (opening : List R) (places : List (PlaceView R E)) (me1 : SeatView R E) → me1 ≡ (pass_view number misses journal looks opening places ∷ [], slots_of carried)
       → me1 ≡ (view_of number journal me1.0, slots_of carried)
   tied_again number misses carried journal looks opening places me1 e = e ∙ ap (λ (z : SeatView R E). (view_of number journal z.0, slots_of carried)) (sym e)
+
+  -- what a pass finds where it takes a record doesn't depend on how often it missed
+  pub taken_later : (kept : R → List E) (may : ℕ → Opt ℕ → E → Type 0) (follows : R → R → Type 0)
+      {n misses : ℕ} {before missed after : PassFacts R E} {h : HeldFacts R} → missed ≡ record before { misses = misses } →
+      FoundFree kept may follows n missed after h → FoundFree kept may follows n before after h
+  taken_later kept may follows {n = n} {after = after} {h = h} e t =
+      let u = subst (λ (z : PassFacts R E). FoundFree kept may follows n z after h) e t in
+      record {
+        place = u.place;
+        untouched = u.untouched;
+        free = u.free;
+        grew = u.grew;
+        own = u.own;
+        follows_last = u.follows_last;
+        follows_opening = u.follows_opening;
+        seen = u.seen;
+        out = u.out;
+        last = u.last;
+        others = u.others;
+        looks = u.looks;
+        holding = u.holding;
+        journal = u.journal;
+        room = u.room;
+        same = record { table = u.same.table; number = u.same.number; opening = u.same.opening };
+      }
 
   drawn_carried : (carried place : Opt ℕ) (event : E) (ts : List (PlaceView R E)) → IsCarried carried ts → IsCarried carried (drawn_places place event ts)
   drawn_carried carried None event ts h = h

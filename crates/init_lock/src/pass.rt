@@ -74,8 +74,7 @@ impl<R: Keeps> Pass<R> {
         if count > left {
             return Err(AllocError);
         }
-        self.journal.reserve(count)?;
-        Ok(())
+        self.journal.reserve(count)
     }
 }
 

@@ -29,7 +29,10 @@ pub(crate) fn static_type(program: &Program, class: usize, field: usize) -> Opti
 fn instruction_in(method: &Method, place: usize) -> Option<&Instruction<u16>>
     ensures { option_copied result ≡ text_in_method (Some method.now) place }
 {
-    method.code.as_ref()?.instructions.as_slice().get(place)
+    match &method.code {
+        Some(code) => code.instructions.as_slice().get(place),
+        None => None,
+    }
 }
 
 /// An instruction as its class text has it.
@@ -41,6 +44,11 @@ pub(crate) fn instruction_at(
 ) -> Option<&Instruction<u16>>
     ensures { option_copied result ≡ instruction_of program.now class method place }
 {
-    let class = program.class(ClassId { number: class })?;
-    instruction_in(class.methods.as_slice().get(method)?, place)
+    let Some(class) = program.class(ClassId { number: class }) else {
+        return None;
+    };
+    match class.methods.as_slice().get(method) {
+        Some(method) => instruction_in(method, place),
+        None => None,
+    }
 }

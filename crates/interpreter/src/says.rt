@@ -51,8 +51,12 @@ impl Interpreter {
     pub(crate) fn op(&self, program: &Program) -> Option<Op>
         ensures { IfSome result (IsAtOp program.now self.now.frames) }
     {
-        let at = self.frames.at()?;
-        let code = method_code(program, at.class, at.method)?;
+        let Some(at) = self.frames.at() else {
+            return None;
+        };
+        let Some(code) = method_code(program, at.class, at.method) else {
+            return None;
+        };
         code.ops.as_slice().get(at.place).copied()
     }
 
@@ -92,17 +96,21 @@ impl Interpreter {
         match op {
             Op::GetStatic(wanted, _) => Ok(class.number == wanted as usize),
             Op::PutStatic(wanted, field) => {
-                let Some(held) = static_type(program, wanted as usize, field as usize) else {
-                    return Err(AllocError);
-                };
-                Ok(class.number == wanted as usize && is_kind_of(held, self.frames.operand(0)))
+                match static_type(program, wanted as usize, field as usize) {
+                    Some(held) => Ok(
+                        class.number == wanted as usize && is_kind_of(held, self.frames.operand(0)),
+                    ),
+                    None => Err(AllocError),
+                }
             }
             Op::New(wanted) => Ok(class.number == wanted as usize && self.frames.has_room()),
             Op::InvokeStatic(wanted, method) => {
-                let Some(callee) = method_code(program, wanted as usize, method as usize) else {
-                    return Err(AllocError);
-                };
-                Ok(class.number == wanted as usize && self.has_arguments(callee))
+                match method_code(program, wanted as usize, method as usize) {
+                    Some(callee) => {
+                        Ok(class.number == wanted as usize && self.has_arguments(callee))
+                    }
+                    None => Err(AllocError),
+                }
             }
             _ => Ok(false),
         }
@@ -206,27 +214,32 @@ impl Interpreter {
         let Some(op) = self.op(program) else {
             return Err(AllocError);
         };
-        if !self.waits_for(program, op, class)? {
-            self.phase = Phase::Runs;
-            return Ok(None);
+        match self.waits_for(program, op, class) {
+            Ok(true) => {}
+            Ok(false) => {
+                self.phase = Phase::Runs;
+                return Ok(None);
+            }
+            Err(_) => return Err(AllocError),
         }
         match op {
             Op::GetStatic(_, field) => Ok(Some(self.get_static(class, field))),
             Op::PutStatic(_, field) => Ok(Some(self.put_static(class, field))),
-            Op::New(wanted) => {
-                self.make(program, class, wanted)?;
-                Ok(None)
-            }
+            Op::New(wanted) => match self.make(program, class, wanted) {
+                Ok(()) => Ok(None),
+                Err(_) => Err(AllocError),
+            },
             Op::InvokeStatic(wanted, method) => {
-                self.call_static(program, class, wanted, method)?;
-                Ok(None)
+                match self.call_static(program, class, wanted, method) {
+                    Ok(()) => Ok(None),
+                    Err(_) => Err(AllocError),
+                }
             }
             _ => Err(AllocError),
         }
     }
 
     /// Goes on up to what the innermost body does next, or up to a monitor that another thread holds.
-    #[tactic(auto, using(crate::proofs::TakingTurns::says_in_turn, crate::proofs::TakingTurns::then_turn, crate::proofs::Running::then_row_of, crate::proofs::Running::no_rows, crate::proofs::Saying::lacks_memory))]
     pub(crate) fn say(&mut self, alloc: Global, program: &Program) -> Does
         ensures says { TurnSaysNext program.now self.old result self.new }
         ensures sayable { IsSayable program.now self.old.phase result }
@@ -242,7 +255,6 @@ impl Interpreter {
     }
 
     /// Goes on up to what the innermost body does next, which waits for no class, or up to a monitor that another thread holds.
-    #[tactic(auto, using(crate::proofs::TakingTurns::then_says_in_turn, crate::proofs::TakingTurns::then_next_in_turn, crate::proofs::TakingTurns::then_waits_in_turn, crate::proofs::Running::then_rows_of, crate::proofs::Running::no_rows, crate::proofs::Saying::lacks_memory))]
     fn say_running(&mut self, alloc: Global, program: &Program) -> Does
         ensures says { TurnSaysNext program.now self.old result self.new }
         ensures sayable { (phase : _) → IsSayable program.now phase result }

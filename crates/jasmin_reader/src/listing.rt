@@ -1,9 +1,11 @@
 //! The instructions of a method, as far as they are read.
 
-ghost use Rattle.std.specs.Prelude.{◌≡◌, length, is_some, OnOk};
-ghost use Rattle.sequence.specs.Gives.{Gives};
+ghost use Rattle.std.specs.Prelude.{◌≡◌, length, is_some, Ok, OnOk};
+ghost use Rattle.sequence.specs.Gives.{Gives, ◌>>=◌ as followed_by};
 ghost use Rattle.jasmin_words.specs.Lexing.{views};
 ghost use Rattle.std.specs.Option.{option_map};
+ghost use Rattle.jasmin_reader.specs.Places.{within_limit, ended_at};
+ghost use Rattle.jasmin_reader.specs.Operands.{label_in, last_operand as last_operand_of};
 ghost use Rattle.jasmin_reader.specs.Listing.{empty_listing, with_switch, with_listed, listed_row, has_room, unknown_word as unknown_word_of, instruction_at, behind_colon as behind_colon_of, colon_from, takes_label as takes_label_of, is_full, key_in, target_at, table_end as table_end_of, table_by, case_at, lookup_end as lookup_end_of, switch_at};
 ghost use Rattle.jasmin_text.specs.Grammar.{InstructionRow, TargetRow, CaseRow, DefaultRow};
 
@@ -136,6 +138,16 @@ fn lookup_end(alloc: Global, rest: &[Token<'_>]) -> Result<Listed, LineError>
     last_operand::<Text>(alloc, after).map(Listed::Default)
 }
 
+/// A key of a `lookupswitch` with the label behind its colon.
+fn key_label(alloc: Global, key: i32, rest: &[Token<'_>]) -> Result<Listed, LineError>
+    ensures { Gives listed_row result (followed_by (colon_from (views rest.now))
+        (λ after. followed_by (last_operand_of label_in after) (λ label. Ok (CaseRow key label)))) }
+{
+    let after = colon(rest)?;
+    let label = last_operand::<Text>(alloc, after)?;
+    Ok(Listed::Case(key, label))
+}
+
 impl Listing {
     /// No instruction yet.
     pub(crate) fn new(alloc: Global) -> Self
@@ -195,7 +207,8 @@ impl Listing {
         let Some(form) = form_of(word) else {
             return Err(Refusal::Fault(unknown_word(word)));
         };
-        within(word).and(self.room())?;
+        within(word)?;
+        self.room()?;
         begin(alloc, form, rest)
     }
 
@@ -246,10 +259,9 @@ impl Listing {
         ensures { Gives listed_row result (case_at self.now.room cases.now word.now (views rest.now)) }
     {
         let key = new_key(cases, word)?;
-        within(word).and(self.room())?;
-        let after = colon(rest)?;
-        let label = last_operand::<Text>(alloc, after)?;
-        Ok(Listed::Case(key, label))
+        within(word)?;
+        self.room()?;
+        key_label(alloc, key, rest)
     }
 
     /// What a line in a switch says that begins with this word.

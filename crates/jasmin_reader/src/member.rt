@@ -1,15 +1,17 @@
 //! The lines of fields and methods.
 
-ghost use Rattle.std.specs.Prelude.{◌≡◌};
-ghost use Rattle.sequence.specs.Gives.{Gives};
-ghost use Rattle.jasmin_words.specs.Lexing.{views};
+ghost use Rattle.std.specs.Prelude.{◌≡◌, List, Ok};
+ghost use Rattle.sequence.specs.Gives.{Gives, ◌>>=◌ as followed_by};
+ghost use Rattle.jasmin_words.specs.Lexing.{Item, views};
+ghost use Rattle.jasmin_text.specs.declared.class_text.Constant.{Constant as ConstantValue};
+ghost use Rattle.jasmin_text.specs.declared.class_text.Constant.TheVariants as constants;
 ghost use Rattle.jasmin_text.specs.Spellable.{is_int_type, is_string_type};
+ghost use Rattle.jasmin_reader.specs.Places.{string_from};
 ghost use Rattle.jasmin_reader.specs.Heads.{behind_signature as behind_signature_of, skipped_from, constant_for, value_at, field_named, field_from, method_there, method_named, method_from};
 
 use crate::head::{Place, behind_signature, is_at_signature, no_words, read_name};
-use crate::place::{
-    FromWord, LineError, bad_operand, ended, fault_at, operand, string, wanted, within,
-};
+use crate::operands::number;
+use crate::place::{FromWord, LineError, bad_operand, ended, fault_at, operand, string, within};
 use crate::values::typed;
 use descriptors::{ElementType, FieldType, MethodType};
 use jasmin_text::{Access, Boxed, ClassKind, Constant, Field};
@@ -53,6 +55,19 @@ fn takes_string(field_type: &FieldType) -> bool
     }
 }
 
+/// A string, and what follows it.
+fn text<'a, 't>(
+    alloc: Global,
+    tokens: &'t [Token<'a>],
+) -> Result<(Constant, &'t [Token<'a>]), LineError>
+    ensures { Gives (λ x. (x.0, views x.1.now)) result
+        (followed_by {B = ConstantValue × List Item} (string_from (views tokens.now)) (λ s. Ok (constants.Text s.0, s.1))) }
+{
+    let (characters, rest) = string(tokens)?;
+    let text = Boxed::new(alloc, Text::copied(alloc, characters)?)?;
+    Ok((Constant::Text(text), rest))
+}
+
 /// A value of the type.
 #[tactic(auto, unfolding(crate::specs::Heads::constant_for))]
 fn constant<'a, 't>(
@@ -63,13 +78,10 @@ fn constant<'a, 't>(
     ensures { Gives (λ x. (x.0, views x.1.now)) result (constant_for field_type.now (views tokens.now)) }
 {
     if takes_int(field_type) {
-        let (number, rest) = operand::<i32>(alloc, tokens)?;
-        return Ok((Constant::Int(number), rest));
+        return number(alloc, tokens);
     }
     if takes_string(field_type) {
-        let (text, rest) = string(tokens)?;
-        let text = Boxed::new(alloc, Text::copied(alloc, text)?)?;
-        return Ok((Constant::Text(text), rest));
+        return text(alloc, tokens);
     }
     match tokens {
         [] => Err(bad_operand()),
@@ -153,7 +165,9 @@ fn may_stand(head: &MethodHead, word: &[u8], rest: &[Token<'_>]) -> Result<(), L
         let is_fit = head.access.is_static
             && method_type.parameters().is_empty()
             && method_type.result().is_none();
-        wanted(is_fit, FaultKind::BadInitializer)?;
+        if !is_fit {
+            return Err(Refusal::Fault(FaultKind::BadInitializer));
+        }
     }
     ended(rest)
 }

@@ -1,10 +1,14 @@
 //! The operands of instructions.
 #![tactic(auto, unfolding(crate::specs::Operands::begun_at))]
 
-ghost use Rattle.sequence.specs.Gives.{Gives};
-ghost use Rattle.jasmin_words.specs.Lexing.{views};
+ghost use Rattle.std.specs.Prelude.{List, Ok};
+ghost use Rattle.sequence.specs.Gives.{Gives, ◌>>=◌ as followed_by};
+ghost use Rattle.jasmin_words.specs.Lexing.{Item, views};
+ghost use Rattle.jasmin_text.specs.declared.class_text.Constant.{Constant as ConstantValue};
+ghost use Rattle.jasmin_text.specs.declared.class_text.Constant.TheVariants as constants;
 ghost use Rattle.jasmin_text.specs.declared.form.Form.TheVariants as forms;
-ghost use Rattle.jasmin_reader.specs.Operands.{constant_from, count_at, labels_between, high_at, alone as alone_of, begun_at};
+ghost use Rattle.jasmin_reader.specs.Places.{operand as operand_of};
+ghost use Rattle.jasmin_reader.specs.Operands.{integer_in, constant_from, count_at, labels_between, high_in, high_at, alone as alone_of, begun_at};
 ghost use Rattle.jasmin_reader.specs.Listing.{listed_row};
 
 use crate::place::{LineError, bad_operand, ended, last_operand, next, operand, within};
@@ -21,6 +25,18 @@ use jasmin_words::name::MemberName;
 use sequence::{Refusal, Text};
 use std::alloc::Global;
 
+/// An int, and what follows it.
+pub(crate) fn number<'a, 't>(
+    alloc: Global,
+    tokens: &'t [Token<'a>],
+) -> Result<(Constant, &'t [Token<'a>]), LineError>
+    ensures { Gives (λ x. (x.0, views x.1.now)) result
+        (followed_by {B = ConstantValue × List Item} (operand_of integer_in (views tokens.now)) (λ n. Ok (constants.Int n.0, n.1))) }
+{
+    let (number, rest) = operand::<i32>(alloc, tokens)?;
+    Ok((Constant::Int(number), rest))
+}
+
 /// An int or a string.
 fn constant<'a, 't>(
     alloc: Global,
@@ -33,10 +49,7 @@ fn constant<'a, 't>(
         [first, rest @ ..] => match first {
             Token::Text(text) => Ok((Constant::Text(Boxed::new(alloc, text.clone()?)?), rest)),
             Token::BadText(kind) => Err(Refusal::Fault(*kind)),
-            _ => {
-                let (number, rest) = operand::<i32>(alloc, tokens)?;
-                Ok((Constant::Int(number), rest))
-            }
+            _ => number(alloc, tokens),
         },
     }
 }
@@ -62,8 +75,17 @@ pub(crate) fn count_up_to(low: i32, high: i32) -> Result<u64, LineError>
     }
 }
 
-/// The last key of a `tableswitch`, where it is given.
+/// The last key of a `tableswitch` that begins with the key `low`.
 #[tactic(auto, unfolding(crate::specs::Operands::high_in))]
+fn last_key(low: i32, word: &[u8]) -> Result<i32, LineError>
+    ensures { Gives (λ n. n) result (high_in low word.now) }
+{
+    let high = integer(word)?;
+    count_up_to(low, high)?;
+    Ok(high)
+}
+
+/// The last key of a `tableswitch`, where it is given.
 fn high(low: i32, tokens: &[Token<'_>]) -> Result<Option<i32>, LineError>
     ensures { Gives (λ n. n) result (high_at low (views tokens.now)) }
 {
@@ -71,8 +93,7 @@ fn high(low: i32, tokens: &[Token<'_>]) -> Result<Option<i32>, LineError>
         return Ok(None);
     }
     let (word, rest) = next(tokens)?;
-    let high = integer(word)?;
-    count_up_to(low, high)?;
+    let high = last_key(low, word)?;
     within(word)?;
     ended(rest).and(Ok(Some(high)))
 }

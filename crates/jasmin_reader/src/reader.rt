@@ -129,17 +129,25 @@ impl Reader {
                 FaultKind::Misplaced,
             ),
             Directive::Super => {
-                let header = wanted(self.in_header(), FaultKind::Misplaced);
-                header.and(wanted(self.superclass.is_none(), FaultKind::Misplaced))
+                wanted(
+                    self.in_header() && self.superclass.is_none(),
+                    FaultKind::Misplaced,
+                )
             }
             Directive::Implements => {
-                let header = wanted(self.in_header(), FaultKind::Misplaced);
-                let room = self.interfaces.len() < MOST_INTERFACES;
-                header.and(wanted(room, FaultKind::LimitExceeded))
+                if !self.in_header() {
+                    return Err(Refusal::Fault(FaultKind::Misplaced));
+                }
+                wanted(
+                    self.interfaces.len() < MOST_INTERFACES,
+                    FaultKind::LimitExceeded,
+                )
             }
             Directive::Field | Directive::Method => {
-                let class = wanted(self.in_class(), FaultKind::Misplaced);
-                class.and(wanted(self.takes_member(), FaultKind::LimitExceeded))
+                if !self.in_class() {
+                    return Err(Refusal::Fault(FaultKind::Misplaced));
+                }
+                wanted(self.takes_member(), FaultKind::LimitExceeded)
             }
             Directive::Limit | Directive::Catch => self.in_method(),
             _ => Ok(()),
@@ -151,18 +159,25 @@ impl Reader {
         ensures { OnOk result (self.new ≡ with_row self.old (said_row said)) }
     {
         match said {
-            Said::Class(named) => self.class = Some(named),
-            Said::Super(name) => self.superclass = Some(name),
-            Said::Implements(name) => return self.interfaces.push(name),
-            Said::Field(field) => return self.fields.push(field),
-            Said::Method(head) => drop(self.body.replace(opened(alloc, head))),
-            Said::Setting(setting) => {
-                if let Some(body) = &mut self.body {
-                    return body.set(setting);
-                }
+            Said::Class(named) => {
+                self.class = Some(named);
+                Ok(())
             }
+            Said::Super(name) => {
+                self.superclass = Some(name);
+                Ok(())
+            }
+            Said::Implements(name) => self.interfaces.push(name),
+            Said::Field(field) => self.fields.push(field),
+            Said::Method(head) => {
+                drop(self.body.replace(opened(alloc, head)));
+                Ok(())
+            }
+            Said::Setting(setting) => match &mut self.body {
+                Some(body) => body.set(setting),
+                None => Ok(()),
+            },
         }
-        Ok(())
     }
 
     /// A method stands open, and no switch in it.

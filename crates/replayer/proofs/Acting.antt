@@ -1,6 +1,6 @@
 -- What a body does, as the calls tell it.
 use Rattle.std.proofs.Common.{◌≡◌, ◌≢◌, ◌⊎◌, ℕ, ◌<◌, ◌≤◌, List, [], ◌∷◌, ◌++◌, Option, Some, None, Bool, true, false, length, slice_get, inl, ⊎_elim, refl, sym, subst, ap, ◌∙◌}
-use Rattle.std.specs.Prelude.{slice_index_or}
+use Rattle.std.specs.Prelude.{Err, IfOk, MatchResult, Ok, OnOk, Result, slice_index_or}
 use Rattle.std.specs.List.{AllByRecursion}
 use Rattle.std.proofs.lemmas.List.Elements.{filter-append}
 use Rattle.hierarchy.specs.declared.class.ClassId.{ClassId}
@@ -72,6 +72,16 @@ same_then a b = record { number = b.number ∙ a.number; main = b.main ∙ a.mai
 pub no_wait_by : {A : Type 0} (t : Turn) (o : Option Outcome) → t ≡ turn_by o → t ≡ turn.Waits → A
 no_wait_by t None is q = cc
 no_wait_by t (Some r) is q = cc
+
+-- what holds of a turn in which an event was made, where it was
+pub by_event : {T E : Type 0} (P : Turn → Type 0) (made : Result T E) (r : Result Turn E) → MatchResult made (λ x. r ≡ Ok turn.Event) (λ e. r ≡ Err e) → OnOk made (P turn.Event) → IfOk r P
+by_event {E = E} P (Ok x) r is h = subst (λ (y : Result Turn E). IfOk y P) (sym is) h
+by_event {E = E} P (Err e) r is h = subst (λ (y : Result Turn E). IfOk y P) (sym is) tt
+
+-- one in which a thread waits is none of them
+pub no_wait_event : {T E : Type 0} (A : Type 0) (made : Result T E) (r : Result Turn E) → MatchResult made (λ x. r ≡ Ok turn.Event) (λ e. r ≡ Err e) → IfOk r (λ t. t ≡ turn.Waits → A)
+no_wait_event {E = E} A (Ok x) r is = subst (λ (y : Result Turn E). IfOk y (λ t. t ≡ turn.Waits → A)) (sym is) (λ q. absurd cc)
+no_wait_event {E = E} A (Err e) r is = subst (λ (y : Result Turn E). IfOk y (λ t. t ≡ turn.Waits → A)) (sym is) tt
 
 module _ {S : Type 0} (p : LinkedProgram) (M : Making S) where
   not_of_main : {A : Type 0} (w : Thread S) → IsInBody w → w.in_main ≡ false → w.procedure.frames ≡ [] → A

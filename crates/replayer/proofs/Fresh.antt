@@ -1,8 +1,8 @@
 -- The threads of a run as it begins.
-use Rattle.std.proofs.Common.{◌≡◌, ◌≢◌, ◌⊎◌, inl, inr, ℕ, ◌+◌, ◌<◌, ◌==◌, List, [], ◌∷◌, ◌++◌, None, true, false, map, length, sym, ap, subst, ◌∙◌, arith, append_assoc}
+use Rattle.std.proofs.Common.{◌≡◌, ◌≢◌, ◌⊎◌, inl, inr, ℕ, ◌+◌, ◌<◌, ◌==◌, List, [], ◌∷◌, ◌++◌, None, true, false, map, length, sym, ap, subst, ◌∙◌, arith, append-nil, append_assoc}
 use Rattle.std.specs.Prelude.{slice_index_or, take}
 use Rattle.std.proofs.lemmas.Bool.Decides.{eqb_tells}
-use Rattle.std.proofs.lemmas.List.{get_or_append_left, get_or_push, length-append, map_push, take_more}
+use Rattle.std.proofs.lemmas.List.{get_or_append_left, get_or_push, length-append, map_push, take_all, take_more}
 use Rattle.hierarchy.specs.declared.class.ClassId.{ClassId}
 use Rattle.hierarchy.specs.LinkedProgram.{LinkedProgram}
 use Rattle.bodies.specs.Making.{Making}
@@ -55,3 +55,11 @@ module _ {S : Type 0} (p : LinkedProgram) (M : Making S) (B : S → Type 0) (l :
 
     within : length ws < length mains
     within = let count = h.3 in omega (arith, count, longer)
+
+  -- all threads have begun where no start is left
+  pub all_begun : (mains : List ClassId) (starts : List S) (ws : List (Thread S)) (rest : List S) → HaveBegun p M B l mains starts ws rest → length rest ≡ 0 → (map (λ w. w.main) ws ≡ mains) × (map (λ w. w.start.value) ws ≡ starts) × (length ws ≡ length mains)
+  all_begun mains starts ws [] h none =
+      let many = h.3 in
+      let all : length ws ≡ length mains = omega (arith, many) in
+      (h.1 ∙ take_all (length ws) mains (omega (arith, all)), sym (append-nil (map (λ w. w.start.value) ws)) ∙ h.2, all)
+  all_begun mains starts ws (x ∷ rest) h none = absurd (omega (arith, none))

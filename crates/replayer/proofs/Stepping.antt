@@ -4,6 +4,7 @@ use Rattle.std.proofs.lemmas.Bool.{eqb-true}
 use Rattle.std.specs.List.{AllByRecursion}
 use Rattle.hierarchy.specs.declared.class.ClassId.{ClassId}
 use Rattle.hierarchy.specs.LinkedProgram.{LinkedProgram, id}
+use Rattle.statics.specs.declared.static_field.StaticField.{StaticField}
 use Rattle.init_core.specs.declared.event.Decision.{Decision}
 use Rattle.init_core.specs.declared.event.Decision.TheVariants as decision
 use Rattle.init_core.specs.declared.event.Event.{Event}
@@ -26,7 +27,7 @@ use Rattle.init_core.specs.Advance.{Advances, Fits, LeavesAt, MayRequest, after_
 use Rattle.init_core.specs.ClassState.{State, is_waiter}
 use Rattle.init_core.specs.Decisions.{event, entered, is_wait, kind_of, Decides, waits}
 use Rattle.init_core.specs.Interleaving.{of_class, of_thread, label_at}
-use Rattle.init_core.specs.Lawful.{Allows, IsInProgressByOther}
+use Rattle.init_core.specs.Lawful.{Allows, Holds, IsInProgressByOther}
 use Rattle.init_core.specs.Leads.{frame, standing, kind_of_ending, outcome_of, LeadsOf}
 use Rattle.init_core.specs.ProcedureWord.{IsOfFiles, completed, ended_by, given_up}
 use Rattle.init_core.specs.ProgramEvents.{IsDoneAt}
@@ -70,6 +71,19 @@ ending_is_no_wait : (k : Ending) → is_wait (kind_of_ending k) ≡ false
 ending_is_no_wait ending.Completes = refl
 ending_is_no_wait (ending.SuperFails e) = refl
 ending_is_no_wait (ending.Fails e) = refl
+
+-- a look and the end of a class use no field
+pub look_holds : (fields : List StaticField) (before : List Event) (d : Decision) → Holds fields before (kind_of d)
+look_holds fields before (decision.Waits first) = tt
+look_holds fields before decision.Recurs = tt
+look_holds fields before decision.FindsInitialized = tt
+look_holds fields before decision.FindsErroneous = tt
+look_holds fields before decision.Begins = tt
+
+pub end_holds : (fields : List StaticField) (before : List Event) (k : Ending) → Holds fields before (kind_of_ending k)
+end_holds fields before ending.Completes = tt
+end_holds fields before (ending.SuperFails e) = tt
+end_holds fields before (ending.Fails e) = tt
 
 pub not_both : {A : Type 0} {b : Bool} → b ≡ false → b ≡ true → A
 not_both f t = absurd (let z : false ≡ true = sym f ∙ t in cc)

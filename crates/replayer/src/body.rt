@@ -13,7 +13,7 @@ ghost use Rattle.replayer.specs.declared.thread.Turn.TheVariants as turns;
 use crate::lent::Lent;
 use crate::log::EventLog;
 use crate::shared::Shared;
-use crate::thread::{Thread, Turn, turn_of};
+use crate::thread::{Thread, Turn, event_of, turn_of};
 use bodies::{Does, Lends};
 use hierarchy::{BuiltIn, ClassId, Program, Value};
 use init_core::{Kind, Outcome};
@@ -203,30 +203,29 @@ impl<H, B: Lends<H>> Thread<Lent<B, H>> {
         match self.next(alloc, program, log, shared) {
             Does::Asks(class) => {
                 self.use_class(program, log, class)?;
-                return Ok(Turn::Silent);
+                Ok(Turn::Silent)
             }
-            Does::Gets { class, field } => self.read(program, log, shared, class, field)?,
+            Does::Gets { class, field } => event_of(self.read(program, log, shared, class, field)),
             Does::Puts {
                 class,
                 field,
                 value,
-            } => self.write(program, log, class, field, value)?,
-            Does::Prints(text) => self.print(alloc, program, log, text)?,
+            } => event_of(self.write(program, log, class, field, value)),
+            Does::Prints(text) => event_of(self.print(alloc, program, log, text)),
             Does::Waits => {
                 let waits = self.bodies.waits(program, shared);
-                return Ok(if waits { Turn::Comes } else { Turn::Silent });
+                Ok(if waits { Turn::Comes } else { Turn::Silent })
             }
             Does::Over(thrown) => {
                 let done = self.end_body(alloc, program, log, shared, thrown)?;
-                return Ok(turn_of(done));
+                Ok(turn_of(done))
             }
-            Does::Ended(Limit::Memory) => return Err(AllocError),
+            Does::Ended(Limit::Memory) => Err(AllocError),
             Does::Ended(Limit::Steps) => {
                 let error = program.built_in(BuiltIn::InternalError);
-                return Ok(turn_of(self.leave(program, log, shared, error, false)));
+                Ok(turn_of(self.leave(program, log, shared, error, false)))
             }
             Does::Ended(Limit::Patience) => unreachable!(),
         }
-        Ok(Turn::Event)
     }
 }

@@ -1,6 +1,6 @@
 //! Where one thread of a run stands, and the steps of its procedures.
 
-ghost use Rattle.std.specs.Prelude.{◌≡◌, ◌≢◌, ◌<◌, [], IfOk, OnOk, Some, true, false};
+ghost use Rattle.std.specs.Prelude.{◌≡◌, ◌≢◌, ◌<◌, [], Err, IfOk, MatchResult, Ok, OnOk, Some, true, false};
 ghost use Rattle.init_core.specs.declared.procedure.Next.TheVariants as nexts;
 ghost use Rattle.init_core.specs.Advance.{next_of, is_running};
 ghost use Rattle.init_core.specs.ProcedureWord.{IsOfFiles};
@@ -41,6 +41,16 @@ pub(crate) fn turn_of(done: Option<Outcome>) -> Turn
     match done {
         None => Turn::Silent,
         Some(result) => Turn::Ended(result),
+    }
+}
+
+/// The turn in which an event was made, where there was memory for it.
+pub(crate) fn event_of(made: Result<(), AllocError>) -> Result<Turn, AllocError>
+    ensures { MatchResult made (λ none. result ≡ Ok turns.Event) (λ error. result ≡ Err error) }
+{
+    match made {
+        Ok(()) => Ok(Turn::Event),
+        Err(error) => Err(error),
     }
 }
 
@@ -217,13 +227,9 @@ impl<H, B: Lends<H>> Thread<Lent<B, H>> {
                 if self.procedure.is_running() {
                     return self.go_on(alloc, program, log, shared);
                 }
-                self.run_body(alloc, program, log, shared, class)?;
-                Ok(Turn::Event)
+                event_of(self.run_body(alloc, program, log, shared, class))
             }
-            Next::End(class, ending) => {
-                self.end_class(program, log, class, ending)?;
-                Ok(Turn::Event)
-            }
+            Next::End(class, ending) => event_of(self.end_class(program, log, class, ending)),
         }
     }
 

@@ -41,8 +41,9 @@ fn signed_low_bits(number: i32, half: i32) -> i32
     requires below { half ≤ℤ pos 32768 }
     ensures { result ≡ signed_low half number }
 {
-    let low = number.rem_euclid(half + half);
-    if low < half { low } else { low - (half + half) }
+    let whole = half + half;
+    let low = number.rem_euclid(whole);
+    if low < half { low } else { low - whole }
 }
 
 /// What a field of a base type keeps of an int: of byte, char and short the low bits, as `i2b`, `i2c` and `i2s` do

@@ -1,4 +1,4 @@
-use Rattle.std.proofs.Common.{◌<◌, arith, rules, subst, sym, ◌+◌, length, take, None}
+use Rattle.std.proofs.Common.{◌<◌, [], rules, subst, sym, ◌+◌, length, take, None}
 use Rattle.std.proofs.lemmas.List.{length-map, take_all}
 use Rattle.clap.specs.Walk.{texts as texts_of}
 use Rattle.cli.specs.declared.files.TheConstants.{MOST_FILES}
@@ -16,21 +16,21 @@ pub returns-then-files-gt-MOST_FILES-clause-files : goal.returns-then-files-gt-M
 returns-then-files-gt-MOST_FILES-clause-files g c = keeps_all None (g.N.Named.held c.args.named.now)
 
 pub loop-file-init : goal.loop-file-init
-loop-file-init g c = (search rules, keeps_all None (g.N.Named.held c.args.named.now))
+loop-file-init g c = (subst (λ items. AreSpelled (g.N.Named.held c.args.named.now) [] items) (sym c.new-texts.ensures.items) tt, keeps_all None (g.N.Named.held c.args.named.now))
 
 pub loop-file-preserved : goal.loop-file-preserved
 loop-file-preserved g c =
     let before = g.N.Named.held c.args.named.now in
     let now = g.N.Named.held c.loop-file.named in
-    let more = more_spelled before now c.args.files.now c.loop-file.file-index _ c.loop-file.texts.items c.in-Ok.text (search rules)
+    let more = more_spelled before now c.args.files.now c.loop-file.file-index _ c.loop-file.texts.items c.in-Ok.text c.loop-file-test.true
     c.loop-file.invariant.0 c.loop-file.invariant.1 c.in-Ok.ensures.spelled in (
-      subst (λ items. AreSpelled before (texts_of (take (c.loop-file.file-index + 1) c.args.files.now)) items) (search rules) more,
+      subst (λ items. AreSpelled before (texts_of (take (c.loop-file.file-index + 1) c.args.files.now)) items) (sym c.in_ok-push.ensures.items) more,
       keeps_then None before now (g.N.Named.held c.read_text.new.named) c.loop-file.invariant.1 c.read_text.ensures.files,
     )
 
 pub returns-in-Err-clause-refused : goal.returns-in-Err-clause-refused
 returns-in-Err-clause-refused g c =
-    refused_at (g.N.Named.held c.args.named.now) (g.N.Named.held c.loop-file.named) c.args.files.now c.loop-file.file-index _ c.loop-file.texts.items c.in-Err.fault (search rules)
+    refused_at (g.N.Named.held c.args.named.now) (g.N.Named.held c.loop-file.named) c.args.files.now c.loop-file.file-index _ c.loop-file.texts.items c.in-Err.fault c.loop-file-test.true
     c.loop-file.invariant.0 c.loop-file.invariant.1 c.in-Err.ensures.refused
 
 pub returns-in-Err-clause-files : goal.returns-in-Err-clause-files
@@ -44,7 +44,7 @@ returns-in_err-push-clause-files g c = keeps_then None (g.N.Named.held c.args.na
 
 pub returns-clause-spelled : goal.returns-clause-spelled
 returns-clause-spelled g c =
-    subst (λ files. AreSpelled (g.N.Named.held c.args.named.now) (texts_of files) c.loop-file.texts.items) (take_all c.loop-file.file-index c.args.files.now (omega arith)) c.loop-file.invariant.0
+    subst (λ files. AreSpelled (g.N.Named.held c.args.named.now) (texts_of files) c.loop-file.texts.items) (take_all c.loop-file.file-index c.args.files.now c.loop-file-test.false) c.loop-file.invariant.0
 
 pub returns-clause-files : goal.returns-clause-files
 returns-clause-files g c = c.loop-file.invariant.1

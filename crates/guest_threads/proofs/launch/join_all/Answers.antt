@@ -1,4 +1,5 @@
-use Rattle.std.proofs.Common.{rules, ◌≡◌, List, [], ◌++◌, sym, subst, append-nil}
+use Rattle.std.proofs.Common.{rules, ◌≡◌, List, [], ◌++◌, sym, subst, append-nil, arith}
+use Rattle.std.proofs.lemmas.Grind.{common_steps}
 use Rattle.std.proofs.lemmas.List.{nil_from_length}
 use Rattle.guest_threads.specs.declared.work.Worked.{Worked}
 use Rattle.guest_threads.specs.AllWork.{Did, Pairs}
@@ -11,3 +12,6 @@ returns g c =
     let kept : Pairs (λ h w. Did g.B.Bodies.making h.promise.plan.now h.promise.job.value w) c.into_iter-child-iterator.result.rest.items (c.joining.done.items ++ []) = c.joining.invariant.0 [] (subst (λ xs. Pairs (λ h w. Did g.B.Bodies.making h.promise.plan.now h.promise.job.value w) xs []) (sym none_left) tt) in
     subst (λ (ws : List Worked). Pairs (λ h w. Did g.B.Bodies.making h.promise.plan.now h.promise.job.value w) c.args.children.items ws) (append-nil c.joining.done.items)
     (subst (λ xs. Pairs (λ h w. Did g.B.Bodies.making h.promise.plan.now h.promise.job.value w) xs (c.joining.done.items ++ [])) given kept)
+
+pub joining-preserved : goal.joining-preserved
+joining-preserved g c = grind (arith, common_steps)

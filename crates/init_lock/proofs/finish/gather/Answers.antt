@@ -1,8 +1,9 @@
-use Rattle.std.proofs.Common.{◌≡◌, [], ◌∷◌, ◌++◌, map, length, sym, ap, ◌∙◌, subst, arith, append_assoc, length-append}
+use Rattle.std.proofs.Common.{◌≡◌, [], ◌∷◌, ◌++◌, map, length, refl, sym, ap, ◌∙◌, subst, arith, append_assoc, length-append}
 use Rattle.std.specs.List.{AllByRecursion}
+use Rattle.std.proofs.lemmas.List.{nil_from_length}
 use Rattle.init_lock.specs.Known.{IsAway, view_of_pass}
 use Rattle.init_lock.specs.Closing.{written}
-use Rattle.init_lock.proofs.Lists.{length_map, map_snoc}
+use Rattle.init_lock.proofs.Lists.{all_given, length_map, map_snoc}
 use Rattle.init_lock.proofs.Passes.{carries_none}
 use Rattle.init_lock.proofs.Ends.{joins, all_middle}
 use Rattle.init_lock.proofs.finish.gather.Goals as goal
@@ -42,3 +43,21 @@ unreachable-requires g c =
     let b = ap length i.7 in
     let d = ap length c.in-Some.ensures.steps.0 in
     let e = c.in_default.ensures.succeeds (omega (arith, length-append c.loop-pass.yielded c.loop-pass.pass-iterator.rest.items)) in cc
+
+pub loop-pass-init : goal.loop-pass-init
+loop-pass-init g c =
+    let none = nil_from_length c.args.journals.now.items (sym c.args.journals.now.ok.0 ∙ c.requires.room.0) in
+    (tt, tt, refl, refl, c.requires.new, none, omega arith, c.into_iter-pass-iterator.ensures.into_iter_gives.0)
+
+pub returns-clause-seat : goal.returns-clause-seat
+returns-clause-seat g c =
+    let i = c.loop-pass.invariant in
+    let rest = c.loop-pass.pass-iterator.rest in
+    i.4 ∙ ap (λ z. (map view_of_pass z, []))
+    (all_given c.loop-pass.yielded rest.items c.args.passes.items rest.len i.7 rest.ok.0 c.in-None.ensures.steps.0)
+
+pub returns-clause-journals : goal.returns-clause-journals
+returns-clause-journals g c =
+    let i = c.loop-pass.invariant in
+    let rest = c.loop-pass.pass-iterator.rest in
+    i.5 ∙ ap (map written) (all_given c.loop-pass.yielded rest.items c.args.passes.items rest.len i.7 rest.ok.0 c.in-None.ensures.steps.0)

@@ -1,11 +1,11 @@
-use Rattle.std.proofs.Common.{rules, ◌≡◌, ◌+◌, [], ◌∷◌, ◌++◌, map, take, Some, None, slice_index_or, false, IsTrue, sym, ap, ◌∙◌, subst, arith}
+use Rattle.std.proofs.Common.{rules, ◌≡◌, ◌+◌, [], ◌∷◌, ◌++◌, map, take, Some, None, slice_index_or, false, IsTrue, refl, sym, ap, ◌∙◌, subst, arith}
 use Rattle.std.proofs.Common.{IsSome}
 use lib.ListN.{get_elem?}
 use mathlib.Core.Option.{some}
 use Rattle.std.specs.Mem.Slots.{slots_items, slots_filled}
 use Rattle.init_lock.proofs.Ends.{all_at}
 use Rattle.init_lock.proofs.Lists.{map_snoc, got_or, cleared, at_low}
-use Rattle.std.proofs.lemmas.List.{take_more, get_or-set_other}
+use Rattle.std.proofs.lemmas.List.{nil_from_length, take_all, take_more, get_or-set_other}
 use Rattle.init_lock.proofs.finish.unload.Goals as goal
 
 pub unreachable-requires : goal.unreachable-requires
@@ -30,3 +30,21 @@ loop-place-preserved g c =
       (λ k l. ap (λ z. slice_index_or z k false) t.1 ∙ cleared (slots_filled c.loop-place.closed.slots) c.loop-place.place i.5 k l),
       (λ k l m. subst (λ z. IsTrue z) (sym (ap (λ z. slice_index_or z k false) t.1 ∙ get_or-set_other (slots_filled c.loop-place.closed.slots) c.loop-place.place k false false (λ e. absurd (omega arith)))) (i.6 k (omega arith) m)),
     )
+
+pub loop-place-init : goal.loop-place-init
+loop-place-init g c =
+    let full = c.requires.full in
+    let none = nil_from_length c.args.records.now.items (sym c.args.records.now.ok.0 ∙ c.requires.room.0) in (
+      refl,
+      full.1,
+      c.requires.room.0,
+      c.requires.room.1,
+      ap (map Some) none,
+      λ k low. absurd (omega arith),
+      λ k low high. full.0 k low (let few = full.1 in omega arith),
+    )
+
+pub returns-clause-records : goal.returns-clause-records
+returns-clause-records g c =
+    let i = c.loop-place.invariant in
+    i.4 ∙ take_all c.loop-place.place (slots_items c.loop-place.closed.slots) (let few = i.1 in omega arith) ∙ i.0

@@ -3,17 +3,9 @@ use Rattle.std.proofs.lemmas.Grind.{common_steps}
 use Rattle.jasmin_reader.specs.Heads.{constant_for}
 use Rattle.jasmin_reader.proofs.member.constant.Goals as goal
 
-pub returns-in_err-number : goal.returns-in_err-number
-unfolding constant_for
-returns-in_err-number c = grind (arith, common_steps)
-
 pub returns-then-takes_int : goal.returns-then-takes_int
 unfolding constant_for
 returns-then-takes_int c = grind (arith, common_steps)
-
-pub returns-in_err-text : goal.returns-in_err-text
-unfolding constant_for
-returns-in_err-text c = grind (arith, common_steps)
 
 pub returns-then-takes_string : goal.returns-then-takes_string
 unfolding constant_for

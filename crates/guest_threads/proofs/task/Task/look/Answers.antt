@@ -6,9 +6,10 @@ use Rattle.init_core.specs.Standing.{Standing}
 use Rattle.guest_threads.specs.declared.guarded.Guarded.{Guarded}
 use Rattle.guest_threads.specs.Working.{Working, drawn}
 use Rattle.bodies.proofs.Asking.{looks_at, in_files}
+use Rattle.guest_threads.proofs.Passing.{roomier}
 use Rattle.guest_threads.proofs.Returning.{may_go_back}
 use Rattle.guest_threads.proofs.Telling.{keeps_drawn, look_waits, looked, looked_again, untouched, entered_once, entered_none}
-use Rattle.guest_threads.proofs.Viewing.{by_fields, working_at}
+use Rattle.guest_threads.proofs.Viewing.{by_fields, working_at, works_at}
 use Rattle.guest_threads.proofs.task.Task.look.Goals as goal
 
 pub look_at-told-requires-clause-waiting : goal.look_at-told-requires-clause-waiting
@@ -36,15 +37,10 @@ pub give_back_with-requires-clause-back : goal.give_back_with-requires-clause-ba
 give_back_with-requires-clause-back g c =
     let found = c.kept.result.now.record in
     let once = entered_once c.self.inside.number found.class c.in-Ok-told.decision (c.if-waits_again.ensures.no refl) in
-    record {
-      of_table = search rules;
-      out = search rules;
-      alone = search rules;
-      found = search rules;
-      keeps = keeps_drawn c.in-Ok.ensures.took found (ap (λ (x : Guarded). x.record) c.kept.ensures.record) c.look_at-told.new.class_record.events c.self.inside.number (kind_of c.in-Ok-told.decision) c.new-event.result
-          (c.in-Ok-told.ensures.events ∙ ap (λ (es : List Event). found.events ++ es) once) (c.new-event.ensures ∙ ap (λ (j : Kind). event c.self.inside.number c.args.class j) c.kind.ensures);
-      class = search rules;
-    }
+    may_go_back c.in-Ok.ensures.took _ _ _ (search rules)
+    (keeps_drawn c.in-Ok.ensures.took found (ap (λ (x : Guarded). x.record) c.kept.ensures.record) c.look_at-told.new.class_record.events c.self.inside.number (kind_of c.in-Ok-told.decision) c.new-event.result
+    (c.in-Ok-told.ensures.events ∙ ap (λ (es : List Event). found.events ++ es) once) (c.new-event.ensures ∙ ap (λ (j : Kind). event c.self.inside.number c.args.class j) c.kind.ensures))
+    (search rules)
 
 pub returns-clause-working : goal.returns-clause-working
 returns-clause-working g c = working_at g.B.Bodies.making c.self.view_is (let took = c.in-Ok.ensures.took in
@@ -65,3 +61,12 @@ give_back_untouched-requires g c = record { back = may_go_back c.in-Ok.ensures.t
 
 pub give_back_asleep-requires-clause-back : goal.give_back_asleep-requires-clause-back
 give_back_asleep-requires-clause-back g c = may_go_back c.in-Ok.ensures.took _ _ _ (search rules) (search rules) (search rules)
+
+pub give_up-requires-clause-working : goal.give_up-requires-clause-working
+give_up-requires-clause-working g c =
+    let u = c.in_default.ensures.gave_up in
+    roomier (g.B.Bodies.making c.args.self.now.program) c.args.self.now c.args.work.now c.take_record-taken.new.pass c.args.work.now.slack u.same u.journal u.places
+    (let r = c.requires.working.room in let s = c.in_default.ensures.room in omega arith) c.requires.working
+
+pub take_record-taken-requires-clause-works : goal.take_record-taken-requires-clause-works
+take_record-taken-requires-clause-works g c = works_at g.B.Bodies.making (sym c.self.view_is) c.requires.working

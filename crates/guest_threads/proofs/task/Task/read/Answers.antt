@@ -9,8 +9,9 @@ use Rattle.bodies.specs.declared.does.Does.TheVariants as does
 use Rattle.guest_threads.specs.declared.guarded.Guarded.{Guarded}
 use Rattle.guest_threads.specs.Working.{drawn}
 use Rattle.guest_threads.proofs.Acting.{may_use_found, still_doing, has_come_on, read_was_made, range_of_last}
+use Rattle.guest_threads.proofs.Returning.{may_go_back}
 use Rattle.guest_threads.proofs.Telling.{keeps_drawn, untouched}
-use Rattle.guest_threads.proofs.Viewing.{come_at, doing_at, working_at}
+use Rattle.guest_threads.proofs.Viewing.{come_at, doing_at, working_at, works_at}
 use Rattle.guest_threads.proofs.task.Task.read.Goals as goal
 
 pub read_static-read-requires-clause-open : goal.read_static-read-requires-clause-open
@@ -29,14 +30,9 @@ pub new-event-requires-clause-kind : goal.new-event-requires-clause-kind
 new-event-requires-clause-kind g c = range_of_last _ c.kept.result.now.record.events (event c.self.inside.number _ (kind.Gets c.args.field c.in-Ok-read.value)) c.read_static-read.new.self.events c.in-Ok-read.ensures.events c.is_lawful.ensures.numbers
 
 pub give_back_with-requires-clause-back : goal.give_back_with-requires-clause-back
-give_back_with-requires-clause-back g c = record {
-  of_table = search rules;
-  out = search rules;
-  alone = search rules;
-  found = search rules;
-  keeps = keeps_drawn c.in-Ok.ensures.took c.kept.result.now.record (ap (λ (x : Guarded). x.record) c.kept.ensures.record) c.read_static-read.new.self.events c.self.inside.number (kind.Gets c.args.field c.in-Ok-read.value) c.new-event.result c.in-Ok-read.ensures.events c.new-event.ensures;
-  class = search rules;
-}
+give_back_with-requires-clause-back g c = may_go_back c.in-Ok.ensures.took _ _ _ (search rules)
+    (keeps_drawn c.in-Ok.ensures.took c.kept.result.now.record (ap (λ (x : Guarded). x.record) c.kept.ensures.record) c.read_static-read.new.self.events c.self.inside.number (kind.Gets c.args.field c.in-Ok-read.value) c.new-event.result c.in-Ok-read.ensures.events c.new-event.ensures)
+    (search rules)
 
 pub give_back_with-requires-clause-writes : goal.give_back_with-requires-clause-writes
 give_back_with-requires-clause-writes g c = subst (WritesHeld c.in-Ok.held.taken.record.fields) (sym c.new-event.ensures) tt
@@ -45,3 +41,6 @@ pub returns : goal.returns
 returns g c = working_at g.B.Bodies.making c.self.view_is (read_was_made _ _ c.args.work.now c.forget_last.new.self c.get.new.self c.args.class c.args.field c.in-Ok-read.value c.take_record-taken.new.pass c.give_back_with.new.pass c.in-Ok.held c.in-Ok.held.place c.kept.result.now.record c.read_static-read.new.self.events (doing_at g.B.Bodies.making (sym c.self.view_is) c.requires.doing) c.in-Ok.ensures.took
     (ap (λ (r : Guarded). r.record) c.kept.ensures.record) c.in-Ok-read.ensures.value c.in-Ok-read.ensures.events c.get.ensures c.in-Ok.ensures.took.place c.give_back_with.ensures.back
     (c.give_back_with.ensures.journal ∙ ap (λ (e : Event). drawn c.take_record-taken.new.pass.journal ++ e ∷ []) c.new-event.ensures) c.give_back_with.ensures.room c.requires.room c.forget_last.ensures.standing)
+
+pub take_record-taken-requires-clause-works : goal.take_record-taken-requires-clause-works
+take_record-taken-requires-clause-works g c = works_at g.B.Bodies.making (sym c.self.view_is) c.requires.doing.working

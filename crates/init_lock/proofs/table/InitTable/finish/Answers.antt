@@ -1,4 +1,4 @@
-use Rattle.std.proofs.Common.{rules, ◌≡◌, ℕ, map, sym, ap, ◌∙◌, subst, arith}
+use Rattle.std.proofs.Common.{rules, ◌≡◌, ℕ, Some, length, map, sym, ap, ◌∙◌, subst, arith}
 use Rattle.std.specs.List.{AllByRecursion}
 use Rattle.std.specs.List.Sorted.{IsPermutation}
 use Rattle.std.proofs.lemmas.List.Sorted.{length_permutation}
@@ -59,3 +59,9 @@ returns-clause-follows g c =
     let all = subst (λ n. IsPermutation (numbers 0 n) (map (λ p. p.number) c.args.passes.items)) (sym threads) c.requires.passes in
     let end = closes g.R.Keeps.kept g.R.Keeps.may_draw g.R.Keeps.follows g.R.Keeps.settles c.self.inside.table.shared.key c.gather.new.seat.id c.args.passes.items (slots_items c.close_with-closed.result.words) (slots_items c.close_with-closed.result.slots) last all c.requires.away in
     follows_all g.R.Keeps.kept g.R.Keeps.may_draw g.R.Keeps.follows end.log end.now c.args.passes.items c.unload.new.records.items (slots_items c.close_with-closed.result.slots) c.unload.ensures.records end.shelved end.passes
+
+pub returns-clause-places : goal.returns-clause-places
+returns-clause-places g c =
+    let counts = sym (slots_counts c.close_with-closed.result.slots).0 ∙ c.close_with-closed.ensures.counts.1 in
+    let places = counts ∙ (c.self.invariant.1 ∙ ap (λ z. z.places) c.self.view_is) in
+    c.unload.new.records.ok.0 ∙ (sym (length_map Some c.unload.new.records.items) ∙ (ap length c.unload.ensures.records ∙ places))

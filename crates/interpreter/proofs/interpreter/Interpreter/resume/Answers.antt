@@ -9,35 +9,35 @@ use Rattle.interpreter.proofs.interpreter.Interpreter.resume.Goals as goal
 not_none : {A P : Type 0} (x : A) → Some x ≡ None → P
 not_none x e = cc
 
-pub returns-then-not-branch-clause-row : goal.returns-then-not-branch-clause-row
-returns-then-not-branch-clause-row c _ = idles_then c.args.program.now c.args.self.now c.args.class c.in-Some.op c.in_ok-waits_for.field-0 c.requires c.in-Some.ensures c.in_ok-waits_for.ensures c.if-not-branch.true
+pub returns-in-Ok-false-clause-row : goal.returns-in-Ok-false-clause-row
+returns-in-Ok-false-clause-row c _ = idles_then c.args.program.now c.args.self.now c.args.class c.in-Some.op c.in-Ok-false.field-0 c.requires c.in-Some.ensures c.in-Ok-false.ensures c.in-Ok-false.field-0-test
 
 pub make-requires-clause-ready : goal.make-requires-clause-ready
-make-requires-clause-ready c = (still_waits c.args.program.now c.args.self.now.frames c.in-Some.op (op.New c.in-New.wanted) c.args.class c.in_ok-waits_for.field-0 c.in_ok-waits_for.ensures c.if-not-branch.false c.in-New.is).0
+make-requires-clause-ready c = (still_waits c.args.program.now c.args.self.now.frames c.in-Some.op (op.New c.in-New.wanted) c.args.class c.in-Ok-true.field-0 c.in-Ok-true.ensures c.in-Ok-true.field-0-test c.in-New.is).0
 
 pub call_static-requires-clause-ready : goal.call_static-requires-clause-ready
-call_static-requires-clause-ready c = (still_waits c.args.program.now c.args.self.now.frames c.in-Some.op (op.InvokeStatic c.in-InvokeStatic.wanted c.in-InvokeStatic.method) c.args.class c.in_ok-waits_for.field-0 c.in_ok-waits_for.ensures c.if-not-branch.false c.in-InvokeStatic.is).0
+call_static-requires-clause-ready c = (still_waits c.args.program.now c.args.self.now.frames c.in-Some.op (op.InvokeStatic c.in-InvokeStatic.wanted c.in-InvokeStatic.method) c.args.class c.in-Ok-true.field-0 c.in-Ok-true.ensures c.in-Ok-true.field-0-test c.in-InvokeStatic.is).0
 
 pub returns-in-GetStatic-clause-says : goal.returns-in-GetStatic-clause-says
 returns-in-GetStatic-clause-says c = gets_then c.args.program.now c.args.self.now c.get_static.new.self c.get_static.result c.in-Some.op c.args.class c.in-GetStatic.field-0 c.in-GetStatic.field c.requires c.in-Some.ensures c.in-GetStatic.is
-    (still_waits c.args.program.now c.args.self.now.frames c.in-Some.op (op.GetStatic c.in-GetStatic.field-0 c.in-GetStatic.field) c.args.class c.in_ok-waits_for.field-0 c.in_ok-waits_for.ensures c.if-not-branch.false c.in-GetStatic.is)
+    (still_waits c.args.program.now c.args.self.now.frames c.in-Some.op (op.GetStatic c.in-GetStatic.field-0 c.in-GetStatic.field) c.args.class c.in-Ok-true.field-0 c.in-Ok-true.ensures c.in-Ok-true.field-0-test c.in-GetStatic.is)
     c.get_static.ensures.does c.get_static.ensures.same
 
 pub returns-in-GetStatic-clause-sayable : goal.returns-in-GetStatic-clause-sayable
 returns-in-GetStatic-clause-sayable c =
-    let waits = still_waits c.args.program.now c.args.self.now.frames c.in-Some.op (op.GetStatic c.in-GetStatic.field-0 c.in-GetStatic.field) c.args.class c.in_ok-waits_for.field-0 c.in_ok-waits_for.ensures c.if-not-branch.false c.in-GetStatic.is in
+    let waits = still_waits c.args.program.now c.args.self.now.frames c.in-Some.op (op.GetStatic c.in-GetStatic.field-0 c.in-GetStatic.field) c.args.class c.in-Ok-true.field-0 c.in-Ok-true.ensures c.in-Ok-true.field-0-test c.in-GetStatic.is in
     subst (λ (d : Does). IsSayable c.args.program.now c.args.self.now.phase d) (sym c.get_static.ensures.does)
     (gets_said c.args.program.now c.args.self.now.frames c.args.self.now.phase c.args.class c.in-GetStatic.field-0 c.in-GetStatic.field c.is_linked.ensures.linked c.instructions_name_what_is_there.ensures
     (sym (number_of c.args.class c.in-GetStatic.field-0 waits)) c.requires (subst (IsAtOp c.args.program.now c.args.self.now.frames) c.in-GetStatic.is c.in-Some.ensures))
 
 pub returns-in-PutStatic-clause-says : goal.returns-in-PutStatic-clause-says
 returns-in-PutStatic-clause-says c = puts_then c.args.program.now c.args.self.now c.put_static.new.self c.put_static.result c.in-Some.op c.args.class c.in-PutStatic.field-0 c.in-PutStatic.field c.requires c.in-Some.ensures c.in-PutStatic.is
-    (still_waits c.args.program.now c.args.self.now.frames c.in-Some.op (op.PutStatic c.in-PutStatic.field-0 c.in-PutStatic.field) c.args.class c.in_ok-waits_for.field-0 c.in_ok-waits_for.ensures c.if-not-branch.false c.in-PutStatic.is)
+    (still_waits c.args.program.now c.args.self.now.frames c.in-Some.op (op.PutStatic c.in-PutStatic.field-0 c.in-PutStatic.field) c.args.class c.in-Ok-true.field-0 c.in-Ok-true.ensures c.in-Ok-true.field-0-test c.in-PutStatic.is)
     c.put_static.ensures.does c.put_static.ensures.taken
 
 pub returns-in-PutStatic-clause-sayable : goal.returns-in-PutStatic-clause-sayable
 returns-in-PutStatic-clause-sayable c =
-    let waits = still_waits c.args.program.now c.args.self.now.frames c.in-Some.op (op.PutStatic c.in-PutStatic.field-0 c.in-PutStatic.field) c.args.class c.in_ok-waits_for.field-0 c.in_ok-waits_for.ensures c.if-not-branch.false c.in-PutStatic.is in
+    let waits = still_waits c.args.program.now c.args.self.now.frames c.in-Some.op (op.PutStatic c.in-PutStatic.field-0 c.in-PutStatic.field) c.args.class c.in-Ok-true.field-0 c.in-Ok-true.ensures c.in-Ok-true.field-0-test c.in-PutStatic.is in
     subst (λ (d : Does). IsSayable c.args.program.now c.args.self.now.phase d) (sym c.put_static.ensures.does)
     (puts_said c.args.program.now c.args.self.now.frames c.args.self.now.phase c.args.class c.in-PutStatic.field-0 c.in-PutStatic.field c.instructions_name_what_is_there.ensures
     (sym (number_of c.args.class c.in-PutStatic.field-0 waits.0)) c.requires (subst (IsAtOp c.args.program.now c.args.self.now.frames) c.in-PutStatic.is c.in-Some.ensures) waits.1)
@@ -46,7 +46,7 @@ pub make-requires-clause-at : goal.make-requires-clause-at
 make-requires-clause-at c = subst (IsAtOp c.args.program.now c.args.self.now.frames) c.in-New.is c.in-Some.ensures
 
 pub make-requires-clause-room : goal.make-requires-clause-room
-make-requires-clause-room c = (still_waits c.args.program.now c.args.self.now.frames c.in-Some.op (op.New c.in-New.wanted) c.args.class c.in_ok-waits_for.field-0 c.in_ok-waits_for.ensures c.if-not-branch.false c.in-New.is).1
+make-requires-clause-room c = (still_waits c.args.program.now c.args.self.now.frames c.in-Some.op (op.New c.in-New.wanted) c.args.class c.in-Ok-true.field-0 c.in-Ok-true.ensures c.in-Ok-true.field-0-test c.in-New.is).1
 
 pub call_static-requires-clause-at : goal.call_static-requires-clause-at
 call_static-requires-clause-at c = subst (IsAtOp c.args.program.now c.args.self.now.frames) c.in-InvokeStatic.is c.in-Some.ensures
@@ -57,8 +57,8 @@ returns-in-GetStatic-clause-row c = not_none c.get_static.result
 pub returns-in-PutStatic-clause-row : goal.returns-in-PutStatic-clause-row
 returns-in-PutStatic-clause-row c = not_none c.put_static.result
 
-pub returns-in_ok-make-in-New-clause-row : goal.returns-in_ok-make-in-New-clause-row
-returns-in_ok-make-in-New-clause-row c _ = c.in_ok-make-in-New.ensures.row
+pub returns-in-Ok-clause-row : goal.returns-in-Ok-clause-row
+returns-in-Ok-clause-row c _ = c.in-Ok.ensures.row
 
-pub returns-in_ok-call_static-in-InvokeStatic-clause-row : goal.returns-in_ok-call_static-in-InvokeStatic-clause-row
-returns-in_ok-call_static-in-InvokeStatic-clause-row c _ = c.in_ok-call_static-in-InvokeStatic.ensures.row
+pub returns-in-Ok-call_static-clause-row : goal.returns-in-Ok-call_static-clause-row
+returns-in-Ok-call_static-clause-row c _ = c.in-Ok-call_static.ensures.row

@@ -1,17 +1,23 @@
-use Rattle.std.proofs.Common.{rules}
-use Rattle.interpreter.specs.Rows.{Row}
+use Rattle.bodies.specs.declared.does.Does.TheVariants.{Ended}
+use Rattle.trace.specs.declared.report.Limit.TheVariants.{Memory}
 use Rattle.interpreter.proofs.Running.{no_rows, then_row_of}
-use Rattle.interpreter.proofs.TakingTurns.{then_turn}
+use Rattle.interpreter.proofs.Saying.{lacks_memory}
+use Rattle.interpreter.proofs.TakingTurns.{says_in_turn, then_turn}
 use Rattle.interpreter.proofs.interpreter.Interpreter.say.Goals as goal
 
 pub returns-in-Ok-None-clause-says : goal.returns-in-Ok-None-clause-says
 returns-in-Ok-None-clause-says c =
-    let row : Row c.args.program.now c.args.self.now c.resume.new.self = search rules in
     then_turn c.args.program.now c.args.self.now c.resume.new.self c.say_running.new.self c.say_running.result
-    (then_row_of c.args.program.now c.args.self.now c.args.self.now c.resume.new.self (no_rows c.args.program.now c.args.self.now) row) c.say_running.ensures.says
+    (then_row_of c.args.program.now c.args.self.now c.args.self.now c.resume.new.self (no_rows c.args.program.now c.args.self.now) (c.in-Ok-None.ensures.row c.in-Ok-None.field-0-is)) c.say_running.ensures.says
 
 pub returns-in-Ok-None-clause-sayable : goal.returns-in-Ok-None-clause-sayable
 returns-in-Ok-None-clause-sayable c = c.say_running.ensures.sayable c.args.self.now.phase
+
+pub returns-in-Ok-Some-clause-says : goal.returns-in-Ok-Some-clause-says
+returns-in-Ok-Some-clause-says c = says_in_turn c.args.program.now c.args.self.now c.resume.new.self c.in-Ok-Some.does (rw c.in-Ok-Some.field-0-is at c.in-Ok-Some.ensures.says)
+
+pub returns-in-Err-clause-says : goal.returns-in-Err-clause-says
+returns-in-Err-clause-says c = rw c.in-Err.ensures.err (says_in_turn c.args.program.now c.args.self.now c.args.self.now (Ended Memory) (lacks_memory c.args.program.now c.args.self.now))
 
 pub returns-in_default : goal.returns-in_default
 returns-in_default c = record {

@@ -1,29 +1,5 @@
-use Rattle.std.proofs.Common.{◌≡◌, Result, Ok, Err, Option, Some, None, sym, subst}
-use Rattle.std.specs.Prelude.{IfOk, IfSome, OnErr}
-use Rattle.hierarchy.specs.LinkedProgram.{LinkedProgram}
-use Rattle.bodies.specs.declared.does.Does.{Does}
-use Rattle.interpreter.specs.declared.interpreter.Interpreter.{Interpreter}
-use Rattle.interpreter.specs.Rows.{Row}
-use Rattle.interpreter.specs.Says.{Says}
-use Rattle.interpreter.specs.SharedRun.{Amid, Meets}
-use Rattle.interpreter.proofs.Sharing.{meets_itself, meets_on}
+use Rattle.interpreter.proofs.Sharing.{amid_err, amid_less, amid_row, amid_says, meets_itself, met}
 use Rattle.interpreter.proofs.shared.SharedInterpreter.go_on_from.Goals as goal
-
-met : (s w u : Interpreter) → Meets s w → u ≡ w → Meets s u
-met s w u h same = subst (λ (x : Interpreter). Meets s x) (sym same) h
-
-amid_row : {E : Type 0} (p : LinkedProgram) (s u v z : Interpreter) (r : Result (Option Does) E) → Meets s u → Meets v z → IfOk r (λ d. d ≡ None → Row p u v) → IfOk r (λ d. d ≡ None → Amid (Row p) s z)
-amid_row p s u v z (Ok d) before after h = λ none. record { met = u; left = v; meets = before; step = h none; leaves = after }
-amid_row p s u v z (Err e) before after h = tt
-
-amid_says : {E : Type 0} (p : LinkedProgram) (s u v z : Interpreter) (r : Result (Option Does) E) → Meets s u → Meets v z → IfOk r (λ d. IfSome d (λ x. Says p u x v)) → IfOk r (λ d. IfSome d (λ x. Amid (λ a b. Says p a x b) s z))
-amid_says p s u v z (Ok None) before after h = tt
-amid_says p s u v z (Ok (Some d)) before after h = record { met = u; left = v; meets = before; step = h; leaves = after }
-amid_says p s u v z (Err e) before after h = tt
-
-amid_err : {T E : Type 0} (s u v z : Interpreter) (r : Result T E) → Meets s u → Meets v z → OnErr r (v ≡ u) → OnErr r (Meets s z)
-amid_err s u v z (Ok x) before after h = tt
-amid_err s u v z (Err e) before after h = meets_on s v z (met s u v before h) after
 
 pub returns-then-goes_on_alone-clause-row : goal.returns-then-goes_on_alone-clause-row
 returns-then-goes_on_alone-clause-row g c = amid_row c.args.program.now c.args.self.now c.self.inside.inside c.go_on_from.new.self c.go_on_from.new.self c.go_on_from.result (met c.args.self.now c.args.self.now c.self.inside.inside (meets_itself c.args.self.now) c.self.view_is) (meets_itself c.go_on_from.new.self) c.go_on_from.ensures.row
@@ -42,3 +18,15 @@ returns-clause-says g c = amid_says c.args.program.now c.args.self.now c.self-2.
 
 pub returns-clause-err : goal.returns-clause-err
 returns-clause-err g c = amid_err c.args.self.now c.self-2.inside.inside c.go_on_from-done.new.self c.give_back.new.self c.go_on_from-done.result (met c.args.self.now c.hold-objects.new.self c.self-2.inside.inside c.hold-objects.ensures c.self-2.view_is) c.give_back.ensures c.go_on_from-done.ensures.err
+
+pub returns-then-goes_on_alone-clause-less : goal.returns-then-goes_on_alone-clause-less
+returns-then-goes_on_alone-clause-less g c = amid_less c.args.self.now c.self.inside.inside c.go_on_from.new.self c.go_on_from.new.self c.go_on_from.result (met c.args.self.now c.args.self.now c.self.inside.inside (meets_itself c.args.self.now) c.self.view_is) (meets_itself c.go_on_from.new.self) c.go_on_from.ensures.less
+
+pub returns-then-goes_on_alone-clause-sayable : goal.returns-then-goes_on_alone-clause-sayable
+returns-then-goes_on_alone-clause-sayable g c = c.go_on_from.ensures.sayable
+
+pub returns-clause-less : goal.returns-clause-less
+returns-clause-less g c = amid_less c.args.self.now c.self-2.inside.inside c.go_on_from-done.new.self c.give_back.new.self c.go_on_from-done.result (met c.args.self.now c.hold-objects.new.self c.self-2.inside.inside c.hold-objects.ensures c.self-2.view_is) c.give_back.ensures c.go_on_from-done.ensures.less
+
+pub returns-clause-sayable : goal.returns-clause-sayable
+returns-clause-sayable g c = c.go_on_from-done.ensures.sayable

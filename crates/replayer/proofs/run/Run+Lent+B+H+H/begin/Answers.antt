@@ -1,11 +1,11 @@
-use Rattle.std.proofs.Common.{rules, ◌≡◌, ◌<◌, ◌∷◌, [], length, map, inl, ap, arith, ◌∙◌, sym}
-use Rattle.std.proofs.lemmas.Grind.{common_steps}
+use Rattle.std.proofs.Common.{rules, ◌≡◌, ◌<◌, ◌∷◌, [], length, map, inl, ap, arith, ◌∙◌, refl, subst, sym}
 use Rattle.std.proofs.lemmas.List.{length-map}
 use Rattle.init_core.specs.ProcedureWord.{IsOfFiles}
 use Rattle.bodies.specs.Lending.{lent_at_start, lent_bodies}
 use Rattle.replayer.proofs.Followed.{all_at}
-use Rattle.replayer.proofs.Fresh.{one_begins}
+use Rattle.replayer.proofs.Fresh.{HaveBegun, all_begun, none_fresh, one_begins}
 use Rattle.replayer.proofs.Others.{there_of}
+use Rattle.replayer.proofs.Stepping.{not_both}
 use Rattle.replayer.proofs.Turned.{fresh_in_turn}
 use Rattle.replayer.proofs.run.Run+Lent+B+H+H.begin.Goals as goal
 
@@ -37,19 +37,33 @@ returns g c =
     let none : length c.threads.bodies-iterator.rest.items ≡ 0 = (let a = c.in-None.ensures.steps.0 in let o = c.threads.bodies-iterator.rest.ok in search rules) in
     let mapped : length (map (lent_at_start {H = g.row.H.Denot}) c.threads.bodies-iterator.rest.items) ≡ length c.threads.bodies-iterator.rest.items = length-map c.threads.bodies-iterator.rest.items (lent_at_start {H = g.row.H.Denot}) in
     let begun = c.threads.invariant in
-    let all = begun.3 in
+    let from : c.into_iter-bodies-iterator.result.rest.items ≡ c.args.bodies.items = search rules in
+    let all = all_begun p (lent_bodies g.B.Lends.lending (g.B.Bodies.making p)) (λ s. s.uses ≡ []) c.in_ok-log.log c.args.mains.now (map lent_at_start c.into_iter-bodies-iterator.result.rest.items) c.threads.threads.items (map lent_at_start c.threads.bodies-iterator.rest.items) begun (mapped ∙ none) in
     record {
       going = record {
         log = c.in_ok-log.ensures.log;
-        count = c.in_ok-log.ensures.threads ∙ omega (arith, none, mapped, all);
+        count = c.in_ok-log.ensures.threads ∙ sym all.2;
         numbers = λ t other low. (begun.0 t other low).number;
         threads = λ t other low. there_of p (lent_bodies g.B.Lends.lending (g.B.Bodies.making p)) c.in_ok-log.log _ (begun.0 t other low).done (inl (begun.0 t other low).going);
       };
       in_turn = fresh_in_turn _ (c.new-2.ensures.state ∙ sym c.new-2.ensures.first) c.new-2.ensures.turns (λ t other low. (begun.0 t other low).bodies);
-      fresh = search rules;
+      fresh = λ t other low. ((λ y. not_both (begun.0 t other low).gave_up y), λ x. absurd (let no = x.1 in omega (arith, no)));
       events = c.in_ok-log.ensures.events;
       turns = c.new-2.ensures.turns;
-      mains = (let is = begun.1 in grind (arith, common_steps));
-      starts = (let is = begun.2 in grind (arith, common_steps));
+      mains = all.0;
+      starts = all.1 ∙ ap (map lent_at_start) from;
       first = c.new-2.ensures.first;
     }
+
+pub threads-init : goal.threads-init
+threads-init g c =
+    let p = c.args.program.now in
+    let M = lent_bodies g.B.Lends.lending (g.B.Bodies.making p) in
+    let items = c.into_iter-bodies-iterator.result.rest.items in
+    let starts = map (lent_at_start {H = g.row.H.Denot}) items in
+    let mapped : length starts ≡ length items = length-map items (lent_at_start {H = g.row.H.Denot}) in
+    let from : items ≡ c.args.bodies.items = search rules in
+    let same = ap length from in
+    let count = c.requires.count in
+    let all = c.args.bodies.ok.0 in
+    subst (λ ts. HaveBegun p M (λ s. s.uses ≡ []) c.in_ok-log.log c.args.mains.now starts ts starts) (sym c.new-threads.ensures.items) (none_fresh p M (λ s. s.uses ≡ []) c.in_ok-log.log, refl, refl, omega (arith, mapped, same, count, all))

@@ -64,3 +64,20 @@ returns-in-Ended-clause-follows g c =
     let found_so = subst (λ f. IsFound p M (HasUsed f.value) (WaitsAfter g.B.Lends.lending (g.B.Bodies.making p) f.value) c.rounds.self r c.in_ok-go_lowest.field-0) c.rounds.invariant.first c.in_ok-go_lowest.ensures.found in
     let over : IsFound p M U W c.rounds.self r found.Ended = subst (IsFound p M U W c.rounds.self r) c.in-Ended.is found_so in
     (c.rounds.invariant.leads.0, leads_on p M U W c.rounds.invariant.leads.1 (over.0 c.rounds.invariant.leads.0))
+
+pub go_lowest-requires-clause-going : goal.go_lowest-requires-clause-going
+go_lowest-requires-clause-going g c = c.rounds.invariant.going
+
+pub go_lowest-requires-clause-in_turn : goal.go_lowest-requires-clause-in_turn
+go_lowest-requires-clause-in_turn g c = c.rounds.invariant.in_turn
+
+pub give_up-requires-clause-going : goal.give_up-requires-clause-going
+give_up-requires-clause-going g c = c.in_ok-go_lowest.ensures.still.going
+
+pub give_up-requires-clause-in_turn : goal.give_up-requires-clause-in_turn
+give_up-requires-clause-in_turn g c = c.in_ok-go_lowest.ensures.still.in_turn
+
+pub returns-in-Ended-clause-still : goal.returns-in-Ended-clause-still
+returns-in-Ended-clause-still g c =
+    let on = c.in_ok-go_lowest.ensures.still in
+    record { going = on.going; in_turn = on.in_turn; first = on.first ∙ c.rounds.invariant.first }

@@ -1,12 +1,13 @@
-use Rattle.std.proofs.Common.{ℕ, refl, subst, ◌∙◌}
+use Rattle.std.proofs.Common.{ℕ, [], append-nil, ap, refl, subst, sym, ◌∙◌}
 use Rattle.bodies.specs.Lending.{lent_bodies}
 use Rattle.replayer.specs.declared.thread.Turn.TheVariants as turn
+use Rattle.replayer.specs.AllGoing.{IsThere}
 use Rattle.replayer.specs.Going.{TurnsTo}
 use Rattle.replayer.specs.OrderedRun.{HasUsed, WaitsAfter, WaitsAt}
 use Rattle.replayer.specs.Turning.{HasTurned}
-use Rattle.replayer.proofs.Replaced.{IsReplaced, came, ended_now, none_else, number_is, went_on}
-use Rattle.replayer.proofs.Others.{turns_by}
-use Rattle.replayer.proofs.Turned.{has_used, replaced_in_turn, shared_now, then_by}
+use Rattle.replayer.proofs.Replaced.{IsReplaced, all_going, came, ended_now, none_else, now_there, number_is, others_same, still_there, went_on}
+use Rattle.replayer.proofs.Others.{rests_of, turns_by}
+use Rattle.replayer.proofs.Turned.{has_used, no_turn, replaced_in_turn, shared_now, then_by}
 use Rattle.replayer.proofs.run.Run+Lent+B+H+H.go.Goals as goal
 
 pub returns-in-Ended : goal.returns-in-Ended
@@ -61,3 +62,31 @@ returns-in_default-2 g c =
     (λ in_body waits. (used, subst (λ m. WaitsAt g.B.Lends.lending (g.B.Bodies.making p) m in_body c.advance.new.self.bodies) (shared_now c.args.self.now _ turned.first in_turn) waits))
     c.in_ok-turn.ensures.turn) c.requires.going in
     record { alone = record { still = record { going = x.going; in_turn = in_turn; first = turned.first }; turned = record { turned = turned.turned; own = turned.own; turns = turned.turns }; others = x.others }; gone = x.gone; there = x.there }
+
+pub advance-requires : goal.advance-requires
+advance-requires g c =
+    let p = c.args.program.now in
+    let M = lent_bodies g.B.Lends.lending (g.B.Bodies.making p) in
+    let w = c.index_mut-thread.result.now in
+    let there : IsThere p M c.args.self.now.log w = subst (λ v. IsThere p M c.args.self.now.log v) (sym c.index_mut-thread.ensures.value) (c.requires.going.threads c.args.number w c.requires.number) in
+    rests_of p M c.args.self.now.log w (none_else w.done (λ o q. c.in_default.not-Some o q)) there
+
+pub returns-in-Some : goal.returns-in-Some
+returns-in-Some g c =
+    let p = c.args.program.now in
+    let M = lent_bodies g.B.Lends.lending (g.B.Bodies.making p) in
+    let U = HasUsed c.args.self.now.shared.first.value in
+    let W = WaitsAfter g.B.Lends.lending (g.B.Bodies.making p) c.args.self.now.shared.first.value in
+    let r = c.args.self.now in
+    let w = c.index_mut-thread.result.now in
+    let there : IsThere p M r.log w = subst (λ v. IsThere p M r.log v) (sym c.index_mut-thread.ensures.value) (c.requires.going.threads c.args.number w c.requires.number) in
+    let h : IsReplaced p M U W c.args.number r _ w w = record { within = c.requires.number; was = c.index_mut-thread.ensures.value; now = refl; number = refl; main = refl; start = refl } in
+    record {
+      alone = record {
+        still = record { going = all_going p M U W h c.requires.going.log refl (λ v n a. a) there c.requires.going; in_turn = replaced_in_turn p M U W h (no_turn c.args.number r.shared w.bodies.uses) c.requires.in_turn; first = refl };
+        turned = record { turned = []; own = tt; turns = sym (append-nil r.shared.turns.items) };
+        others = others_same p M U W h;
+      };
+      gone = (refl, refl, λ other. ap (λ v. v.done) (now_there p M U W h other) ∙ c.in-Some.is);
+      there = still_there p M U W h refl (λ o q. q);
+    }

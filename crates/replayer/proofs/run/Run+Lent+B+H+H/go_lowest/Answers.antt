@@ -1,4 +1,4 @@
-use Rattle.std.proofs.Common.{rules, ◌<◌, ◌≤◌, ◌+◌, [], Some, length, sym, subst, ⊎_elim, ◌∙◌, arith, refl, ap}
+use Rattle.std.proofs.Common.{rules, ◌<◌, ◌≤◌, ◌+◌, [], None, Some, length, sym, subst, ⊎_elim, ◌∙◌, arith, refl, ap}
 use Rattle.std.specs.Option.{option_or}
 use Rattle.bodies.specs.Lending.{lent_bodies}
 use Rattle.replayer.specs.declared.thread.Turn.TheVariants as turn
@@ -90,3 +90,30 @@ returns-in-Some-clause-found g c =
     let within : c.threads.number ≤ length c.threads.self.threads.items = search rules in
     let under = x.0 in
     (c.threads.invariant.leads, omega (arith, under, within), x.1, (λ u other low. c.threads.invariant.passed u other (omega (arith, low, end))), λ u other low below. x.2 u other below)
+
+pub go-requires-clause-going : goal.go-requires-clause-going
+go-requires-clause-going g c = c.threads.invariant.going
+
+pub go-requires-clause-in_turn : goal.go-requires-clause-in_turn
+go-requires-clause-in_turn g c = c.threads.invariant.in_turn
+
+pub returns-in-Event-clause-still : goal.returns-in-Event-clause-still
+returns-in-Event-clause-still g c =
+    let on = c.in_ok-go.ensures.alone.still in
+    record { going = on.going; in_turn = on.in_turn; first = on.first ∙ c.threads.invariant.first }
+
+pub returns-in-Some-clause-still : goal.returns-in-Some-clause-still
+returns-in-Some-clause-still g c = record { going = c.threads.invariant.going; in_turn = c.threads.invariant.in_turn; first = c.threads.invariant.first }
+
+pub returns-in-None-clause-still : goal.returns-in-None-clause-still
+returns-in-None-clause-still g c = record { going = c.threads.invariant.going; in_turn = c.threads.invariant.in_turn; first = c.threads.invariant.first }
+
+pub returns-in-None-clause-found : goal.returns-in-None-clause-found
+returns-in-None-clause-found g c =
+    let p = c.args.program.now in
+    let M = lent_bodies g.B.Lends.lending (g.B.Bodies.making p) in
+    let U = HasUsed c.args.self.now.shared.first.value in
+    let W = WaitsAfter g.B.Lends.lending (g.B.Bodies.making p) c.args.self.now.shared.first.value in
+    let done : IsLowestHeld p M U W c.threads.number c.threads.self None = subst (IsLowestHeld p M U W c.threads.number c.threads.self) c.in-None.is c.threads.invariant.held in
+    let end : length c.threads.self.threads.items ≤ c.threads.number = search rules in
+    (c.threads.invariant.leads, λ u other low. done u other (omega (arith, low, end)))

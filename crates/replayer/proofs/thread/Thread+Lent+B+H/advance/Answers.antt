@@ -1,10 +1,10 @@
-use Rattle.std.proofs.Common.{rules, ◌≡◌, subst, ◌∙◌}
+use Rattle.std.proofs.Common.{rules, ◌≡◌, refl, subst, ◌∙◌}
 use Rattle.bodies.specs.Lending.{lent_bodies}
 use Rattle.replayer.specs.declared.thread.Turn.TheVariants as turn
 use Rattle.replayer.specs.Going.{TurnsTo}
 use Rattle.replayer.specs.OrderedRun.{WaitsAt}
 use Rattle.replayer.proofs.Acting.{same_then, turns_from}
-use Rattle.replayer.proofs.Turned.{then_by}
+use Rattle.replayer.proofs.Turned.{no_turn, then_by}
 use Rattle.replayer.proofs.thread.Thread+Lent+B+H.advance.Goals as goal
 
 pub returns-then-eq-clause-turn : goal.returns-then-eq-clause-turn
@@ -46,3 +46,16 @@ returns-else-has_gone_on-clause-turned g c = then_by c.turns.invariant.same.numb
 
 pub returns-in_err-turn-clause-same : goal.returns-in_err-turn-clause-same
 returns-in_err-turn-clause-same g c = same_then c.turns.invariant.same c.turn.ensures.same
+
+pub turns-init : goal.turns-init
+turns-init g c =
+    record {
+      rests = c.requires;
+      log = refl;
+      same = record { number = refl; main = refl; start = refl; gave_up = refl; done = refl };
+      turned = no_turn c.args.self.now.number c.args.shared.now c.args.self.now.bodies.uses;
+      still = λ q. refl;
+    }
+
+pub turn-requires : goal.turn-requires
+turn-requires g c = c.turns.invariant.rests
