@@ -23,7 +23,9 @@ class Store:
     def key(self, crate, edits):
         """A sum of all that the crate's results rest on."""
         found = hashlib.sha256(f"{kit.version()} {[self.sum_of(it) for it in [*crate.below(), crate]]}".encode())
-        files = [*edits, f"{self.root}/HANDLES", *sorted(f"{HERE}/{it}" for it in os.listdir(HERE) if it.endswith(".py"))]
+        # (build.py is no part of the gate)
+        own = sorted(it for it in os.listdir(HERE) if it.endswith(".py") and it != "build.py")
+        files = [*edits, f"{self.root}/HANDLES", *(f"{HERE}/{it}" for it in own)]
         for file in files:
             with open(file, "rb") as it:
                 found.update(repr((os.path.basename(file), it.read())).encode())
