@@ -22,7 +22,7 @@ FAILED = 70
 # in a model of the build that was given measured times: no processor is idle before all that cli waits for ends, at about the same time.
 JOBS = {"sequence": 3, "jasmin_text": 3, "hierarchy": 3, "statics": 3, "cli": 4}
 JOBS |= dict.fromkeys(["texts", "descriptors", "command_line", "init_lock", "init_world", "trace_reader", "jinit"], 1)
-LATER = {"texts", "command_line", "init_lock", "init_world", "trace_reader", "judge", "replayer"}
+LATER = {"texts", "command_line", "init_lock", "init_world", "trace_reader"}
 began = time.time()
 
 
