@@ -18,7 +18,7 @@ use crate::report::Report;
 use crate::text::Text;
 use crate::words::{is_of_word, push_word_answer};
 use jasmin_reader::read_class;
-use jasmin_text::write_class;
+use jasmin_writer::write_class;
 use std::alloc::Global;
 
 /// What stands around the files, if anything does, and around the canonical texts; and the canonical text of a case, where that is

@@ -7,7 +7,7 @@ use std::error::Error;
 use std::fmt;
 
 /// Why a text is no descriptor: the first fault that is met from the left.
-#[derive(Clone, Copy, Debug, PartialEq, Eq)]
+#[derive(Clone, Copy, Debug)]
 pub enum DescriptorFault {
     /// The text is empty.
     Empty,

@@ -3,7 +3,7 @@
 use hierarchy::ClassId;
 
 /// A thrown object: its reference, and its class.
-#[derive(Clone, Copy, PartialEq, Eq)]
+#[derive(Clone, Copy)]
 pub struct Thrown {
     /// The reference to the object.
     pub reference: u32,

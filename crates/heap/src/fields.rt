@@ -22,7 +22,7 @@ fn put_cell(made: &mut Vec<HeapObject>, place: usize, cell: usize, value: Value)
 }
 
 impl Heap {
-    /// What a field of this type holds that is in this cell of an object, as [`hierarchy::Program::field_cell`] gives it: its default
+    /// What a field of this type holds that is in this cell of an object (`hierarchy::fields_keep_their_cells` says which it is): its default
     /// where it was never written, none where the reference refers to no object with such a cell (JVMS SE 8 6.5 getfield). Takes no
     /// memory.
     pub fn field(

@@ -7,7 +7,7 @@ use std::fmt;
 /// Why class texts can't be linked (JVMS SE 8 5.3.5, 5.4).
 ///
 /// A kind prints as the code by which the program names it, `H1` to `H9`.
-#[derive(Clone, Copy, Debug, PartialEq, Eq)]
+#[derive(Clone, Copy, Debug)]
 pub enum LinkFaultKind {
     /// `H1`: two classes have one name. Told of the second of them.
     RepeatedName,

@@ -1,9 +1,8 @@
 //! The cells of objects.
 
-ghost use Rattle.std.specs.Prelude.{◌≡◌, ◌≤◌, filter, length, slice_get, IfSome, Some};
-ghost use Rattle.hierarchy.specs.Objects.{is_instance_field, object_fields, cells_in, field_cell};
+ghost use Rattle.std.specs.Prelude.{◌≡◌, ◌≤◌, filter, length};
+ghost use Rattle.hierarchy.specs.Objects.{is_instance_field, object_fields, cells_in};
 ghost use Rattle.hierarchy.specs.Ancestry.{superclass_of};
-ghost use Rattle.hierarchy.specs.declared.fields.FieldId.TheVariants.{Declared};
 
 use crate::class::ClassId;
 use crate::program::Program;
@@ -45,28 +44,5 @@ impl Program {
             Some(superclass) => self.object_cells(superclass),
             None => 0,
         }
-    }
-
-    /// The cell of a field: the number of those before it.
-    fn counted_cell(&self, class: ClassId, place: usize) -> Option<usize>
-        ensures { result ≡ field_cell self.now class place }
-    {
-        let fields = self.class(class)?.fields.as_slice();
-        let field = fields.get(place)?;
-        if field.access.is_static {
-            return None;
-        }
-        Some(self.cells_above(class) + instance_count(&fields[..place]))
-    }
-
-    /// The cell of a field in each object of the class that declares it and of its subclasses, from 0: the fields of the
-    /// topmost class come first, each class's in file order. The field is given by its place among all fields of its
-    /// class, as in [`crate::FieldId::Declared`]; a static field has no cell. Takes no memory.
-    pub fn field_cell(&self, class: ClassId, place: usize) -> Option<usize>
-        ensures cell { result ≡ field_cell self.now class place }
-        ensures holds { IfSome result (λ cell. slice_get (object_fields self.now class) cell ≡ Some (Declared class place)) }
-    {
-        self.is_linked();
-        self.counted_cell(class, place)
     }
 }

@@ -7,6 +7,8 @@ use Rattle.hierarchy.specs.declared.built_in.BuiltIn.TheVariants.{NoClassDefFoun
 use Rattle.hierarchy.specs.LinkedProgram.{LinkedProgram, built_in}
 use Rattle.hierarchy.specs.Subclasses.{Extends, in_file, is_built_in, IsSubclass, itself, below, IsError, IsThrowable}
 use Rattle.hierarchy.proofs.BuiltIns.{number-small}
+use Rattle.init_core.specs.declared.event.Decision.{Decision}
+use Rattle.init_core.specs.declared.event.Decision.TheVariants as decision
 use Rattle.init_core.specs.declared.event.Event.{Event}
 use Rattle.init_core.specs.declared.frames.Completed.{Completed}
 use Rattle.init_core.specs.declared.frames.Ending.{Ending}
@@ -15,6 +17,7 @@ use Rattle.init_core.specs.declared.frames.Frame.{Frame}
 use Rattle.init_core.specs.declared.frames.Outcome.{Outcome}
 use Rattle.init_core.specs.declared.frames.Outcome.TheVariants.{Normal, Abrupt, Ended}
 use Rattle.init_core.specs.declared.frames.Phase.TheVariants.{EndingBy}
+use Rattle.init_core.specs.Decisions.{kind_of}
 use Rattle.init_core.specs.Leads.{frame, standing, LeadsTo, ending_by, kind_of_ending, outcome_of}
 use Rattle.init_core.specs.Numbers.{IsInRange}
 use Rattle.init_core.specs.ProgramEvents.{IsDoneAt}
@@ -104,6 +107,14 @@ ending_done p c (ending.SuperFails e) false is = is
 ending_done p c (ending.SuperFails e) true is = is
 ending_done p c (ending.Fails e) false is = is
 ending_done p c (ending.Fails e) true is = is
+
+-- the step that a look makes has none
+pub decision_done : (p : LinkedProgram) (c : ClassId) (d : Decision) → IsInRange (kind_of d) × IsDoneAt p c (kind_of d)
+decision_done p c (decision.Waits first) = (tt, tt)
+decision_done p c decision.Recurs = (tt, tt)
+decision_done p c decision.FindsInitialized = (tt, tt)
+decision_done p c decision.FindsErroneous = (tt, tt)
+decision_done p c decision.Begins = (tt, tt)
 
 -- the step that ends a class has a throwable of the program
 pub ending_is_done : (p : LinkedProgram) (t : ℕ) (c : ClassId) (k : Ending) (m : Bool) (fs : List Frame) (last : Option Completed) (xs : List Event) → LeadsTo p t (standing (frame c (EndingBy k m) ∷ fs) last) xs → IsDoneAt p c (kind_of_ending k)

@@ -16,7 +16,7 @@ use Rattle.init_core.specs.Label.{label_of}
 use Rattle.init_core.specs.Lawful.{Allows, AgreesAfter, AgreesWithLabels}
 use Rattle.init_core.proofs.Labels.{label_after}
 use Rattle.init_core.proofs.States.{waits_more}
-use Rattle.init_world.proofs.Sound.{one_more, no_more}
+use Rattle.init_core.proofs.InterleavingParts.{one_more, no_more}
 
 -- what t does at a class that is then in progress by it is no wait
 own_calm : (l : Label) (t : ℕ) (k : Kind) → Allows l t k → next_label l t k ≡ InProgress t → is_wait k ≡ false

@@ -18,7 +18,7 @@ use Rattle.jasmin_text.specs.declared.class_text.ClassKind.{ClassKind}
 use Rattle.jasmin_text.specs.declared.class_text.ClassKind.TheVariants as kind
 use Rattle.jasmin_text.specs.declared.table.AccessWord.{AccessWord}
 use Rattle.jasmin_text.specs.declared.table.AccessWord.TheVariants as word
-use Rattle.jasmin_text.proofs.AccessLines.{access_not_interface}
+use Rattle.jasmin_text.proofs.Tables.{access_not_interface}
 use Rattle.jasmin_reader.specs.declared.head.Place.{Place}
 use Rattle.jasmin_reader.specs.declared.head.Place.TheVariants as place
 use Rattle.jasmin_reader.specs.declared.head.HeadWords.{HeadWords}

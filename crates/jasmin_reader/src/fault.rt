@@ -4,7 +4,7 @@ use jasmin_words::FaultKind;
 
 /// What is wrong with a file, and on which line, counted from 1. Where the kind is [`FaultKind::NoMemory`] the line is the one at
 /// which memory ran out, of which no contract says more.
-#[derive(Clone, Copy, PartialEq, Eq)]
+#[derive(Clone, Copy)]
 pub struct ReadFault {
     /// What is wrong.
     pub kind: FaultKind,

@@ -1,9 +1,10 @@
--- An integer that is read can be spelled.
+-- An integer that is read can be spelled, and fits 32 bits.
 use Rattle.std.proofs.Common.{◌≡◌, ℕ, zero, suc, ◌^◌, ◌<◌, ◌≤◌, true, List, length, refl, arith}
-use Rattle.std.proofs.lemmas.Bool.{lt-ltb}
+use Rattle.std.proofs.lemmas.Bool.{lt-ltb, ltb-true}
 use Rattle.std.proofs.lemmas.Int.Digits.{digits_value-lt}
 use Rattle.std.proofs.Math.Nat.{pow-le-pow_right}
-use Rattle.std.specs.Prelude.{ℤ, pos, neg_ℤ}
+use Rattle.std.specs.Prelude.{ℤ, pos, negsuc, neg_ℤ, FitsSigned}
+use Rattle.std.specs.Int.{w32}
 use Rattle.std.specs.Str.Parse.{digits_value}
 use Rattle.jasmin_words.specs.Integers.{of_bits, IsInteger, decimal, minus, bits}
 use Rattle.jasmin_text.specs.Spellable.{is_int}
@@ -22,3 +23,7 @@ integer_int w z (bits {digits} h short) =
     let less = digits_value-lt 16 digits h.1 in
     let power : 16 ^ length digits ≤ 16 ^ 8 = pow-le-pow_right (omega arith) short in
     bits_int (digits_value 16 digits) (omega arith)
+
+pub int_of : (z : ℤ) → is_int z ≡ true → FitsSigned w32 z
+int_of (pos n) h = record { sfits = ltb-true n 2147483648 h }
+int_of (negsuc n) h = let less = ltb-true n 2147483648 h in record { sfits = omega arith }

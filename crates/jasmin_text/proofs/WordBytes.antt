@@ -1,4 +1,4 @@
--- What the canonical spelling writes for a name, a descriptor or a number is one word.
+-- A name, a descriptor or a number is one word.
 use Rattle.std.proofs.Common.{◌≡◌, ℕ, zero, suc, ◌<◌, ◌^◌, Bool, true, false, not, ◌&&◌, ◌||◌, cond, eqb, List, [], ◌∷◌, ◌++◌, length, replicate, Option, Some, None, refl, sym, subst, arith, ◌∙◌}
 use Rattle.std.specs.Prelude.{nat_le, codes}
 use Rattle.std.specs.List.{list_all, flat_map}
@@ -22,7 +22,6 @@ use Rattle.descriptors.specs.declared.field.ElementType.TheVariants.{Base, Class
 use Rattle.descriptors.specs.declared.field.FieldType.{FieldType}
 use Rattle.jasmin_words.specs.Spelling.{is_word_byte}
 use Rattle.jasmin_words.specs.Names.{is_name_byte as is_member_byte, is_member_name}
-use Rattle.jasmin_text.specs.Canonical.{label_text}
 use Rattle.jasmin_text.specs.Spellable.{is_element_type, is_type, is_result_type, is_method_type}
 use Rattle.jasmin_text.proofs.Conditions.{nine, all_weaker}
 
@@ -32,7 +31,7 @@ IsWordText w = list_all is_word_byte w ≡ true
 pub joined_words : (xs ys : List ℕ) → IsWordText xs → IsWordText ys → IsWordText (xs ++ ys)
 joined_words xs ys h k = list_all-append is_word_byte xs ys ∙ and_from (list_all is_word_byte xs) (list_all is_word_byte ys) h k
 
-byte_word : (b : ℕ) (w : List ℕ) → is_word_byte b ≡ true → IsWordText w → IsWordText (b ∷ w)
+pub byte_word : (b : ℕ) (w : List ℕ) → is_word_byte b ≡ true → IsWordText w → IsWordText (b ∷ w)
 byte_word b w h k = and_from (is_word_byte b) (list_all is_word_byte w) h k
 
 -- ---- names of classes
@@ -128,7 +127,3 @@ digits_word (d ∷ ds) h = byte_word d ds (digit_word d h.0) (digits_word ds h.1
 
 pub decimal_word : (n : ℕ) → n < 2 ^ 64 → IsWordText (decimal n)
 decimal_word n h = digits_word (decimal n) (decimal_is_IsNumeral n h).0.1
-
-pub label_word : (n : ℕ) → n < 2 ^ 64 → IsWordText (label_text n)
-unfolding label_text
-label_word n h = byte_word 76 (decimal n) refl (decimal_word n h)

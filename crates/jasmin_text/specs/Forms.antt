@@ -1,9 +1,8 @@
 -- The words that begin a line, with what they ask for.
-use Rattle.std.specs.Prelude.{ℕ, ◌==◌, ◌&&◌, ◌||◌, Bool, false, List, [], ◌∷◌, ◌++◌, Option, if◌then◌else◌, map}
+use Rattle.std.specs.Prelude.{ℕ, ◌==◌, ◌&&◌, ◌||◌, Bool, false, List, [], ◌∷◌, ◌++◌, Option, map}
 use Rattle.jasmin_text.specs.Tables.{find_row, stands_in}
 use Rattle.jasmin_text.specs.declared.form.Form.{Form}
 use Rattle.jasmin_text.specs.declared.form.Directive.{Directive}
-use Rattle.jasmin_text.specs.contracts.form.FormPartialEq.TheImpl.{ghosts}
 use Rattle.jasmin_text.specs.declared.form.TheConstants.{COMMON_FORMS, OTHER_FORMS, LONG_FLOAT_DOUBLE, LEFT_OUT, DIRECTIVES}
 
 abbrev pub common_forms : List (List ℕ × Form)
@@ -19,19 +18,6 @@ forms = common_forms ++ other_forms
 -- what the word of an instruction asks for
 unfoldable pub form_at : List ℕ → Option Form
 form_at word = find_row word forms
-
--- `==` on what words ask for
-abbrev pub same_form : Form → Form → Bool
-same_form = ghosts.eq
-
--- the first word of these rows that asks for this; `otherwise` where none does
-abbrev pub first_word : Form → List (List ℕ × Form) → List ℕ → List ℕ
-first_word form [] otherwise = otherwise
-first_word form (row ∷ rows) otherwise = if same_form row.1 form then row.0 else first_word form rows otherwise
-
--- the canonical word of what asks for this (JVMS SE 8 6.5 names the instructions)
-unfoldable pub word_of : Form → List ℕ
-word_of form = first_word form forms []
 
 -- l, f or d, for long, float or double, and then what the words of all three types have after that letter
 abbrev pub is_of_long_float_or_double : List ℕ → Bool

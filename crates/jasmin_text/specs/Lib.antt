@@ -1,8 +1,5 @@
 pub mod BaseWords
-pub mod Keywords
-pub mod Canonical
 pub mod Lines
-pub mod Marks
 pub mod Tables
 pub mod Spellable
 pub mod Forms

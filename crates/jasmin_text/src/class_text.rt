@@ -8,7 +8,7 @@ use jasmin_words::name::MemberName;
 use sequence::{Sequence, Text};
 
 /// Whether a class text is of a class or of an interface.
-#[derive(Clone, Copy, PartialEq, Eq)]
+#[derive(Clone, Copy)]
 pub enum ClassKind {
     /// `.class`
     Class,

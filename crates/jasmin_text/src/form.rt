@@ -1,14 +1,7 @@
 //! The words that begin a line, with what they ask for.
 
-ghost use Rattle.std.specs.Prelude.{◌≡◌, Some};
-ghost use Rattle.jasmin_text.specs.Forms.{form_at, word_of, directive_at, is_left_out};
-ghost use Rattle.jasmin_text.specs.declared.form.Form.TheVariants as form;
-ghost use Rattle.jasmin_text.specs.declared.instruction.Plain.{Plain};
-ghost use Rattle.jasmin_text.specs.declared.instruction.Local.{Local};
-ghost use Rattle.jasmin_text.specs.declared.instruction.Jump.{Jump};
-ghost use Rattle.jasmin_text.specs.declared.instruction.FieldAccess.{FieldAccess};
-ghost use Rattle.jasmin_text.specs.declared.instruction.Call.{Call};
-ghost use Rattle.jasmin_text.specs.declared.instruction.TypeUse.{TypeUse};
+ghost use Rattle.std.specs.Prelude.{◌≡◌};
+ghost use Rattle.jasmin_text.specs.Forms.{form_at, directive_at, is_left_out};
 
 use crate::instruction::{Call, FieldAccess, Jump, Local, Plain, TypeUse};
 use crate::table::{find, stands_in};
@@ -299,13 +292,3 @@ pub fn directive_of(word: &[u8]) -> Option<Directive>
         _ => None,
     }
 }
-
-/// The word that the canonical spelling writes for an instruction is read as that instruction's.
-pub fn instruction_words_are_read_again()
-    ensures plain { (p : Plain) → form_at (word_of (form.Plain p)) ≡ Some (form.Plain p) }
-    ensures local { (l : Local) → form_at (word_of (form.Local l)) ≡ Some (form.Local l) }
-    ensures jump { (j : Jump) → form_at (word_of (form.Jump j)) ≡ Some (form.Jump j) }
-    ensures field { (f : FieldAccess) → form_at (word_of (form.Field f)) ≡ Some (form.Field f) }
-    ensures call { (c : Call) → form_at (word_of (form.Call c)) ≡ Some (form.Call c) }
-    ensures types { (t : TypeUse) → form_at (word_of (form.TypeUse t)) ≡ Some (form.TypeUse t) }
-{}

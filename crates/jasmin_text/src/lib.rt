@@ -2,10 +2,10 @@
 //!
 //! [`ClassText`] is what a file says, without its spelling: kind, access words, name, superclass, interfaces,
 //! fields, and methods with their limits, handler tables and instructions. It holds exactly what a file can
-//! spell. [`write_class`] writes the one canonical spelling.
+//! spell.
 //!
 //! To enter: `class_text` has the parts of a class, `instruction` the instructions in their canonical forms,
-//! and `specs/Canonical` the spelling, line by line.
+//! `form` and `table` the words that lines begin with, and `specs/Grammar` which lines spell which class.
 #![tactic(auto)]
 
 pub mod access;
@@ -13,14 +13,8 @@ mod boxed;
 pub mod class_text;
 pub mod form;
 pub mod instruction;
-mod keyword;
-pub mod laws;
-mod mark;
 pub mod table;
 pub mod text;
-mod word;
-mod write;
-mod write_code;
 
 pub use access::Access;
 pub use boxed::Boxed;
@@ -29,4 +23,4 @@ pub use instruction::{
     Call, FieldAccess, FieldReference, Instruction, Jump, Local, MethodReference, Plain,
     ReferenceType, TypeUse,
 };
-pub use text::{ClassText, write_class};
+pub use text::ClassText;

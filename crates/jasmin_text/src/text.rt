@@ -1,12 +1,9 @@
 //! Class texts: parts that a file can spell.
 
-ghost use Rattle.std.specs.Prelude.{◌≡◌, IfOk};
+ghost use Rattle.std.specs.Prelude.{◌≡◌};
 ghost use Rattle.jasmin_text.specs.Spellable.{IsSpellable};
-ghost use Rattle.jasmin_text.specs.Canonical.{canonical_text};
 
 use crate::class_text::ClassParts;
-use crate::write::write_parts;
-use std::alloc::{AllocError, Global};
 use std::marker::Model;
 
 /// The text of one class or interface: parts that a Jasmin file can spell.
@@ -63,15 +60,4 @@ impl ClassText {
         let ClassText { parts } = self;
         parts
     }
-}
-
-/// The one canonical spelling of a class: one space between words, no indentation, LF at each line's end.
-///
-/// `.class` or `.interface` stands first, then `.super`, `.implements` lines, fields, methods. A method's
-/// limits stand before its handler table, that before its instructions. Each place that is named has the
-/// label `L` with its number on a line of its own. An `Err` is want of memory.
-pub fn write_class(alloc: Global, class: &ClassText) -> Result<Vec<u8>, AllocError>
-    ensures { IfOk result (λ text. text.items ≡ canonical_text class.now) }
-{
-    write_parts(alloc, class.parts())
 }

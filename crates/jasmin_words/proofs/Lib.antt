@@ -7,4 +7,3 @@ pub mod Taken
 pub mod Utf8
 pub mod Lexed
 pub mod Numbers
-pub mod Quoting

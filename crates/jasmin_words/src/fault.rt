@@ -8,7 +8,7 @@ use std::fmt;
 
 /// What is wrong with a Jasmin file. Of several faults at one place the lowest kind is told, in the order of
 /// this list. A kind prints as its code, `J1` to `J14`.
-#[derive(Clone, Copy, Debug, PartialEq, Eq)]
+#[derive(Clone, Copy, Debug)]
 pub enum FaultKind {
     /// `J1`: a byte above 127 or a control byte outside comment and string, or a string that isn't UTF-8.
     BadByte,

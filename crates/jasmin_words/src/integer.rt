@@ -1,7 +1,6 @@
 //! Integers in words.
 
-ghost use Rattle.std.specs.Prelude.{◌≡◌, ◌<◌, ◌≤◌, ℤ, FitsSigned, Some, IfSome};
-ghost use Rattle.std.specs.Int.{w32};
+ghost use Rattle.std.specs.Prelude.{◌≡◌, ◌<◌, ◌≤◌, ℤ, Some, IfSome};
 ghost use Rattle.sequence.specs.Written.{Adds};
 ghost use Rattle.std.specs.Fmt.{decimal, signed_decimal};
 ghost use Rattle.jasmin_words.specs.Integers.{number_after, magnitude_of, positive, negative, pattern, integer_of, IsInteger};
@@ -119,8 +118,3 @@ pub fn push_decimal(text: &mut Writer, number: usize)
     let mut digits = Buffer::new();
     text.push(digits.format(number).as_bytes());
 }
-
-/// An integer that was written is read as itself.
-pub fn integers_are_read_again()
-    ensures { (n : ℤ) → FitsSigned w32 n → integer_of (signed_decimal n) ≡ Some n }
-{}

@@ -1,12 +1,9 @@
 //! The canonical spelling of strings.
 
-ghost use Rattle.std.specs.Prelude.{◌≡◌, ◌++◌, ◌∷◌, [], ◌<◌, ℕ, List, Bool, true, false};
+ghost use Rattle.std.specs.Prelude.{◌≡◌, ◌<◌};
 ghost use Rattle.sequence.specs.Written.{Adds};
 ghost use Rattle.std.specs.Char.{digit_char};
-ghost use Rattle.std.specs.Str.{is_utf8};
 ghost use Rattle.jasmin_words.specs.Quoting.{quoted_byte, quoted};
-ghost use Rattle.jasmin_words.specs.Lexing.{Item, Text, fits, words_of};
-ghost use Rattle.jasmin_words.specs.Spelling.{IsSpelled};
 
 use sequence::Writer;
 
@@ -52,10 +49,3 @@ pub fn push_quoted(text: &mut Writer, characters: &[u8])
     }
     text.push(b"\"");
 }
-
-/// A string that was written is read as itself: on a line of its own, and before whatever follows it there.
-pub fn strings_are_read_again()
-    ensures alone { (bytes : List ℕ) → is_utf8 bytes ≡ true → fits bytes ≡ true → words_of (quoted bytes) ≡ Text bytes ∷ [] }
-    ensures before { (fresh : Bool) (bytes rest : List ℕ) (words : List Item) → is_utf8 bytes ≡ true → fits bytes ≡ true
-        → IsSpelled false rest words → IsSpelled fresh (quoted bytes ++ rest) (Text bytes ∷ words) }
-{}

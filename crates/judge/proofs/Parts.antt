@@ -10,8 +10,8 @@ use Rattle.init_core.specs.Interleaving.{of_thread, of_class, IsLegal, BeginsLeg
 use Rattle.init_core.specs.Lawful.{IsLawful, AgreesAfter, HoldsAfter}
 use Rattle.init_core.specs.MainWord.{BeginsMain}
 use Rattle.init_core.specs.ProcedureWord.{ThreadWord}
-use Rattle.init_world.specs.LegalSoFar.{IsLegalSoFar}
-use Rattle.init_world.proofs.ThreadByThread.{begins_legal}
+use Rattle.init_core.specs.LegalSoFar.{IsLegalSoFar}
+use Rattle.init_core.proofs.ThreadByThread.{begins_legal}
 use Rattle.judge.specs.Reading.{IsReadAsBeginning, IsReadAsWhole}
 use Rattle.judge.specs.Judged.{IsReadSoFar, IsReadToEnd}
 use Rattle.judge.proofs.Words as words

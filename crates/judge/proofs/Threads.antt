@@ -11,7 +11,7 @@ use Rattle.init_core.specs.declared.event.Kind.{Kind}
 use Rattle.init_core.specs.Interleaving.{of_thread}
 use Rattle.init_core.specs.ProcedureWord.{ThreadWord}
 use Rattle.init_core.specs.Standing.{Standing}
-use Rattle.init_world.proofs.MainFinishing.{begun_can_finish}
+use Rattle.init_core.proofs.MainFinishing.{begun_can_finish}
 use Rattle.judge.specs.declared.reader.Reader.{Reader}
 use Rattle.judge.specs.Judging.{IsReaderAfter, AreReadersAfter}
 use Rattle.judge.specs.NextEvent.{read_to, begun_after}

@@ -303,11 +303,19 @@ pub(crate) fn is_told(alloc: Global, program: &Program, story: &Story) -> bool {
     }
 }
 
+/// Whether these are both ends by one throwable, or both prints of one text.
+fn are_alike(one: &Kind, other: &Kind) -> bool {
+    match (one, other) {
+        (Kind::Fails(error), Kind::Fails(thrown)) => error == thrown,
+        (Kind::Prints(text), Kind::Prints(printed)) => text == printed,
+        _ => false,
+    }
+}
+
 /// Whether the copy of an event is like it.
 fn is_copied(event: &Event) -> Result<bool, AllocError> {
     let copy = event.clone()?;
-    let kind = copy.kind()?;
-    let is_alike = kind == event.kind()?;
+    let is_alike = are_alike(&copy.kind()?, &event.kind()?);
     Ok(is_alike && copy.thread() == event.thread() && copy.class() == event.class())
 }
 

@@ -44,7 +44,7 @@ use Rattle.bodies.specs.ThreadStands.{OutsideOf, NoneOpenOf, ThreadStands}
 use Rattle.bodies.proofs.Asking.{IsBodyAt, of_main, of_class as of_a_class, body_at, looks_at, runs_at, running_at, not_running, body_error}
 use Rattle.bodies.proofs.HeldValues.{value_held}
 use Rattle.bodies.proofs.ThreadSteps.{allows_use, asks_one, uses_one, goes_of, prints_at, makes_ended, stops_at}
-use Rattle.init_world.proofs.Sound.{no_more}
+use Rattle.init_core.proofs.InterleavingParts.{no_more}
 use Rattle.replayer.specs.declared.log.EventLog.{EventLog}
 use Rattle.replayer.specs.declared.thread.Thread.{Thread}
 use Rattle.replayer.specs.Going.{Going, GoesOrEnds, HasStepped, IsWhy, IsInBody, HasComeTo, IsDoing, WaitsInside, IsOver, IsPaused, at_class, in_body, Resting, IsSameThread, TurnsTo, limit_error, turn_by}

@@ -17,9 +17,9 @@ use Rattle.init_core.specs.Lawful.{IsLawful}
 use Rattle.init_core.specs.ProcedureWord.{ThreadWord, ThreadWordOf, IsOfFiles}
 use Rattle.init_core.specs.ProgramEvents.{IsProgramEvent, at_class, prints_text}
 use Rattle.init_core.proofs.Forgetting.{forget_thread}
-use Rattle.init_world.proofs.Balanced.{total, begun, ended, thread_even}
-use Rattle.init_world.proofs.UnderWay.{mine, AreCounted, counted_by_part, lawful_counted}
-use Rattle.init_world.proofs.Sound.{class_is}
+use Rattle.init_core.proofs.Balanced.{total, begun, ended, thread_even}
+use Rattle.init_core.proofs.UnderWay.{mine, AreCounted, counted_by_part, lawful_counted}
+use Rattle.init_core.proofs.InterleavingParts.{class_is}
 use Rattle.trace.specs.declared.report.Limit.TheVariants.{Memory}
 use Rattle.trace.specs.declared.report.Limits.{Limits}
 use Rattle.trace.specs.declared.report.Report.{Report}

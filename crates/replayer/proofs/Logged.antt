@@ -31,7 +31,7 @@ use Rattle.init_core.specs.ProgramEvents.{IsDoneAt, IsValueOf, IsProgramEvent, a
 use Rattle.init_core.specs.Stands.{SeesMore}
 use Rattle.init_core.proofs.Errors.{ending_in_range}
 use Rattle.init_core.proofs.States.{state_after, few_statics}
-use Rattle.init_world.proofs.Sound.{one_more, no_more, class_is}
+use Rattle.init_core.proofs.InterleavingParts.{one_more, no_more, class_is}
 use Rattle.bodies.specs.Writes.{WritesHeldIn, WritesHeld}
 use Rattle.replayer.specs.declared.log.EventLog.{EventLog}
 use Rattle.replayer.specs.Logged.{IsStateAfter, IsLog, histories}

@@ -1,5 +1,5 @@
 -- The static fields of a class, with their defaults (JVMS SE 8 2.3, 2.4) and constants (4.7.2, 5.5 step 6).
-use Rattle.std.specs.Prelude.{ℕ, ℤ, pos, ◌+ℤ◌, ◌-ℤ◌, int_lt, ◌==◌, List, [], ◌∷◌, Option, Some, None, map, filter, length, slice_get, take, if◌then◌else◌}
+use Rattle.std.specs.Prelude.{ℕ, ℤ, pos, ◌+ℤ◌, ◌-ℤ◌, int_lt, ◌==◌, List, [], ◌∷◌, Option, Some, None, map, filter, slice_get, if◌then◌else◌}
 use Rattle.std.specs.Option.{option_map, unwrap_or}
 use Rattle.std.specs.Int.{int_rem_euclid}
 use Rattle.descriptors.specs.declared.base.BaseType.{BaseType}
@@ -79,14 +79,6 @@ static_fields p c = static_fields_in (class_at p c)
 -- and what is known of each before the program runs
 abbrev pub statics_of : LinkedProgram → ClassId → List StaticField
 statics_of p c = map (static_field p) (static_fields p c)
-
-abbrev pub static_place_in : List Field → ℕ → Option Field → Option ℕ
-static_place_in fields place None = None
-static_place_in fields place (Some f) = if is_static_field f then Some (length (filter is_static_field (take place fields))) else None
-
--- the place among the static fields of a class, of the field that has this place among all fields of the class
-abbrev pub static_place : LinkedProgram → ClassId → ℕ → Option ℕ
-static_place p c place = static_place_in (fields_of p c) place (slice_get (fields_of p c) place)
 
 abbrev pub kept_in : Option StaticField → Value → Value
 kept_in None v = v

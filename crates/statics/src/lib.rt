@@ -9,9 +9,8 @@
 #![tactic(auto)]
 
 pub mod bank;
+pub mod laws;
 pub mod static_field;
 
 pub use bank::Bank;
-pub use static_field::{
-    StaticField, base_of, narrowed, narrowed_int, static_field_at, static_place,
-};
+pub use static_field::{StaticField, base_of, narrowed, narrowed_int, static_field_at};

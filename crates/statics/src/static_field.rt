@@ -2,15 +2,14 @@
 
 ghost use Rattle.std.specs.Prelude.{◌≡◌, pos, ◌<ℤ◌, ◌≤ℤ◌, filter, option_copied, slice_get, IfSome};
 ghost use Rattle.hierarchy.specs.Ops.{is_static_field};
-ghost use Rattle.hierarchy.specs.OwnNames.{fields_of};
-ghost use Rattle.statics.specs.Statics.{static_place as static_place_of, base_in, default_of, signed_low, narrowed_int, narrowed as narrowed_value, constant_value, with_constant, static_field as static_field_of, static_fields, text_value};
+ghost use Rattle.statics.specs.Statics.{base_in, default_of, signed_low, narrowed_int, narrowed as narrowed_value, constant_value, with_constant, static_field as static_field_of, static_fields, text_value};
 
 use descriptors::{BaseType, ElementType, FieldType};
-use hierarchy::{ClassId, Program, Value, static_count};
+use hierarchy::{ClassId, Program, Value};
 use jasmin_text::{Constant, Field};
 
 /// A static field of one class.
-#[derive(Clone, Copy, PartialEq, Eq)]
+#[derive(Clone, Copy)]
 pub struct StaticField {
     /// The base type, or none where the field holds references.
     pub base: Option<BaseType>,
@@ -135,29 +134,6 @@ fn static_among(fields: &[Field], place: usize) -> Option<&Field>
         rest = after;
     }
     None
-}
-
-/// The place of a static field among the static ones of its class: the number of those before it.
-fn counted_place(program: &Program, class: ClassId, place: usize) -> Option<usize>
-    ensures { result ≡ static_place_of program.now class place }
-{
-    let fields = program.class(class)?.fields.as_slice();
-    let field = fields.get(place)?;
-    if !field.access.is_static {
-        return None;
-    }
-    Some(static_count(&fields[..place]))
-}
-
-/// The place of a static field among the static ones of its class, by which a [`crate::Bank`] knows it, from its place
-/// among all fields of the class, as field resolution gives it (JVMS SE 8 5.4.3.2). An instance field has none. Takes no
-/// memory, and time linear in the class's fields.
-#[tactic(auto, using(crate::proofs::StaticPlaces::place_found))]
-pub fn static_place(program: &Program, class: ClassId, place: usize) -> Option<usize>
-    ensures place { result ≡ static_place_of program.now class place }
-    ensures found { IfSome result (λ found. slice_get (static_fields program.now class) found ≡ slice_get (fields_of program.now class) place) }
-{
-    counted_place(program, class, place)
 }
 
 /// What is known of a field.

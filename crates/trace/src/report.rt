@@ -27,7 +27,7 @@ pub enum ThreadOutcome {
 }
 
 /// How far a thread may go.
-#[derive(Clone, Copy, PartialEq, Eq)]
+#[derive(Clone, Copy)]
 pub struct Limits {
     /// The instructions that a thread may begin: 1 to 100,000,000.
     pub steps: u32,

@@ -11,7 +11,7 @@ use Rattle.jasmin_words.specs.Integers.{integer_of, IsInteger}
 use Rattle.jasmin_words.proofs.Numbers.{written_again, integer_is}
 use Rattle.sequence.proofs.Results.{Holds, guard_holds, cond_holds, HoldsIn, guard_in}
 use Rattle.jasmin_text.proofs.WordBytes.{decimal_word}
-use Rattle.jasmin_text.proofs.AccessLines.{int_of}
+use Rattle.jasmin_text.proofs.Integers.{int_of}
 use Rattle.jasmin_text.proofs.Integers.{integer_int}
 use Rattle.trace_reader.specs.Numbers.{spelled_so, int_in, from_zero, number_in, is_digit, is_number, number_at, known_thread, thread_at}
 use Rattle.trace_reader.proofs.LineWords.{IsLineWord, unbroken_word}

@@ -7,7 +7,7 @@ use std::error::Error;
 use std::fmt;
 
 /// What is wrong with a line of a trace. A kind prints as its code, `L1` to `L7`.
-#[derive(Clone, Copy, Debug, PartialEq, Eq)]
+#[derive(Clone, Copy, Debug)]
 pub enum TraceFaultKind {
     /// `L1`: a word that doesn't have the form of its place, or is empty, missing or one too many; or the last line has no LF.
     BadLine,
@@ -51,7 +51,7 @@ impl fmt::Display for TraceFaultKind {
 impl Error for TraceFaultKind {}
 
 /// What is wrong with a trace, and on which line: the first fault, line by line, and in a line the leftmost.
-#[derive(Clone, Copy, PartialEq, Eq)]
+#[derive(Clone, Copy)]
 pub struct TraceFault {
     /// What is wrong.
     pub kind: TraceFaultKind,

@@ -1,4 +1,4 @@
-use Rattle.init_world.proofs.MainFinishing.{begun_can_finish}
+use Rattle.init_core.proofs.MainFinishing.{begun_can_finish}
 use Rattle.judge.proofs.Words as words
 use Rattle.judge.proofs.Meanings as meanings
 use Rattle.judge.proofs.Tested.{once}

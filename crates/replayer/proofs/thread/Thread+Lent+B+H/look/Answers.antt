@@ -2,7 +2,7 @@ use Rattle.bodies.specs.Lending.{lent_bodies}
 use Rattle.std.proofs.Common.{arith, refl}
 use Rattle.statics.specs.Statics.{statics_of}
 use Rattle.init_core.specs.Interleaving.{of_class}
-use Rattle.init_world.proofs.Threads.{decision_facts}
+use Rattle.init_core.proofs.Errors.{decision_done}
 use Rattle.replayer.proofs.Stepping.{look_allowed, look_files, look_holds, looked, may_be_told, still_waits}
 use Rattle.replayer.proofs.thread.Thread+Lent+B+H.look.Goals as goal
 
@@ -40,7 +40,7 @@ pub add-requires-clause-allowed : goal.add-requires-clause-allowed
 add-requires-clause-allowed g c = look_allowed c.args.program.now (lent_bodies g.B.Lends.lending (g.B.Bodies.making c.args.program.now)) c.args.log.now c.args.self.now.number c.args.class c.decision-decision.result c.state.result.now c.kind.result c.kind.ensures (c.state.ensures c.args.program.now c.requires.going.log) c.decision-decision.ensures.allowed
 
 pub add-requires-clause-done : goal.add-requires-clause-done
-add-requires-clause-done g c = rw c.kind.ensures (decision_facts c.args.program.now c.args.class c.decision-decision.result).3
+add-requires-clause-done g c = rw c.kind.ensures (decision_done c.args.program.now c.args.class c.decision-decision.result).1
 
 pub add-requires-clause-holds : goal.add-requires-clause-holds
 add-requires-clause-holds g c = rw c.kind.ensures (look_holds (statics_of c.args.program.now c.args.class) (of_class c.args.class c.args.log.now.events.items) c.decision-decision.result)

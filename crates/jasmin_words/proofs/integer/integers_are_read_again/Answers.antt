@@ -1,5 +1,0 @@
-use Rattle.jasmin_words.proofs.Numbers.{written_again}
-use Rattle.jasmin_words.proofs.integer.integers_are_read_again.Goals as goal
-
-pub returns : goal.returns
-returns c = written_again

@@ -1,0 +1,16 @@
+pub mod Marks
+pub mod Quoting
+pub mod Body
+pub mod FormWords
+pub mod FormTables
+pub mod Written
+pub mod Rows
+pub mod Operands
+pub mod AccessLines
+pub mod CodeLines
+pub mod Labels
+pub mod Lines
+pub mod Instructions
+pub mod Places
+pub mod Bodies
+pub mod Classes

@@ -1,0 +1,4 @@
+pub mod Keywords
+pub mod CanonicalWords
+pub mod Canonical
+pub mod Marks
