@@ -18,11 +18,11 @@ import lanes
 
 ROOT = os.path.dirname(os.path.dirname(os.path.realpath(__file__)))
 FAILED = 70
-# How many jobs the proof of a crate has where nothing is built, if not two, and which proofs run at the lower priority. It is what served best
-# in a model of the build that was given measured times: no processor is idle before all that cli waits for ends, at about the same time.
-JOBS = {"sequence": 3, "jasmin_text": 3, "hierarchy": 3, "statics": 3, "cli": 4}
-JOBS |= dict.fromkeys(["texts", "descriptors", "command_line", "init_lock", "init_world", "trace_reader", "jinit"], 1)
-LATER = {"texts", "command_line", "init_lock", "init_world", "trace_reader"}
+# How many jobs the proof of a crate has where nothing is built, if not one, and which proofs run at the lower priority. It is what served best
+# in a model of the build that was given measured times: the longest path goes first, each processor has work before all that cli waits
+# for ends, at about the same time, and only what would leave one idle has several jobs, with which a proof takes more of them in all.
+JOBS = {"sequence": 4, "jasmin_text": 4, "hierarchy": 4, "statics": 4, "frames": 2, "heap": 4, "cli": 4}
+LATER = {"texts", "command_line", "init_lock", "jasmin_reader", "trace_reader", "judge", "replayer"}
 began = time.time()
 
 
@@ -99,7 +99,7 @@ def along_the_graph():
         waits = [(below.name, "proof") for below in it.below()]
         work = 0 if it.name in kept else kit.weight(rt, it)
         tasks[key] = waits, work, lambda given, jobs, it=it: build(it, jobs)
-        planned[key] = JOBS.get(it.name, 2), it.name not in LATER
+        planned[key] = JOBS.get(it.name, 1), it.name not in LATER
     lanes.run(tasks, {}, *kit.lanes(rt), kit.memory_for, planned=planned if is_new else None)
     return held
 

@@ -7,7 +7,7 @@ import subprocess
 import sys
 
 # The kits whose inner names the gate and the build lean on. With any other they fall back to the kit's own commands.
-KNOWN = ("rattle-kit-13f logic dac8208d650f15bf",)
+KNOWN = "rattle-kit-13b logic dac8208d650f15bf", "rattle-kit-13f logic dac8208d650f15bf"
 
 
 def version():

@@ -68,15 +68,18 @@ class Gate:
 
     def judge(self):
         """Runs the kit's gate so, and answers its exit status."""
-        # (the kit's script keeps what it proved in a store of its own, and adds tasks for edits by a call of their own)
-        names = "crates_of", "in_lanes", "run", "put_back", "add_edits"
+        # (13f keeps what it proved in a store of its own, and adds tasks for edits by a call of their own; 13b does neither)
+        keeps = hasattr(self.rt, "Kept")
+        names = "crates_of", "in_lanes", "run", "put_back", *(["add_edits"] if keeps else [])
         self.original = {it: getattr(self.rt, it) for it in names}
         for name in names:
             setattr(self.rt, name, getattr(self, name))
-        self.rt.Crate, self.rt.Kept = self.crate_class(), self.kept_class()
+        self.rt.Crate = self.crate_class()
+        if keeps:
+            self.rt.Kept = self.kept_class()
         sys.stdout = Lines()
         try:
-            return self.rt.ci(anew=True)
+            return self.rt.ci(**({"anew": True} if keeps else {}))
         finally:
             said, sys.stdout = "".join(sys.stdout.all), sys.__stdout__
             if not self.crates:
