@@ -1,4 +1,5 @@
 """The kit's own script `rt`, as a module."""
+import functools
 import importlib.machinery
 import importlib.util
 import os
@@ -8,8 +9,11 @@ import sys
 
 # The kits whose inner names the gate and the build lean on. With any other they fall back to the kit's own commands.
 KNOWN = "rattle-kit-13b logic dac8208d650f15bf", "rattle-kit-13f logic dac8208d650f15bf"
+# How many jobs a proof has at least with which the prover writes the modules that edits start from: of 13b that was only seen with two.
+JOBS_FOR_MODULES = {KNOWN[0]: 2, KNOWN[1]: 1}
 
 
+@functools.cache
 def version():
     """The one line by which the kit on the PATH names itself, or nothing where there is none."""
     try:

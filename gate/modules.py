@@ -1,8 +1,8 @@
 """What the prover makes of a library while it proves it, for the library's must-fail edits to start from.
 
-A check by several jobs has copies of the prover write each module that they check into a folder of that check alone, below TMPDIR, and
-a library that is built of its statements has none of them. Here they get a second name as they appear, in a folder as `--incremental`
-reads it. One that is missed would only be checked again."""
+A check writes each module that it checks into a folder of that check alone, below TMPDIR, and a library that is built of its statements has
+none of them. Here they get a second name as they appear, in a folder as `--incremental` reads it. One that is missed would only be checked
+again."""
 import contextlib
 import os
 import re

@@ -66,6 +66,10 @@ class Gate:
         """Whether the crate's proof shall leave modules for its edits. (A program's edits are few, and start from nothing.)"""
         return bool(crate.makes_rlib() and self.rt.edits_of(crate)[0])
 
+    def fewest_jobs(self, crate):
+        """How many jobs the crate's proof has at least."""
+        return kit.JOBS_FOR_MODULES[kit.version()] if self.leaves_modules(crate) else 1
+
     def judge(self):
         """Runs the kit's gate so, and answers its exit status."""
         # (13f keeps what it proved in a store of its own, and adds tasks for edits by a call of their own; 13b does neither)
@@ -110,8 +114,8 @@ class Gate:
                 if tests or not gate.leaves_modules(self):
                     return super().ci(flags, tests)
                 if flags == ["--jobs", "1"]:
-                    # (the second try after a check that was killed for want of memory: by one job, no modules would be written)
-                    flags = ["--jobs", "2"]
+                    # (the second try after a check that was killed for want of memory)
+                    flags = ["--jobs", str(gate.fewest_jobs(self))]
                 with modules.linked(self, gate.kept(self)):
                     return super().ci(flags, tests)
 
@@ -164,8 +168,7 @@ class Gate:
                 own.update(self.edit_tasks(crate, waits))
         given = self.taken_at_once(own)
         with modules.below(f"{self.work}/made"):
-            # (with one job the prover writes no modules for the edits)
-            lanes.run(own, given, *kit.lanes(self.rt), kit.memory_for, lambda key: 2 if self.leaves_modules(self.crates[key[0]]) else 1)
+            lanes.run(own, given, *kit.lanes(self.rt), kit.memory_for, lambda key: self.fewest_jobs(self.crates[key[0]]))
         for crate in self.crates.values():
             self.count(crate, given)
         return given

@@ -4,7 +4,6 @@ ghost use Rattle.std.specs.Prelude.{◌≡◌, length, is_some, Ok, OnOk};
 ghost use Rattle.sequence.specs.Gives.{Gives, ◌>>=◌ as followed_by};
 ghost use Rattle.jasmin_words.specs.Lexing.{views};
 ghost use Rattle.std.specs.Option.{option_map};
-ghost use Rattle.jasmin_reader.specs.Places.{within_limit, ended_at};
 ghost use Rattle.jasmin_reader.specs.Operands.{label_in, last_operand as last_operand_of};
 ghost use Rattle.jasmin_reader.specs.Listing.{empty_listing, with_switch, with_listed, listed_row, has_room, unknown_word as unknown_word_of, instruction_at, behind_colon as behind_colon_of, colon_from, takes_label as takes_label_of, is_full, key_in, target_at, table_end as table_end_of, table_by, case_at, lookup_end as lookup_end_of, switch_at};
 ghost use Rattle.jasmin_text.specs.Grammar.{InstructionRow, TargetRow, CaseRow, DefaultRow};

@@ -1,11 +1,10 @@
 -- Canonical lines with access words say their rows.
-use Rattle.std.proofs.Common.{◌≡◌, ℕ, Bool, true, false, not, ◌&&◌, eqb, List, [], ◌∷◌, ◌++◌, Option, Some, None, refl, sym, ap, subst, append_assoc, arith}
-use Rattle.std.specs.Prelude.{pos, negsuc, ℤ, codes, nat_le, FitsSigned}
-use Rattle.std.specs.Int.{w32}
+use Rattle.std.proofs.Common.{◌≡◌, ℕ, Bool, true, false, not, ◌&&◌, eqb, List, [], ◌∷◌, ◌++◌, Option, Some, None, refl, sym, subst, append_assoc}
+use Rattle.std.specs.Prelude.{codes, nat_le}
 use Rattle.std.specs.List.{list_all}
 use Rattle.std.specs.Fmt.{signed_decimal}
 use Rattle.std.specs.Str.{is_utf8, bytes_eq}
-use Rattle.std.proofs.lemmas.Bool.{and_parts, leb-true, ltb-true, not-true, false_from_ne_true}
+use Rattle.std.proofs.lemmas.Bool.{and_parts, leb-true, not-true, false_from_ne_true}
 use Rattle.std.proofs.lemmas.Slice.Eq.{bytes_eq-Decides}
 use Rattle.descriptors.specs.ClassName.{is_class_name}
 use Rattle.descriptors.specs.Spelling.{field_spelling, method_spelling}

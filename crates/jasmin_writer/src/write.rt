@@ -1,6 +1,6 @@
 //! The canonical spelling of a class but for the bodies of its methods.
 
-ghost use Rattle.std.specs.Prelude.{◌≡◌, ◌+◌, [], length, map, IfOk};
+ghost use Rattle.std.specs.Prelude.{◌≡◌, ◌+◌, length, map, IfOk};
 ghost use Rattle.sequence.specs.Written.{Adds};
 ghost use Rattle.std.specs.List.{flat_map};
 ghost use Rattle.descriptors.specs.Spelling.{field_spelling, method_spelling};

@@ -1,5 +1,5 @@
 //! Rounds on a table: take, add to the history, draw, give back.
-ghost use Rattle.std.specs.Prelude.{◌≡◌, ◌+◌, ◌<◌, ◌≤◌, [], Some};
+ghost use Rattle.std.specs.Prelude.{◌≡◌, ◌+◌, ◌<◌, ◌≤◌, Some};
 ghost use Rattle.std.specs.List.{AllByRecursion};
 ghost use Rattle.init_lock.specs.Known.{seen_at, out_of, IsAway, IsAwayBut, IsSamePass};
 ghost use Rattle.cases.specs.Ready.{IsReady};
