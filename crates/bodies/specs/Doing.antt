@@ -10,7 +10,7 @@ use Rattle.init_core.specs.declared.frames.Completed.{Completed}
 use Rattle.init_core.specs.declared.frames.Outcome.TheVariants.{Normal}
 use Rattle.init_core.specs.ProcedureWord.{IsOfFiles, completed}
 use Rattle.init_core.specs.ProgramEvents.{IsHeldBy, IsValueOf}
-use Rattle.trace.specs.declared.report.Limit.TheVariants.{Patience}
+use Rattle.bodies.specs.declared.report.Limit.TheVariants.{Patience}
 use Rattle.bodies.specs.declared.does.Does.{Does}
 use Rattle.bodies.specs.declared.does.Does.TheVariants.{Asks, Gets, Puts, Prints, Waits, Over, Ended}
 use Rattle.bodies.specs.Making.{Making}

@@ -3,4 +3,5 @@ pub mod Lending
 pub mod Doing
 pub mod Runs
 pub mod Writes
+pub mod Output
 pub mod ThreadStands

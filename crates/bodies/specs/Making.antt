@@ -10,7 +10,7 @@ use Rattle.init_core.specs.declared.frames.Completed.{Completed}
 use Rattle.init_core.specs.declared.frames.Outcome.{Outcome}
 use Rattle.init_core.specs.declared.frames.Outcome.TheVariants.{Normal, Abrupt, Ended}
 use Rattle.init_core.specs.ProcedureWord.{GoesOn, Maker, completed}
-use Rattle.trace.specs.declared.report.Limit.{Limit}
+use Rattle.bodies.specs.declared.report.Limit.{Limit}
 use Rattle.bodies.specs.declared.does.Does.{Does}
 use Rattle.bodies.specs.declared.does.Does.TheVariants.{Asks, Gets, Puts, Prints, Waits, Over}
 

@@ -12,13 +12,13 @@ use Rattle.init_core.specs.declared.frames.Outcome.TheVariants.{Normal, Abrupt, 
 use Rattle.init_core.specs.Interleaving.{IsLegal, labels_of, label_at, of_thread}
 use Rattle.init_core.specs.ProcedureWord.{ThreadWordOf, IsOfFiles}
 use Rattle.init_core.specs.ProgramEvents.{IsProgramEvent}
-use Rattle.trace.specs.declared.report.Limit.{Limit}
-use Rattle.trace.specs.declared.report.Limit.TheVariants.{Steps, Patience, Memory}
-use Rattle.trace.specs.declared.report.Limits.{Limits}
-use Rattle.trace.specs.declared.report.Report.{Report}
-use Rattle.trace.specs.declared.report.ThreadOutcome.{ThreadOutcome}
-use Rattle.trace.specs.declared.report.ThreadOutcome.TheVariants as outcome
-use Rattle.trace.specs.Output.{output_of}
+use Rattle.bodies.specs.declared.report.Limit.{Limit}
+use Rattle.bodies.specs.declared.report.Limit.TheVariants.{Steps, Patience, Memory}
+use Rattle.bodies.specs.declared.report.Limits.{Limits}
+use Rattle.bodies.specs.declared.report.Report.{Report}
+use Rattle.bodies.specs.declared.report.ThreadOutcome.{ThreadOutcome}
+use Rattle.bodies.specs.declared.report.ThreadOutcome.TheVariants as outcome
+use Rattle.bodies.specs.Output.{output_of}
 use Rattle.bodies.specs.Making.{Making, maker_of}
 
 -- the main classes of a run: 1 to 16, each one of the files

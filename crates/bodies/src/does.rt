@@ -5,17 +5,17 @@ ghost use Rattle.hierarchy.specs.LinkedProgram.{LinkedProgram};
 ghost use Rattle.hierarchy.specs.Subclasses.{IsError, IsThrowable};
 ghost use Rattle.init_core.specs.declared.frames.Completed.{Completed as CompletedFacts};
 ghost use Rattle.init_core.specs.ProcedureWord.{GoesOn, IsOfFiles};
-ghost use Rattle.trace.specs.declared.report.Limit.{Limit as LimitFacts};
+ghost use Rattle.bodies.specs.declared.report.Limit.{Limit as LimitFacts};
 ghost use Rattle.bodies.specs.Making.{Making};
 ghost use Rattle.bodies.specs.Doing.{MayDo};
 ghost use Rattle.bodies.specs.declared.does.Does.{Does as DoesFacts};
 ghost use Rattle.bodies.specs.declared.does.Does.TheVariants.{Waits};
 
+use crate::report::Limit;
 use hierarchy::{ClassId, Program, Value};
 use init_core::Completed;
 use sequence::Text;
 use std::alloc::{AllocError, Global};
-use trace::Limit;
 
 /// What a body does next.
 #[derive(Drop)]

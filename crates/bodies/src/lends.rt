@@ -2,7 +2,7 @@
 
 ghost use Rattle.std.specs.Prelude.{◌≡◌, ◌↔◌, IsTrue};
 ghost use Rattle.hierarchy.specs.LinkedProgram.{LinkedProgram};
-ghost use Rattle.trace.specs.declared.report.Limit.{Limit as LimitFacts};
+ghost use Rattle.bodies.specs.declared.report.Limit.{Limit as LimitFacts};
 ghost use Rattle.bodies.specs.Lending.{Lending};
 
 use crate::does::Bodies;

@@ -1,9 +1,12 @@
-//! What initializers and the method `main` do, as the thread sees it that runs them.
+//! What initializers and the method `main` do, as the thread sees it that runs them, and what a run of threads answers.
 //!
 //! Enter by the trait [`Bodies`]: what runs the code of one thread. A body goes from one of its events to the next
 //! ([`Bodies::next`]) and the thread makes the event: an active use by the procedure of JLS SE 8 12.4.2, a read or a write of
 //! a static field, a print. [`NoCode`] is that whose bodies are empty. [`Lends`] is that of one of several threads which share something,
 //! and which one host thread runs in turn.
+//!
+//! A [`Report`] is what a run answers: how each thread ended, the events in their order, each class's label,
+//! and the output, which [`printed_by`] takes from the events.
 //!
 //! A [`Bodies`] says by relations over its own states what its bodies do; `specs/Making.antt` has them, and makes of them what
 //! the words of a procedure stand over.
@@ -12,7 +15,11 @@
 mod does;
 mod lends;
 mod no_code;
+mod output;
+mod report;
 
 pub use does::{Bodies, Does};
 pub use lends::Lends;
 pub use no_code::NoCode;
+pub use output::printed_by;
+pub use report::{Limit, Limits, Report, ThreadOutcome};

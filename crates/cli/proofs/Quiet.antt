@@ -3,8 +3,8 @@ use Rattle.std.proofs.Common.{◌≡◌, ◌∙◌, ℕ, suc, Bool, true, false,
 use Rattle.std.specs.List.{list_any}
 use Rattle.std.specs.Io.KnownBytes.{Appends, Keeps}
 use Rattle.hierarchy.specs.LinkedProgram.{LinkedProgram}
-use Rattle.trace.specs.declared.report.ThreadOutcome.{ThreadOutcome}
-use Rattle.trace.specs.declared.report.ThreadOutcome.TheVariants.{Normal, Abrupt, Ended}
+use Rattle.bodies.specs.declared.report.ThreadOutcome.{ThreadOutcome}
+use Rattle.bodies.specs.declared.report.ThreadOutcome.TheVariants.{Normal, Abrupt, Ended}
 use Rattle.command_line.specs.CommandLine.{Request, run, check, needs, unfit}
 use Rattle.cli.specs.Outcomes.{is_abrupt, outcomes_from}
 use Rattle.cli.specs.Serving.{IsServed, Surroundings}

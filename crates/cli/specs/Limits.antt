@@ -1,7 +1,7 @@
 -- How far each thread may go, as the command line says it.
 use Rattle.std.specs.Prelude.{◌≡◌, ℕ, ◌≤◌, List, Option, Some, None}
 use Rattle.std.specs.Str.Parse.{IsNumeral, digits_value}
-use Rattle.trace.specs.declared.report.Limits.{Limits}
+use Rattle.bodies.specs.declared.report.Limits.{Limits}
 use Rattle.cli.specs.declared.fault.Fault.{Fault}
 use Rattle.cli.specs.declared.fault.Fault.TheVariants.{Patience, Steps}
 

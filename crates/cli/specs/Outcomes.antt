@@ -5,10 +5,10 @@ use Rattle.hierarchy.specs.declared.built_in.BuiltIn.TheVariants.{InternalError,
 use Rattle.hierarchy.specs.LinkedProgram.{LinkedProgram, built_in}
 use Rattle.hierarchy.specs.declared.class.ClassId.{ClassId}
 use Rattle.trace.specs.TraceText.{class_text}
-use Rattle.trace.specs.declared.report.Limit.{Limit}
-use Rattle.trace.specs.declared.report.Limit.TheVariants.{Memory}
-use Rattle.trace.specs.declared.report.ThreadOutcome.{ThreadOutcome}
-use Rattle.trace.specs.declared.report.ThreadOutcome.TheVariants.{Normal, Abrupt, Ended}
+use Rattle.bodies.specs.declared.report.Limit.{Limit}
+use Rattle.bodies.specs.declared.report.Limit.TheVariants.{Memory}
+use Rattle.bodies.specs.declared.report.ThreadOutcome.{ThreadOutcome}
+use Rattle.bodies.specs.declared.report.ThreadOutcome.TheVariants.{Normal, Abrupt, Ended}
 
 -- the error by which the machine ends a thread
 abbrev pub error_of : LinkedProgram → Limit → ClassId

@@ -5,7 +5,7 @@ use Rattle.clap.specs.Words.{IsAmong, Text}
 use Rattle.clap.specs.declared.error.kind.ErrorKind.{ErrorKind}
 use Rattle.clap.specs.declared.error.kind.ErrorKind.TheVariants.{DisplayHelp, DisplayVersion}
 use Rattle.jasmin_text.specs.declared.class_text.ClassParts.{ClassParts}
-use Rattle.trace.specs.declared.report.Limits.{Limits}
+use Rattle.bodies.specs.declared.report.Limits.{Limits}
 use Rattle.cli.specs.declared.fault.Fault.{Fault}
 use Rattle.cli.specs.declared.fault.Fault.TheVariants.{Words}
 use Rattle.cli.specs.Checking.{IsCheckRefusal}

@@ -5,8 +5,8 @@ use Rattle.hierarchy.specs.declared.class.ClassId.{ClassId}
 use Rattle.hierarchy.specs.declared.fault.LinkFault.{LinkFault}
 use Rattle.hierarchy.specs.FirstFault.{IsFirstFault, LinksTo}
 use Rattle.hierarchy.specs.LinkedProgram.{LinkedProgram, class_named}
-use Rattle.trace.specs.declared.report.Limits.{Limits}
-use Rattle.trace.specs.declared.report.Report.{Report}
+use Rattle.bodies.specs.declared.report.Limits.{Limits}
+use Rattle.bodies.specs.declared.report.Report.{Report}
 use Rattle.interpreter.specs.declared.interpreter.Interpreter.{Interpreter}
 use Rattle.interpreter.specs.CodeRun.{code_bodies, interpreter_at_start}
 use Rattle.interpreter.specs.SharedRun.{shared_bodies}

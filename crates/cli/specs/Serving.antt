@@ -7,8 +7,8 @@ use Rattle.jasmin_text.specs.declared.class_text.ClassParts.{ClassParts}
 use Rattle.hierarchy.specs.FirstFault.{LinksTo}
 use Rattle.hierarchy.specs.LinkedProgram.{LinkedProgram}
 use Rattle.trace.specs.TraceText.{trace_of}
-use Rattle.trace.specs.declared.report.Limits.{Limits}
-use Rattle.trace.specs.declared.report.Report.{Report}
+use Rattle.bodies.specs.declared.report.Limits.{Limits}
+use Rattle.bodies.specs.declared.report.Report.{Report}
 use Rattle.hierarchy.specs.declared.class.ClassId.{ClassId}
 use Rattle.init_core.specs.declared.event.Event.{Event}
 use Rattle.judge.specs.declared.verdict.Verdict.{Verdict}

@@ -6,7 +6,7 @@ ghost use Rattle.command_line.specs.CommandLine.{text_of};
 ghost use Rattle.cli.specs.Limits.{AreLimits, IsLimitRefusal, IsNumber, IsPatience, IsSteps};
 
 use crate::fault::Fault;
-use trace::Limits;
+use bodies::Limits;
 
 /// The decimal number that these digits write, and nothing else, where it fits.
 fn number_of(text: &str) -> Option<u32>

@@ -5,11 +5,12 @@ ghost use Rattle.sequence.specs.Written.{Adds};
 ghost use Rattle.std.specs.List.{list_any};
 ghost use Rattle.cli.specs.Outcomes.{is_abrupt, outcome_line, outcome_text, outcomes_text, status_after};
 
+use bodies::{Limit, ThreadOutcome};
 use hierarchy::{BuiltIn, ClassId, Program};
 use jasmin_words::integer::push_decimal;
 use sequence::Writer;
 use std::alloc::{AllocError, Global};
-use trace::{Limit, ThreadOutcome, write_class_name};
+use trace::write_class_name;
 
 /// Writes the line of a thread that ended by this throwable.
 fn write_line(out: &mut Writer, program: &Program, thread: usize, throwable: ClassId)

@@ -22,6 +22,7 @@ ghost use Rattle.cli.specs.Running.{IsLinkRefusal, IsOrderedRunBy, IsRefusal, Is
 use crate::fault::Fault;
 use crate::files::{Named, read_texts};
 use crate::orders::fits;
+use bodies::{Limits, Report};
 use guest_threads::{NoGate, RunFault, run_threads};
 use hierarchy::{ClassId, LinkFaultKind, Program, link};
 use interpreter::{Interpreter, Objects, SharedInterpreter, SharedObjects, TurnInterpreter};
@@ -30,7 +31,6 @@ use replayer::run_ordered;
 use std::alloc::{AllocError, Global};
 use std::sync::Wait;
 use std::thread::Threads;
-use trace::{Limits, Report};
 
 /// The program of all class texts. Want of memory is told in its own way.
 fn link_texts<'a>(alloc: Global, texts: Vec<ClassText>) -> Result<Program, Fault<'a>>

@@ -28,6 +28,7 @@ use crate::needed::write_needs;
 use crate::orders::order_of;
 use crate::outcomes::{status_of_outcomes, write_outcomes};
 use crate::running::{ProgramRun, link_files, run_texts};
+use bodies::Limits;
 use clap::error::ErrorKind;
 use command_line::{Asked, Check, Run, parse};
 use hierarchy::Program;
@@ -36,7 +37,7 @@ use std::alloc::Global;
 use std::io;
 use std::sync::Wait;
 use std::thread::Threads;
-use trace::{Limits, write_trace};
+use trace::write_trace;
 
 /// Writes the output, whole.
 #[tactic(auto, using(crate::proofs::KnownOutput::appends_kept))]

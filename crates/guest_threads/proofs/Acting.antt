@@ -33,8 +33,8 @@ use Rattle.init_core.proofs.Leading.{MakesEnd}
 use Rattle.init_core.proofs.Mains.{main_threw, ends_main}
 use Rattle.init_lock.specs.declared.journal.Stamped.{Stamped}
 use Rattle.init_lock.specs.Known.{HeldFacts, IsSamePass}
-use Rattle.trace.specs.declared.report.Limit.{Limit}
-use Rattle.trace.specs.declared.report.Limit.TheVariants.{Steps, Patience, Memory}
+use Rattle.bodies.specs.declared.report.Limit.{Limit}
+use Rattle.bodies.specs.declared.report.Limit.TheVariants.{Steps, Patience, Memory}
 use Rattle.bodies.specs.declared.does.Does.{Does}
 use Rattle.bodies.specs.declared.does.Does.TheVariants as does
 use Rattle.bodies.specs.Doing.{MayDo}

@@ -16,7 +16,7 @@ use Rattle.init_lock.specs.Merging.{AreJournals}
 use Rattle.init_lock.specs.Rule.{element_at}
 use Rattle.init_lock.specs.Known.{PassFacts, TableFacts, Written, IsNewPass, IsAway}
 use Rattle.init_lock.specs.Closing.{numbers, written, HasJournals, FollowsAll}
-use Rattle.trace.specs.declared.report.ThreadOutcome.{ThreadOutcome}
+use Rattle.bodies.specs.declared.report.ThreadOutcome.{ThreadOutcome}
 use Rattle.bodies.specs.Making.{Making, maker_of}
 use Rattle.guest_threads.specs.declared.guarded.Guarded.{Guarded}
 use Rattle.guest_threads.specs.declared.work.Worked.{Worked}

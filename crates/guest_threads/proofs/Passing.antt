@@ -25,7 +25,7 @@ use Rattle.init_core.proofs.Leading.{Makes}
 use Rattle.init_lock.specs.declared.journal.Stamped.{Stamped}
 use Rattle.init_lock.specs.declared.views.PlaceView.{PlaceView}
 use Rattle.init_lock.specs.Known.{PassFacts, HeldFacts, TableFacts, seen_at, IsSamePass, IsAway}
-use Rattle.trace.specs.declared.report.Limit.{Limit}
+use Rattle.bodies.specs.declared.report.Limit.{Limit}
 use Rattle.bodies.specs.Making.{Making, maker_of}
 use Rattle.guest_threads.specs.declared.guarded.Guarded.{Guarded}
 use Rattle.guest_threads.specs.declared.task.Work.{Work}

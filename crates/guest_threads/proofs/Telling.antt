@@ -35,10 +35,10 @@ use Rattle.init_core.proofs.Knowing.{others_go_on, runs_body}
 use Rattle.init_core.proofs.Mains.{main_looks}
 use Rattle.init_lock.specs.declared.journal.Stamped.{Stamped}
 use Rattle.init_lock.specs.Known.{HeldFacts, seen_at, IsSamePass}
-use Rattle.trace.specs.declared.report.Limit.{Limit}
-use Rattle.trace.specs.declared.report.Limit.TheVariants.{Steps, Patience, Memory}
-use Rattle.trace.specs.declared.report.ThreadOutcome.{ThreadOutcome}
-use Rattle.trace.specs.declared.report.ThreadOutcome.TheVariants as outcome
+use Rattle.bodies.specs.declared.report.Limit.{Limit}
+use Rattle.bodies.specs.declared.report.Limit.TheVariants.{Steps, Patience, Memory}
+use Rattle.bodies.specs.declared.report.ThreadOutcome.{ThreadOutcome}
+use Rattle.bodies.specs.declared.report.ThreadOutcome.TheVariants as outcome
 use Rattle.bodies.specs.Making.{Making, maker_of}
 use Rattle.bodies.proofs.ThreadSteps.{end_leads_at}
 use Rattle.guest_threads.specs.declared.guarded.Guarded.{Guarded}

@@ -5,7 +5,7 @@ use Rattle.hierarchy.specs.LinkedProgram.{LinkedProgram}
 use Rattle.init_core.specs.declared.frames.Completed.{Completed}
 use Rattle.init_core.specs.declared.frames.Outcome.{Outcome}
 use Rattle.init_core.specs.Advance.{FitsBody}
-use Rattle.trace.specs.declared.report.Limit.{Limit}
+use Rattle.bodies.specs.declared.report.Limit.{Limit}
 use Rattle.bodies.specs.declared.does.Does.{Does}
 use Rattle.bodies.specs.Making.{Making}
 use Rattle.guest_threads.specs.declared.task.Work.{Work}

@@ -6,8 +6,8 @@ use Rattle.hierarchy.specs.LinkedProgram.{LinkedProgram}
 use Rattle.init_core.specs.declared.event.Event.{Event}
 use Rattle.init_lock.specs.Known.{PassFacts, TableFacts, seen_at, IsAway}
 use Rattle.init_lock.specs.Closing.{numbers}
-use Rattle.trace.specs.declared.report.Limits.{Limits}
-use Rattle.trace.specs.declared.report.Report.{Report}
+use Rattle.bodies.specs.declared.report.Limits.{Limits}
+use Rattle.bodies.specs.declared.report.Report.{Report}
 use Rattle.bodies.specs.Making.{Making}
 use Rattle.guest_threads.specs.declared.guarded.Guarded.{Guarded}
 use Rattle.guest_threads.specs.declared.launch.Job.{Job}

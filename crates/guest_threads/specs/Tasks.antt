@@ -6,11 +6,11 @@ use Rattle.hierarchy.specs.LinkedProgram.{LinkedProgram, built_in}
 use Rattle.init_core.specs.declared.frames.Outcome.{Outcome}
 use Rattle.init_core.specs.declared.frames.Outcome.TheVariants.{Normal, Abrupt, Ended}
 use Rattle.init_lock.specs.Known.{TableFacts}
-use Rattle.trace.specs.declared.report.Limit.{Limit}
-use Rattle.trace.specs.declared.report.Limit.TheVariants.{Steps, Patience, Memory}
-use Rattle.trace.specs.declared.report.Limits.{Limits}
-use Rattle.trace.specs.declared.report.ThreadOutcome.{ThreadOutcome}
-use Rattle.trace.specs.declared.report.ThreadOutcome.TheVariants as outcome
+use Rattle.bodies.specs.declared.report.Limit.{Limit}
+use Rattle.bodies.specs.declared.report.Limit.TheVariants.{Steps, Patience, Memory}
+use Rattle.bodies.specs.declared.report.Limits.{Limits}
+use Rattle.bodies.specs.declared.report.ThreadOutcome.{ThreadOutcome}
+use Rattle.bodies.specs.declared.report.ThreadOutcome.TheVariants as outcome
 use Rattle.bodies.specs.Making.{Making}
 use Rattle.bodies.specs.Runs.{IsEndedAt}
 

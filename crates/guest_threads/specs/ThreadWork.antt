@@ -4,7 +4,7 @@ use Rattle.hierarchy.specs.declared.class.ClassId.{ClassId}
 use Rattle.hierarchy.specs.LinkedProgram.{LinkedProgram}
 use Rattle.init_core.specs.ProgramEvents.{IsProgramEvent}
 use Rattle.init_lock.specs.Known.{TableFacts}
-use Rattle.trace.specs.declared.report.Limits.{Limits}
+use Rattle.bodies.specs.declared.report.Limits.{Limits}
 use Rattle.bodies.specs.Making.{Making}
 use Rattle.guest_threads.specs.declared.work.Worked.{Worked}
 use Rattle.guest_threads.specs.Tasks.{TaskFacts}

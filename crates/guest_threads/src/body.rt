@@ -11,14 +11,13 @@ ghost use Rattle.guest_threads.specs.Working.{Working, IsInBody, HasComeTo, IsDo
 use crate::gate::Gate;
 use crate::take::{give_back_untouched, give_back_with, take_record};
 use crate::task::{Task, Work, error_at};
-use bodies::{Bodies, Does};
+use bodies::{Bodies, Does, Limit};
 use hierarchy::{ClassId, Value};
 use init_core::{Event, Kind, Outcome};
 use sequence::Text;
 use std::alloc::AllocError;
 use std::sync::Wait;
 use std::thread;
-use trace::Limit;
 
 impl<'a, G: Gate, B: Bodies> Task<'a, G, B> {
     /// What the innermost body does next. Where it waits the thread lets others run, and asks again; an answer

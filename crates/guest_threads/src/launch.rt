@@ -10,7 +10,7 @@ use crate::guarded::Guarded;
 use crate::run::RunFault;
 use crate::signals::Signals;
 use crate::work::{Worked, work_from};
-use bodies::Bodies;
+use bodies::{Bodies, Limits};
 use hierarchy::{ClassId, Program};
 use init_lock::{InitTable, Pass};
 use std::alloc::{AllocError, Global};
@@ -19,7 +19,6 @@ use std::snapshot::Snapshot;
 use std::sync::Wait;
 use std::thread;
 use std::thread::{Promise, PromisedHandle, Scope, Threads};
-use trace::Limits;
 
 /// What all threads of a run are given.
 #[derive(Drop)]

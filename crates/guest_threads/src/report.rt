@@ -8,12 +8,11 @@ ghost use Rattle.guest_threads.specs.AllWork.{AreBack, IsReportOf};
 
 use crate::guarded::Guarded;
 use crate::work::Worked;
-use bodies::Bodies;
+use bodies::{Bodies, Report, ThreadOutcome, printed_by};
 use init_core::Label;
 use init_lock::{InitTable, Pass, merge};
 use sequence::Sequence;
 use std::alloc::{AllocError, Global};
-use trace::{Report, ThreadOutcome, printed_by};
 
 /// The label of each record. Each record shows that its history is lawful. An `Err` is want of memory.
 fn labels(alloc: Global, records: &[Guarded]) -> Result<Sequence<Label>, AllocError>

@@ -8,14 +8,13 @@ use crate::gate::Gate;
 use crate::guarded::Guarded;
 use crate::launch::{Plan, jobs, run_each};
 use crate::report::report;
-use bodies::Bodies;
+use bodies::{Bodies, Limits, Report};
 use hierarchy::{ClassId, Program};
 use init_core::ClassRecord;
 use init_lock::InitTable;
 use std::alloc::{AllocError, Global};
 use std::sync::Wait;
 use std::thread::Threads;
-use trace::{Limits, Report};
 
 /// Why there is no run.
 #[derive(Clone, Copy)]

@@ -9,11 +9,10 @@ ghost use Rattle.guest_threads.specs.Working.{Working, HasLooked};
 use crate::gate::Gate;
 use crate::take::{give_back_asleep, give_back_untouched, give_back_with, take_record};
 use crate::task::{Task, Work, error_at};
-use bodies::Bodies;
+use bodies::{Bodies, Limit};
 use hierarchy::ClassId;
 use init_core::{Answer, Ending, Event, Kind};
 use std::sync::Wait;
-use trace::Limit;
 
 impl<'a, G: Gate, B: Bodies> Task<'a, G, B> {
     /// The request of a class is given up: the machine ends the thread at this limit.

@@ -7,14 +7,13 @@ ghost use Rattle.guest_threads.specs.Working.{Working, IsRoomier};
 use crate::gate::Gate;
 use crate::guarded::Guarded;
 use crate::signals::Signals;
-use bodies::Bodies;
+use bodies::{Bodies, Limit, Limits};
 use hierarchy::{BuiltIn, ClassId, Program};
 use init_core::Procedure;
 use init_lock::{InitTable, Pass};
 use std::alloc::Global;
 use std::marker::Model;
 use std::snapshot::Snapshot;
-use trace::{Limit, Limits};
 
 /// What one thread is to do: its number and main class, and all that it works with.
 #[derive(Drop)]

@@ -15,7 +15,7 @@ use crate::gate::Gate;
 use crate::guarded::Guarded;
 use crate::signals::Signals;
 use crate::task::{Task, Work};
-use bodies::Bodies;
+use bodies::{Bodies, Limit, Limits, ThreadOutcome};
 use hierarchy::{ClassId, Program};
 use init_core::{Completed, Next, Outcome, Procedure};
 use init_lock::{InitTable, Pass};
@@ -23,7 +23,6 @@ use std::alloc::{AllocError, Global};
 use std::snapshot::Snapshot;
 use std::sync::Wait;
 use std::thread;
-use trace::{Limit, Limits, ThreadOutcome};
 
 /// What a thread gives back.
 #[derive(Drop)]

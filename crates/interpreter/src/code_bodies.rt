@@ -15,13 +15,12 @@ use crate::performing::phase_of;
 use crate::phase::Phase;
 use crate::says::is_throwable;
 use crate::taken::TakenMonitors;
-use bodies::{Bodies, Does, Lends};
+use bodies::{Bodies, Does, Lends, Limit};
 use frames::{Cell, Frames, Thrown};
 use heap::{Heap, Monitor, Monitors, no_class, out_of_memory};
 use hierarchy::{BuiltIn, ClassId, MethodCode, Program, Value, throwables_are_subclasses};
 use init_core::{Completed, Outcome};
 use std::alloc::{AllocError, Global};
-use trace::Limit;
 
 /// What is thrown where the procedure for a class completed abruptly.
 fn answer(program: &Program, thrown: Option<Thrown>) -> Thrown

@@ -17,7 +17,7 @@ use crate::interpreter::Interpreter;
 use crate::methods::{method_code, static_type};
 use crate::moves::take;
 use crate::phase::Phase;
-use bodies::Does;
+use bodies::{Does, Limit};
 use frames::{Cell, Thrown};
 use heap::Monitor;
 use hierarchy::{
@@ -25,7 +25,6 @@ use hierarchy::{
     throwables_are_subclasses,
 };
 use std::alloc::{AllocError, Global};
-use trace::Limit;
 
 /// The operand on top as a static field takes it.
 fn value_on_top(value: Option<Cell>) -> Value

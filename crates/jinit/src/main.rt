@@ -1,78 +1,16 @@
 //! The program `jinit`: the machine's words, files and streams, handed to [`cli::serve`].
 #![tactic(auto)]
 
-ghost use Rattle.std.specs.Prelude.{◌≤◌, vec_len, IfOk};
+ghost use Rattle.std.specs.Prelude.{◌≤◌};
 
-use cli::{Named, NamedFault, serve};
+use cli::{MachineFiles, Named, serve};
 use std::alloc::{AllocError, Global};
-use std::fs::File;
-use std::io::{Read, Write};
+use std::io::Write;
 use std::process::ExitCode;
 use std::rt::Files;
 use std::sync::Wait;
 use std::thread::Threads;
-use std::{env, fs, io};
-
-/// The machine's files.
-#[derive(Drop)]
-struct MachineFiles<'a, R> {
-    rt: &'a R,
-}
-
-fn fault_of(error: &io::Error) -> NamedFault {
-    match error.kind() {
-        io::ErrorKind::OutOfMemory => NamedFault::Memory,
-        _ => NamedFault::Io,
-    }
-}
-
-/// How many bytes are asked for at once.
-const CHUNK: usize = 16_384;
-
-/// The first bytes of a file, at most `most` of them.
-fn read_file(alloc: Global, file: impl Read + Drop, most: usize) -> Result<Vec<u8>, NamedFault>
-    ensures { IfOk result (λ bytes. vec_len bytes ≤ most) }
-{
-    let mut file = file.take(most as u64);
-    let mut chunk = [0; CHUNK];
-    let mut bytes = Vec::new(alloc);
-    // (each turn but the last has a byte at least, unless a signal breaks into it)
-    for _ in 0..=most {
-        match file.read(&mut chunk) {
-            Ok(0) => {
-                bytes.truncate(most);
-                return Ok(bytes);
-            }
-            Ok(count) => {
-                if bytes.extend_from_slice(&chunk[..count]).is_err() {
-                    return Err(NamedFault::Memory);
-                }
-            }
-            Err(error) => {
-                if error.kind() != io::ErrorKind::Interrupted {
-                    return Err(fault_of(&error));
-                }
-            }
-        }
-    }
-    Err(NamedFault::Io)
-}
-
-impl<R: Files> Named for MachineFiles<'_, R> {
-    fn read(&mut self, alloc: Global, name: &str, most: usize) -> Result<Vec<u8>, NamedFault> {
-        match File::open(self.rt, name) {
-            Ok(file) => read_file(alloc, file, most),
-            Err(error) => Err(fault_of(&error)),
-        }
-    }
-
-    fn write(&mut self, name: &str, bytes: &[u8]) -> Result<(), NamedFault> {
-        match fs::write(self.rt, name, bytes) {
-            Ok(()) => Ok(()),
-            Err(error) => Err(fault_of(&error)),
-        }
-    }
-}
+use std::{env, io};
 
 /// Tells why the words of the command line can't be had, and answers the exit status: want of memory, or a
 /// word that isn't text.

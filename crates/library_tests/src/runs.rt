@@ -7,7 +7,7 @@ ghost use Rattle.init_core.specs.ProcedureWord.{IsOfFiles};
 use crate::long_chain::{CLASSES, INTERFACES};
 use crate::programs::{Question, Row};
 use crate::steps::{Step, Steps, step_of, steps_of};
-use bodies::NoCode;
+use bodies::{Limits, NoCode, Report, ThreadOutcome};
 use guest_threads::{Gate, NoGate, run_threads};
 use hierarchy::{ClassId, Program};
 use init_core::{Event, Kind, Label};
@@ -18,7 +18,6 @@ use std::sync::atomic::{AtomicU64, Ordering};
 use std::thread;
 use std::thread::Threads;
 use std::time::Duration;
-use trace::{Limits, Report, ThreadOutcome};
 
 /// Which threads run, and what is asked of their run.
 pub(crate) enum Crowd {

@@ -10,7 +10,7 @@ ghost use Rattle.library_tests.specs.declared.scripted.Scripted.{Scripted as Scr
 
 use crate::programs::{Question, Row};
 use crate::runs::are_of_files;
-use bodies::{Bodies, Does, Lends};
+use bodies::{Bodies, Does, Lends, Limit, Limits, Report, ThreadOutcome};
 use descriptors::BaseType;
 use frames::replacement;
 use guest_threads::{NoGate, run_threads};
@@ -22,7 +22,6 @@ use statics::Bank;
 use std::alloc::{AllocError, Global};
 use std::sync::Wait;
 use std::thread::Threads;
-use trace::{Limit, Limits, Report, ThreadOutcome};
 
 /// The class that is used.
 const USED: ClassId = ClassId { number: 0 };

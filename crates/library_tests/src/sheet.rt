@@ -8,8 +8,8 @@ ghost use Rattle.jasmin_text.specs.declared.class_text.ClassParts.{ClassParts};
 ghost use Rattle.hierarchy.specs.FirstFault.{LinksTo};
 ghost use Rattle.hierarchy.specs.LinkedProgram.{LinkedProgram};
 ghost use Rattle.trace.specs.TraceText.{trace_of};
-ghost use Rattle.trace.specs.declared.report.Limits.{Limits};
-ghost use Rattle.trace.specs.declared.report.Report.{Report};
+ghost use Rattle.bodies.specs.declared.report.Limits.{Limits};
+ghost use Rattle.bodies.specs.declared.report.Report.{Report};
 ghost use Rattle.cli.specs.Limits.{AreLimits};
 ghost use Rattle.cli.specs.Running.{IsRunOfNamed};
 

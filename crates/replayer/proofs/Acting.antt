@@ -34,8 +34,8 @@ use Rattle.init_core.specs.Stands.{SeesMore, ending_error}
 use Rattle.init_core.proofs.Knowing.{others_go_on, request_calm}
 use Rattle.init_core.proofs.Leading.{MakesEnd}
 use Rattle.init_core.proofs.Mains.{ends_main}
-use Rattle.trace.specs.declared.report.Limit.{Limit}
-use Rattle.trace.specs.declared.report.Limit.TheVariants.{Steps}
+use Rattle.bodies.specs.declared.report.Limit.{Limit}
+use Rattle.bodies.specs.declared.report.Limit.TheVariants.{Steps}
 use Rattle.bodies.specs.declared.does.Does.{Does}
 use Rattle.bodies.specs.declared.does.Does.TheVariants as does
 use Rattle.bodies.specs.Doing.{MayDo}

@@ -20,12 +20,12 @@ use Rattle.init_core.proofs.Forgetting.{forget_thread}
 use Rattle.init_core.proofs.Balanced.{total, begun, ended, thread_even}
 use Rattle.init_core.proofs.UnderWay.{mine, AreCounted, counted_by_part, lawful_counted}
 use Rattle.init_core.proofs.InterleavingParts.{class_is}
-use Rattle.trace.specs.declared.report.Limit.TheVariants.{Memory}
-use Rattle.trace.specs.declared.report.Limits.{Limits}
-use Rattle.trace.specs.declared.report.Report.{Report}
-use Rattle.trace.specs.declared.report.ThreadOutcome.{ThreadOutcome}
-use Rattle.trace.specs.declared.report.ThreadOutcome.TheVariants as outcome
-use Rattle.trace.specs.Output.{output_of}
+use Rattle.bodies.specs.declared.report.Limit.TheVariants.{Memory}
+use Rattle.bodies.specs.declared.report.Limits.{Limits}
+use Rattle.bodies.specs.declared.report.Report.{Report}
+use Rattle.bodies.specs.declared.report.ThreadOutcome.{ThreadOutcome}
+use Rattle.bodies.specs.declared.report.ThreadOutcome.TheVariants as outcome
+use Rattle.bodies.specs.Output.{output_of}
 use Rattle.bodies.specs.Lending.{Lending, Lent, lent_at_start, lent_bodies}
 use Rattle.bodies.specs.Making.{Making, maker_of}
 use Rattle.bodies.specs.Runs.{IsOutcome}

@@ -4,7 +4,7 @@ use Rattle.std.specs.Prelude.{slice_index_or}
 use Rattle.std.proofs.lemmas.Bool.{eq-eqb, ne_eqb}
 use Rattle.std.proofs.lemmas.Bool.Decides.{eqb_tells}
 use Rattle.hierarchy.specs.LinkedProgram.{LinkedProgram}
-use Rattle.trace.specs.declared.report.Limit.{Limit}
+use Rattle.bodies.specs.declared.report.Limit.{Limit}
 use Rattle.bodies.specs.Lending.{Lending, Lent, StepsWith}
 use Rattle.bodies.specs.Making.{Making}
 use Rattle.replayer.specs.declared.run.Run.{Run}

@@ -3,8 +3,8 @@ use Rattle.std.specs.Prelude.{◌≡◌, ◌≢◌, ◌⊎◌, ℕ, ◌<◌, Lis
 use Rattle.std.specs.List.{AllByRecursion, Contains}
 use Rattle.hierarchy.specs.declared.class.ClassId.{ClassId}
 use Rattle.hierarchy.specs.LinkedProgram.{LinkedProgram}
-use Rattle.trace.specs.declared.report.ThreadOutcome.{ThreadOutcome}
-use Rattle.trace.specs.declared.report.ThreadOutcome.TheVariants as outcome
+use Rattle.bodies.specs.declared.report.ThreadOutcome.{ThreadOutcome}
+use Rattle.bodies.specs.declared.report.ThreadOutcome.TheVariants as outcome
 use Rattle.init_core.specs.declared.event.Event.{Event}
 use Rattle.init_core.specs.declared.frames.Outcome.{Outcome}
 use Rattle.init_core.specs.Interleaving.{of_thread}

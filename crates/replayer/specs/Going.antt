@@ -11,11 +11,11 @@ use Rattle.init_core.specs.Decisions.{waits}
 use Rattle.init_core.specs.Interleaving.{of_thread}
 use Rattle.init_core.specs.ProcedureWord.{ThreadWordOf, GoesOn, IsOfFiles}
 use Rattle.init_core.specs.Stands.{ending_error}
-use Rattle.trace.specs.declared.report.Limit.{Limit}
-use Rattle.trace.specs.declared.report.Limit.TheVariants.{Patience, Steps}
-use Rattle.trace.specs.declared.report.Limits.{Limits}
-use Rattle.trace.specs.declared.report.ThreadOutcome.{ThreadOutcome}
-use Rattle.trace.specs.declared.report.ThreadOutcome.TheVariants as outcome
+use Rattle.bodies.specs.declared.report.Limit.{Limit}
+use Rattle.bodies.specs.declared.report.Limit.TheVariants.{Patience, Steps}
+use Rattle.bodies.specs.declared.report.Limits.{Limits}
+use Rattle.bodies.specs.declared.report.ThreadOutcome.{ThreadOutcome}
+use Rattle.bodies.specs.declared.report.ThreadOutcome.TheVariants as outcome
 use Rattle.bodies.specs.declared.does.Does.{Does}
 use Rattle.bodies.specs.declared.does.Does.TheVariants.{Waits}
 use Rattle.bodies.specs.Doing.{MayDo}

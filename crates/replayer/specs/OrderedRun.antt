@@ -16,11 +16,11 @@ use Rattle.init_core.specs.Interleaving.{of_thread, of_class, label_at}
 use Rattle.init_core.specs.Lawful.{IsInProgressByOther}
 use Rattle.init_core.specs.Leads.{frame}
 use Rattle.init_core.specs.Standing.{Standing}
-use Rattle.trace.specs.declared.report.Limit.TheVariants.{Memory, Patience}
-use Rattle.trace.specs.declared.report.Limits.{Limits}
-use Rattle.trace.specs.declared.report.Report.{Report}
-use Rattle.trace.specs.declared.report.ThreadOutcome.{ThreadOutcome}
-use Rattle.trace.specs.declared.report.ThreadOutcome.TheVariants as outcome
+use Rattle.bodies.specs.declared.report.Limit.TheVariants.{Memory, Patience}
+use Rattle.bodies.specs.declared.report.Limits.{Limits}
+use Rattle.bodies.specs.declared.report.Report.{Report}
+use Rattle.bodies.specs.declared.report.ThreadOutcome.{ThreadOutcome}
+use Rattle.bodies.specs.declared.report.ThreadOutcome.TheVariants as outcome
 use Rattle.bodies.specs.declared.does.Does.TheVariants.{Waits}
 use Rattle.bodies.specs.Lending.{Lending, Lent, lent_at_start, lent_bodies}
 use Rattle.bodies.specs.Making.{Making}

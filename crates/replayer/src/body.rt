@@ -14,12 +14,11 @@ use crate::lent::Lent;
 use crate::log::EventLog;
 use crate::shared::Shared;
 use crate::thread::{Thread, Turn, event_of, turn_of};
-use bodies::{Does, Lends};
+use bodies::{Does, Lends, Limit};
 use hierarchy::{BuiltIn, ClassId, Program, Value};
 use init_core::{Kind, Outcome};
 use sequence::Text;
 use std::alloc::{AllocError, Global};
-use trace::Limit;
 
 impl<H, B: Lends<H>> Thread<Lent<B, H>> {
     /// The body is ended by this error of the machine, for patience or not. In `main` that is how the thread ends.

@@ -3,7 +3,7 @@
 ghost use Rattle.std.specs.Prelude.{◌≡◌, ◌<◌, IfOk, length, vec_len};
 ghost use Rattle.std.specs.List.{AllByRecursion};
 ghost use Rattle.init_core.specs.Interleaving.{labels_of};
-ghost use Rattle.trace.specs.Output.{output_of};
+ghost use Rattle.bodies.specs.Output.{output_of};
 ghost use Rattle.bodies.specs.Lending.{lent_bodies};
 ghost use Rattle.bodies.specs.Runs.{AreMains};
 ghost use Rattle.replayer.specs.AllGoing.{AllThreads, AreGoing, HasDone, outcomes_of};
@@ -13,12 +13,11 @@ ghost use Rattle.replayer.specs.OrderedRun.{IsOrderedRunOf};
 use crate::lent::Lent;
 use crate::run::Run;
 use crate::thread::Thread;
-use bodies::Lends;
+use bodies::{Lends, Limit, Report, ThreadOutcome, printed_by};
 use hierarchy::{ClassId, Program};
 use init_core::Outcome;
 use sequence::Sequence;
 use std::alloc::{AllocError, Global};
-use trace::{Limit, Report, ThreadOutcome, printed_by};
 
 /// How a thread ended, by the result of what it did, and by whether it gave up.
 fn outcome_of(done: Outcome, gave_up: bool) -> ThreadOutcome

@@ -1,2 +1,1 @@
 pub mod TraceText
-pub mod Output

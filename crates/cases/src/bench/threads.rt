@@ -12,7 +12,7 @@ ghost use Rattle.init_core.specs.ProcedureWord.{IsOfFiles};
 use crate::bench::files::Files;
 use crate::bench::harness::{Failure, Row, Watch};
 use crate::bench::sample::Sample;
-use bodies::NoCode;
+use bodies::{Limits, NoCode};
 use guest_threads::{Gate, NoGate, run_threads};
 use hierarchy::{ClassId, Program};
 use init_core::{Event, Kind};
@@ -22,7 +22,6 @@ use std::sync::Wait;
 use std::thread;
 use std::thread::Threads;
 use std::time::Duration;
-use trace::Limits;
 
 const LENGTH: usize = 30;
 

@@ -2,6 +2,7 @@
 
 use crate::linked::add_class;
 use crate::programs::named_texts::Texts;
+use bodies::{Limits, Report};
 use cli::{Named, write_outcomes};
 use command_line::Run;
 use guest_threads::{NoGate, run_threads};
@@ -11,7 +12,7 @@ use jasmin_text::ClassText;
 use std::alloc::Global;
 use std::sync::Wait;
 use std::thread::Threads;
-use trace::{Limits, Report, write_trace};
+use trace::write_trace;
 
 /// The most bytes of a file.
 const MOST_BYTES: usize = 1_048_576;

@@ -1,6 +1,6 @@
 use Rattle.std.proofs.Common.{ℕ, refl, sym, subst}
-use Rattle.trace.specs.declared.report.Limit.TheVariants.{Memory}
-use Rattle.trace.specs.declared.report.ThreadOutcome.TheVariants.{Ended}
+use Rattle.bodies.specs.declared.report.Limit.TheVariants.{Memory}
+use Rattle.bodies.specs.declared.report.ThreadOutcome.TheVariants.{Ended}
 use Rattle.guest_threads.specs.Working.{Works}
 use Rattle.guest_threads.proofs.Telling.{refused, starts}
 use Rattle.guest_threads.proofs.work.work_from.Goals as goal

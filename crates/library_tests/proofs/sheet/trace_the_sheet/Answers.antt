@@ -10,8 +10,8 @@ use Rattle.jasmin_text.specs.declared.class_text.ClassParts.{ClassParts}
 use Rattle.hierarchy.specs.FirstFault.{LinksTo}
 use Rattle.hierarchy.specs.LinkedProgram.{LinkedProgram}
 use Rattle.trace.specs.TraceText.{trace_of}
-use Rattle.trace.specs.declared.report.Limits.{Limits}
-use Rattle.trace.specs.declared.report.Report.{Report}
+use Rattle.bodies.specs.declared.report.Limits.{Limits}
+use Rattle.bodies.specs.declared.report.Report.{Report}
 use Rattle.command_line.specs.CommandLine.{RunWords, bare_line, command_line, faults_in, file_words, flag_named, option_named, request_in, rows_in, run, subcommand_named, with_run_options, with_trace}
 use Rattle.cli.specs.Files.{AreSpelled, Files}
 use Rattle.cli.specs.Limits.{AreLimits}

@@ -1,5 +1,5 @@
 use Rattle.bodies.specs.declared.does.Does.TheVariants.{Ended}
-use Rattle.trace.specs.declared.report.Limit.TheVariants.{Memory}
+use Rattle.bodies.specs.declared.report.Limit.TheVariants.{Memory}
 use Rattle.interpreter.proofs.Running.{no_rows, then_row_of}
 use Rattle.interpreter.proofs.Saying.{lacks_memory}
 use Rattle.interpreter.proofs.TakingTurns.{says_in_turn, then_turn}

@@ -1,7 +1,7 @@
 //! What events print.
 
 ghost use Rattle.std.specs.Prelude.{◌≡◌, ◌++◌, IfOk};
-ghost use Rattle.trace.specs.Output.{output_in, output_of};
+ghost use Rattle.bodies.specs.Output.{output_in, output_of};
 
 use init_core::Event;
 use sequence::{Sequence, Text};

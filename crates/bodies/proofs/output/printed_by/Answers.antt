@@ -1,8 +1,8 @@
 use Rattle.std.proofs.Common.{◌≡◌, ℕ, ◌+◌, ◌<◌, List, ◌∷◌, ◌++◌, length, get_or, drop, sym, ap, append_assoc, append-nil, ◌∙◌}
 use Rattle.std.proofs.lemmas.List.{drop_all, drop_more}
 use Rattle.init_core.specs.declared.event.Event.{Event}
-use Rattle.trace.specs.Output.{output_in, output_of}
-use Rattle.trace.proofs.output.printed_by.Goals as goal
+use Rattle.bodies.specs.Output.{output_in, output_of}
+use Rattle.bodies.proofs.output.printed_by.Goals as goal
 
 -- one event's output added, where that of the events before it stands
 one_more : (out new : List ℕ) (e : Event) (es : List Event) (i : ℕ) → i < length es → e ≡ get_or es i e
