@@ -1,6 +1,6 @@
 //! The numbers, supertypes, needs and quoted texts of a program's classes.
 
-use crate::classes_members::push_class;
+use crate::classes_members::{push_class, simple_name};
 use crate::text::Text;
 use hierarchy::{BUILT_IN_COUNT, BuiltIn, ClassId, Program};
 use init_core::needs;
@@ -48,11 +48,9 @@ pub(crate) fn numbers(program: &Program, asked: &str, came: &mut Text) -> bool {
 pub(crate) fn built_in_names(program: &Program, asked: &str, came: &mut Text) -> bool {
     for place in 0..BUILT_IN_COUNT {
         if let Some(class) = BuiltIn::at(place) {
-            came.show_name(&class);
-            let is_asked = came.bytes.as_slice() == asked.as_bytes();
-            came.bytes.clear();
-            if is_asked {
-                push_class(came, program, program.built_in(class));
+            let class = program.built_in(class);
+            if simple_name(program, class) == asked.as_bytes() {
+                push_class(came, program, class);
                 return true;
             }
         }

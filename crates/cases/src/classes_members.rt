@@ -47,6 +47,19 @@ pub(crate) fn push_class(text: &mut Text, program: &Program, class: ClassId) {
     text.push(program.name(class).unwrap_or(b"?"));
 }
 
+/// The name of a class without its package.
+pub(crate) fn simple_name(program: &Program, class: ClassId) -> &[u8] {
+    let mut name = program.name(class).unwrap_or(b"?");
+    let mut rest = name;
+    while let [byte, after @ ..] = rest {
+        if *byte == b'/' {
+            name = after;
+        }
+        rest = after;
+    }
+    name
+}
+
 /// Adds a field by its name and type, `top I`.
 pub(crate) fn push_field(alloc: Global, text: &mut Text, field: &Field) {
     text.push(field.name.as_slice());
@@ -72,7 +85,7 @@ fn push_found_field(
                 }
             }
         }
-        Err(error) => text.show_name(&error),
+        Err(error) => text.push(simple_name(program, program.built_in(error))),
     }
 }
 
@@ -114,7 +127,7 @@ pub(crate) fn push_found(
     let method = match found {
         Ok(method) => method,
         Err(error) => {
-            text.show_name(&error);
+            text.push(simple_name(program, program.built_in(error)));
             return;
         }
     };

@@ -7,18 +7,28 @@
 
 use crate::text::Text;
 use descriptors::{
-    ClassName, ElementType, FieldType, MethodType, is_class_name, parse_field, parse_method,
-    write_field, write_method,
+    BaseType, ClassName, ElementType, FieldType, MethodType, is_class_name, parse_field,
+    parse_method, write_field, write_method,
 };
 use sequence::Refusal;
 use std::alloc::Global;
+
+fn base_name(base: BaseType) -> &'static [u8] {
+    match base {
+        BaseType::Boolean => b"Boolean",
+        BaseType::Byte => b"Byte",
+        BaseType::Char => b"Char",
+        BaseType::Short => b"Short",
+        BaseType::Int => b"Int",
+    }
+}
 
 /// Adds a field's type, where it is written as this descriptor.
 fn push_field(alloc: Global, came: &mut Text, field: &FieldType, descriptor: &[u8]) {
     match write_field(alloc, field) {
         Ok(written) if written.as_slice() == descriptor => {
             match &field.element {
-                ElementType::Base(base) => came.show_name(base),
+                ElementType::Base(base) => came.push(base_name(*base)),
                 ElementType::Class(name) => {
                     came.push(b"class ");
                     came.push(name.as_slice());
@@ -43,28 +53,14 @@ pub(crate) fn push_field_answer(alloc: Global, came: &mut Text, descriptor: &[u8
     }
 }
 
-/// Adds a method's type, where its copy equals it and is written as this descriptor.
-fn push_copied(
-    alloc: Global,
-    came: &mut Text,
-    method: &MethodType,
-    copy: &MethodType,
-    descriptor: &[u8],
-) {
-    match write_method(alloc, copy) {
-        Ok(written) if *copy == *method && written.as_slice() == descriptor => {
+/// Adds a method's type, where it is written as this descriptor.
+fn push_method(alloc: Global, came: &mut Text, method: &MethodType, descriptor: &[u8]) {
+    match write_method(alloc, method) {
+        Ok(written) if written.as_slice() == descriptor => {
             came.show(&method.parameters().len());
             came.push(b" parameters");
         }
         Ok(_) => came.push(b"written otherwise"),
-        Err(_) => came.is_refused = true,
-    }
-}
-
-/// Adds a method's type, where its copy is written as this descriptor.
-fn push_method(alloc: Global, came: &mut Text, method: &MethodType, descriptor: &[u8]) {
-    match method.clone() {
-        Ok(copy) => push_copied(alloc, came, method, &copy, descriptor),
         Err(_) => came.is_refused = true,
     }
 }
@@ -81,12 +77,10 @@ pub(crate) fn push_method_answer(alloc: Global, came: &mut Text, descriptor: &[u
 
 /// Adds whether a word is the name of a class, which this is the name of.
 fn push_name(came: &mut Text, name: &ClassName, word: &[u8]) {
-    match name.clone() {
-        Ok(copy) if copy == *name && name.as_slice() == word && is_class_name(word) => {
-            came.push(b"a class name")
-        }
-        Ok(_) => came.push(b"a class name of other bytes"),
-        Err(_) => came.is_refused = true,
+    if name.as_slice() == word && is_class_name(word) {
+        came.push(b"a class name");
+    } else {
+        came.push(b"a class name of other bytes");
     }
 }
 

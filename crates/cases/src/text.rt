@@ -44,13 +44,6 @@ impl Text {
             self.is_refused = true;
         }
     }
-
-    /// Adds a value as its `Debug` has it.
-    pub(crate) fn show_name(&mut self, value: &impl fmt::Debug) {
-        if write!(self, "{value:?}").is_err() {
-            self.is_refused = true;
-        }
-    }
 }
 
 impl fmt::Write for Text {

@@ -3,3 +3,4 @@ pub mod Steps
 pub mod Parameters
 pub mod FieldLaws
 pub mod MethodLaws
+pub mod SameLaws

@@ -2,7 +2,6 @@ pub mod ClassName
 pub mod Letters
 pub mod Signature
 pub mod Same
-pub mod SameLaws
 pub mod Spelling
 pub mod Reading
 pub mod Messages

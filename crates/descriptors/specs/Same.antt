@@ -1,4 +1,4 @@
--- The comparison of types by `==`: true exactly where they are the same.
+-- Whether two types are the same.
 use Rattle.std.specs.Prelude.{Bool, true, false, ◌&&◌, Option, Some, None, nat_eq, ◌==◌}
 use Rattle.std.specs.Cmp.Lexicographic.{pointwise}
 use Rattle.descriptors.specs.declared.field.ElementType.{ElementType}

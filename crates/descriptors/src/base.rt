@@ -4,7 +4,7 @@ ghost use Rattle.std.specs.Prelude.{◌≡◌};
 ghost use Rattle.descriptors.specs.Letters.{letter_of, base_of_letter};
 
 /// A base type of the machine (JVMS SE 8 4.3.2, table 4.3-A). Long, float and double are left out.
-#[derive(Clone, Copy, Debug, PartialEq, Eq)]
+#[derive(Clone, Copy, PartialEq, Eq)]
 pub enum BaseType {
     /// `Z`
     Boolean,

@@ -15,7 +15,7 @@
 //! type, and `Reading` says where each fault is met.
 //!
 //! Contracts see a class name as its bytes, a method type as a `Signature`, and all other types as the
-//! plain values that they are, so they compare whole types with `≡`; `==` answers the same.
+//! plain values that they are, so they compare whole types with `≡`.
 #![tactic(auto)]
 
 mod base;

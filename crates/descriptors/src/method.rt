@@ -1,11 +1,10 @@
 //! The types of methods.
 
-ghost use Rattle.std.specs.Prelude.{◌≡◌, ◌≤◌, length, IfOk};
+ghost use Rattle.std.specs.Prelude.{◌≡◌, ◌≤◌, length};
 ghost use Rattle.std.specs.Option.{option_copied};
 
 use crate::field::FieldType;
 use sequence::Sequence;
-use std::alloc::AllocError;
 use std::marker::Model;
 
 /// The type of a method (JVMS SE 8 4.3.3): at most 255 parameters, and a result or none, which is void.
@@ -62,50 +61,4 @@ impl MethodType {
     {
         self.result.as_ref()
     }
-}
-
-fn copied(parameters: &Sequence<FieldType>) -> Result<Sequence<FieldType>, AllocError>
-    ensures { IfOk result (λ copies. copies ≡ parameters.now) }
-{
-    let mut copies = parameters.new_like();
-    for parameter in parameters.as_slice() {
-        copies.push(parameter.clone()?)?;
-    }
-    Ok(copies)
-}
-
-impl Clone for MethodType {
-    fn clone(&self) -> Result<Self, AllocError>
-        ensures { IfOk result (λ method. method ≡ self.now) }
-    {
-        let parameters = copied(&self.parameters)?;
-        let result = match &self.result {
-            None => None,
-            Some(result) => Some(result.clone()?),
-        };
-        Ok(MethodType { parameters, result })
-    }
-}
-
-impl PartialEq for MethodType {
-    ghost use Rattle.std.specs.Prelude.{◌≡◌, ◌↔◌, IsTrue};
-    ghost use Rattle.descriptors.specs.Same.{same_method};
-    ghost use Rattle.descriptors.specs.SameLaws.{method_partial};
-
-    ghost eq = { same_method };
-
-    ghost laws = { method_partial };
-
-    fn eq(&self, other: &Self) -> bool
-        ensures value { result ≡ same_method self.now other.now }
-        ensures same { IsTrue result ↔ (self.now ≡ other.now) }
-    {
-        self.result == other.result && self.parameters.as_slice() == other.parameters.as_slice()
-    }
-}
-
-impl Eq for MethodType {
-    ghost use Rattle.descriptors.specs.SameLaws.{method_equivalence};
-
-    ghost laws = { method_equivalence };
 }

@@ -11,7 +11,7 @@ use Rattle.std.proofs.lemmas.Bool.Decides.{Decides-and, Decides-like}
 use Rattle.std.proofs.lemmas.Cmp.{nat_list_cmp_total, lists_total, on_total}
 use Rattle.std.proofs.lemmas.Map.Text.{is_eq-slice_cmp}
 use Rattle.std.proofs.lemmas.Slice.Eq.{bytes_eq-Decides}
-use Rattle.descriptors.specs.SameLaws.{letter-same, name_decides, field_decides, method_decides}
+use Rattle.descriptors.proofs.SameLaws.{letter-same, name_decides, field_decides, method_decides}
 use Rattle.descriptors.specs.Signature.{Signature}
 use Rattle.descriptors.specs.declared.field.ElementType.{ElementType}
 use Rattle.descriptors.specs.declared.field.ElementType.TheVariants.{Base, Class as OfClass}

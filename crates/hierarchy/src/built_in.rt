@@ -7,7 +7,7 @@ ghost use Rattle.hierarchy.specs.BuiltIn.{number_of, superclass_of_built_in, bui
 /// A class that belongs to no file: it counts as initialized from the start (JVMS SE 8 5.5 has nothing left
 /// to do for it) and gives no event. Each variant is the class of that name in java/lang, but for PrintStream, which is
 /// java/io/PrintStream; they stand in the order of their numbers.
-#[derive(Clone, Copy, Debug, PartialEq, Eq)]
+#[derive(Clone, Copy, PartialEq, Eq)]
 pub enum BuiltIn {
     Object,
     System,

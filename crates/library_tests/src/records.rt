@@ -307,7 +307,7 @@ pub(crate) fn is_told(alloc: Global, program: &Program, story: &Story) -> bool {
 fn are_alike(one: &Kind, other: &Kind) -> bool {
     match (one, other) {
         (Kind::Fails(error), Kind::Fails(thrown)) => error == thrown,
-        (Kind::Prints(text), Kind::Prints(printed)) => text == printed,
+        (Kind::Prints(text), Kind::Prints(printed)) => text.as_slice() == printed.as_slice(),
         _ => false,
     }
 }

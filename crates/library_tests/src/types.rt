@@ -4,7 +4,7 @@ ghost use Rattle.std.specs.Prelude.{◌≡◌, length, IfOk};
 
 use descriptors::{
     BaseType, ClassName, DescriptorFault, FieldType, MethodType, field_text_is_one,
-    method_text_is_one, parse_field, parse_method,
+    method_text_is_one, parse_field, write_method,
 };
 use sequence::{Refusal, Sequence};
 use statics::base_of;
@@ -26,11 +26,11 @@ fn made_of_parts(alloc: Global) -> Result<MethodType, Refusal<DescriptorFault>> 
     Ok(MethodType::new(parameters(alloc)?, Some(outcome)))
 }
 
-/// Whether the method is that of the text, if the text is a method's.
-fn is_of_text(alloc: Global, method: &MethodType, text: &[u8]) -> Option<bool> {
-    match parse_method(alloc, text) {
-        Ok(other) => Some(*method == other),
-        Err(_) => None,
+/// Whether the text of the method is this one.
+fn is_of_text(alloc: Global, method: &MethodType, text: &[u8]) -> bool {
+    match write_method(alloc, method) {
+        Ok(written) => written.as_slice() == text,
+        Err(_) => false,
     }
 }
 
@@ -44,14 +44,10 @@ fn is_boolean(method: &MethodType) -> bool {
     }
 }
 
-/// Whether the method by its parts is that of its text, and no other.
+/// Whether the method by its parts is that of its text.
 fn is_itself(alloc: Global) -> bool {
     match made_of_parts(alloc) {
-        Ok(method) => {
-            is_boolean(&method)
-                && is_of_text(alloc, &method, b"([ILa/B;)Z") == Some(true)
-                && is_of_text(alloc, &method, b"([ILa/B;)V") == Some(false)
-        }
+        Ok(method) => is_boolean(&method) && is_of_text(alloc, &method, b"([ILa/B;)Z"),
         Err(_) => false,
     }
 }
@@ -63,10 +59,12 @@ fn a_method_of_parts(rt: HostRuntime) {
     method_text_is_one();
 }
 
-/// Whether the names of these bytes are one.
-fn are_one(alloc: Global, bytes: &[u8], others: &[u8]) -> Result<bool, AllocError> {
-    let name = ClassName::parse(alloc, bytes)?;
-    Ok(name == ClassName::parse(alloc, others)?)
+/// Whether these bytes are the name of a class, which has them.
+fn is_name(alloc: Global, bytes: &[u8]) -> Result<bool, AllocError> {
+    match ClassName::parse(alloc, bytes)? {
+        Some(name) => Ok(name.as_slice() == bytes),
+        None => Ok(false),
+    }
 }
 
 /// Whether each of these is the letter of a type, and the type's letter.
@@ -92,7 +90,7 @@ fn are_no_letters(bytes: &[u8]) -> bool {
 
 #[test]
 fn class_names_and_letters(rt: HostRuntime) {
-    assert!(rt; are_one(rt.alloc(), b"a/B", b"a/B") == Ok(true));
-    assert!(rt; are_one(rt.alloc(), b"a/B", b"a/C") == Ok(false));
+    assert!(rt; is_name(rt.alloc(), b"a/B") == Ok(true));
+    assert!(rt; is_name(rt.alloc(), b"a.B") == Ok(false));
     assert!(rt; are_letters(b"ZBCSI") && are_no_letters(b"VJFDLz["));
 }

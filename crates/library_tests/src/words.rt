@@ -55,13 +55,12 @@ fn finds_the_first_row_of_a_word(rt: HostRuntime) {
     assert!(rt; find(b"b", &table) == Some(2) && find(b"c", &table).is_none());
 }
 
-/// Whether these bytes are a name, which has them and equals its copy.
+/// Whether these bytes are a name, which has them.
 fn is_name(alloc: Global, bytes: &[u8]) -> Result<bool, AllocError> {
     let Some(name) = MemberName::parse(alloc, bytes)? else {
         return Ok(false);
     };
-    let copy = name.clone()?;
-    Ok(name == copy && name.as_slice() == bytes)
+    Ok(name.as_slice() == bytes)
 }
 
 #[test]

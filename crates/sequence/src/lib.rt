@@ -67,15 +67,6 @@ impl<T> Sequence<T> {
         items
     }
 
-    /// The empty list, which takes its memory from where this one does. Takes no memory.
-    pub fn new_like(&self) -> Self
-        ensures { result ≡ [] }
-    {
-        Sequence {
-            items: Vec::new(*self.items.allocator()),
-        }
-    }
-
     /// How many elements the list has.
     pub fn len(&self) -> usize
         ensures { result ≡ length self.now }
@@ -132,26 +123,4 @@ impl Clone for Sequence<u8> {
         let items = self.items.clone()?;
         Ok(Sequence { items })
     }
-}
-
-impl PartialEq for Sequence<u8> {
-    ghost use Rattle.std.specs.Prelude.{nat_eq};
-    ghost use Rattle.std.specs.Cmp.Lexicographic.{pointwise};
-    ghost use Rattle.std.specs.Cmp.Rules.{comparing};
-    ghost use Rattle.std.proofs.Common.{rules};
-
-    ghost eq = { pointwise nat_eq };
-
-    ghost laws = { Prim.search (comparing, rules) };
-
-    fn eq(&self, other: &Self) -> bool {
-        self.items == other.items
-    }
-}
-
-impl Eq for Sequence<u8> {
-    ghost use Rattle.std.specs.Cmp.Rules.{comparing};
-    ghost use Rattle.std.proofs.Common.{rules};
-
-    ghost laws = { Prim.search (comparing, rules) };
 }

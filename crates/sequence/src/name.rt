@@ -1,6 +1,6 @@
 //! Texts that are names of some kind.
 
-ghost use Rattle.std.specs.Prelude.{◌≡◌, ◌↔◌, Bool, IfOk, IsTrue, List, ℕ, true};
+ghost use Rattle.std.specs.Prelude.{◌≡◌, Bool, IfOk, List, ℕ, true};
 ghost use Rattle.std.specs.Option.{SomeIff};
 
 use crate::Text;
@@ -61,41 +61,4 @@ impl<K: NameKind> Name<K> {
     {
         self.text.as_slice()
     }
-}
-
-impl<K: NameKind> Clone for Name<K> {
-    fn clone(&self) -> Result<Self, AllocError>
-        ensures { IfOk result (λ name. name ≡ self.now) }
-    {
-        let text = self.text.clone()?;
-        Ok(Name {
-            text,
-            kind: PhantomData,
-        })
-    }
-}
-
-impl<K: NameKind> PartialEq for Name<K> {
-    ghost use Rattle.std.specs.Prelude.{◌≡◌, ◌↔◌, IsTrue, nat_eq};
-    ghost use Rattle.std.specs.Cmp.Lexicographic.{pointwise};
-    ghost use Rattle.std.specs.Cmp.Rules.{comparing};
-    ghost use Rattle.std.proofs.Common.{rules};
-
-    ghost eq = { pointwise nat_eq };
-
-    ghost laws = { Prim.search (comparing, rules) };
-
-    fn eq(&self, other: &Self) -> bool
-        ensures value { result ≡ pointwise nat_eq self.now other.now }
-        ensures same { IsTrue result ↔ (self.now ≡ other.now) }
-    {
-        self.text == other.text
-    }
-}
-
-impl<K: NameKind> Eq for Name<K> {
-    ghost use Rattle.std.specs.Cmp.Rules.{comparing};
-    ghost use Rattle.std.proofs.Common.{rules};
-
-    ghost laws = { Prim.search (comparing, rules) };
 }
