@@ -47,17 +47,13 @@ pub(crate) fn push_class(text: &mut Text, program: &Program, class: ClassId) {
     text.push(program.name(class).unwrap_or(b"?"));
 }
 
-/// The name of a class without its package.
+/// The name of a built-in class without its package.
 pub(crate) fn simple_name(program: &Program, class: ClassId) -> &[u8] {
-    let mut name = program.name(class).unwrap_or(b"?");
-    let mut rest = name;
-    while let [byte, after @ ..] = rest {
-        if *byte == b'/' {
-            name = after;
-        }
-        rest = after;
+    let name = program.name(class).unwrap_or(b"?");
+    match name.strip_prefix(b"java/lang/") {
+        Some(simple) => simple,
+        None => name.strip_prefix(b"java/io/").unwrap_or(name),
     }
-    name
 }
 
 /// Adds a field by its name and type, `top I`.
