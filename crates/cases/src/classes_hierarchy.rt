@@ -48,9 +48,8 @@ pub(crate) fn numbers(program: &Program, asked: &str, came: &mut Text) -> bool {
 pub(crate) fn built_in_names(program: &Program, asked: &str, came: &mut Text) -> bool {
     for place in 0..BUILT_IN_COUNT {
         if let Some(class) = BuiltIn::at(place) {
-            let class = program.built_in(class);
-            if simple_name(program, class) == asked.as_bytes() {
-                push_class(came, program, class);
+            if simple_name(class) == asked.as_bytes() {
+                push_class(came, program, program.built_in(class));
                 return true;
             }
         }

@@ -47,12 +47,41 @@ pub(crate) fn push_class(text: &mut Text, program: &Program, class: ClassId) {
     text.push(program.name(class).unwrap_or(b"?"));
 }
 
-/// The name of a built-in class without its package.
-pub(crate) fn simple_name(program: &Program, class: ClassId) -> &[u8] {
-    let name = program.name(class).unwrap_or(b"?");
-    match name.strip_prefix(b"java/lang/") {
-        Some(simple) => simple,
-        None => name.strip_prefix(b"java/io/").unwrap_or(name),
+/// The name of a built-in class without its package, which is that of its case.
+pub(crate) fn simple_name(class: BuiltIn) -> &'static [u8] {
+    match class {
+        BuiltIn::Object => b"Object",
+        BuiltIn::System => b"System",
+        BuiltIn::String => b"String",
+        BuiltIn::PrintStream => b"PrintStream",
+        BuiltIn::Throwable => b"Throwable",
+        BuiltIn::Exception => b"Exception",
+        BuiltIn::Error => b"Error",
+        BuiltIn::RuntimeException => b"RuntimeException",
+        BuiltIn::ArithmeticException => b"ArithmeticException",
+        BuiltIn::NullPointerException => b"NullPointerException",
+        BuiltIn::IndexOutOfBoundsException => b"IndexOutOfBoundsException",
+        BuiltIn::NegativeArraySizeException => b"NegativeArraySizeException",
+        BuiltIn::ClassCastException => b"ClassCastException",
+        BuiltIn::ArrayStoreException => b"ArrayStoreException",
+        BuiltIn::IllegalMonitorStateException => b"IllegalMonitorStateException",
+        BuiltIn::IllegalArgumentException => b"IllegalArgumentException",
+        BuiltIn::IllegalStateException => b"IllegalStateException",
+        BuiltIn::UnsupportedOperationException => b"UnsupportedOperationException",
+        BuiltIn::ArrayIndexOutOfBoundsException => b"ArrayIndexOutOfBoundsException",
+        BuiltIn::LinkageError => b"LinkageError",
+        BuiltIn::VirtualMachineError => b"VirtualMachineError",
+        BuiltIn::NoClassDefFoundError => b"NoClassDefFoundError",
+        BuiltIn::ExceptionInInitializerError => b"ExceptionInInitializerError",
+        BuiltIn::IncompatibleClassChangeError => b"IncompatibleClassChangeError",
+        BuiltIn::VerifyError => b"VerifyError",
+        BuiltIn::NoSuchFieldError => b"NoSuchFieldError",
+        BuiltIn::NoSuchMethodError => b"NoSuchMethodError",
+        BuiltIn::AbstractMethodError => b"AbstractMethodError",
+        BuiltIn::InstantiationError => b"InstantiationError",
+        BuiltIn::OutOfMemoryError => b"OutOfMemoryError",
+        BuiltIn::StackOverflowError => b"StackOverflowError",
+        BuiltIn::InternalError => b"InternalError",
     }
 }
 
@@ -81,7 +110,7 @@ fn push_found_field(
                 }
             }
         }
-        Err(error) => text.push(simple_name(program, program.built_in(error))),
+        Err(error) => text.push(simple_name(error)),
     }
 }
 
@@ -123,7 +152,7 @@ pub(crate) fn push_found(
     let method = match found {
         Ok(method) => method,
         Err(error) => {
-            text.push(simple_name(program, program.built_in(error)));
+            text.push(simple_name(error));
             return;
         }
     };
