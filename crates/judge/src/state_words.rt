@@ -34,6 +34,18 @@ fn label_by(thread: usize, kind: &Kind) -> Option<Label> {
     }
 }
 
+/// The step that may come at a look at a class with this label; none while the thread waits for another.
+fn step_at_look(label: Label, thread: usize, waited: bool) -> Option<usize> {
+    match label {
+        Label::Prepared => Some(6),
+        Label::InProgress(owner) if owner == thread => Some(3),
+        Label::InProgress(_) if waited => None,
+        Label::InProgress(_) => Some(2),
+        Label::Initialized => Some(4),
+        Label::Erroneous => Some(5),
+    }
+}
+
 /// An event as the line of a trace.
 fn line_of(alloc: Global, program: &Program, event: &Event) -> Result<Vec<u8>, AllocError> {
     let mut alone = Vec::new(alloc);
@@ -149,7 +161,7 @@ impl Words<'_> {
 
     /// That a thread waits for a class, and for which thread.
     fn waits_for(&mut self, thread: usize, class: ClassId) {
-        self.step(" waits for ", class);
+        self.of_class(" waits for ", class);
         if let (Label::InProgress(owner), _) = self.label(class) {
             if owner != thread {
                 self.say(", which ");
@@ -161,7 +173,7 @@ impl Words<'_> {
 
     /// That a thread initializes a class, since when, and how far it is.
     fn initializes(&mut self, class: ClassId, stage: &Stage) {
-        self.step(" initializes ", class);
+        self.of_class(" initializes ", class);
         let (_, number) = self.label(class);
         self.since(number);
         self.say(match stage {
@@ -177,35 +189,44 @@ impl Words<'_> {
     pub(crate) fn open_class(&mut self, thread: usize, open: &OpenClass) {
         self.thread(thread);
         match open.stage {
-            Stage::Looking { waited: false } => self.step(" comes to ", open.class),
+            Stage::Looking { waited: false } => self.of_class(" comes to ", open.class),
             Stage::Looking { waited: true } => self.waits_for(thread, open.class),
             _ => self.initializes(open.class, &open.stage),
         }
         self.say("\n");
     }
 
-    /// A step at a class.
-    fn step(&mut self, step: &str, class: ClassId) {
-        self.say(step);
+    /// Words about a class.
+    fn of_class(&mut self, words: &str, class: ClassId) {
+        self.say(words);
         self.class(class);
     }
 
+    /// A step of this number at a class.
+    fn step(&mut self, number: usize, class: ClassId) {
+        self.say("step");
+        push_decimal(&mut self.text, number);
+        self.of_class(" ", class);
+    }
+
+    /// Another step that may come, after one.
+    fn or_step(&mut self, number: usize, class: ClassId) {
+        self.say(", ");
+        self.step(number, class);
+    }
+
     /// A step that ends a class by this error.
-    fn step_by(&mut self, step: &str, class: ClassId, error: ClassId) {
-        self.step(step, class);
-        self.say(" ");
-        self.class(error);
+    fn step_by(&mut self, number: usize, class: ClassId, error: ClassId) {
+        self.step(number, class);
+        self.of_class(" ", error);
     }
 
     /// What may come at a look.
     fn look(&mut self, thread: usize, class: ClassId, waited: bool) {
-        match self.label(class).0 {
-            Label::Prepared => self.step("step6 ", class),
-            Label::InProgress(owner) if owner == thread => self.step("step3 ", class),
-            Label::InProgress(_) if waited => self.say("nothing while it waits"),
-            Label::InProgress(_) => self.step("step2 ", class),
-            Label::Initialized => self.step("step4 ", class),
-            Label::Erroneous => self.step("step5 ", class),
+        let (label, _) = self.label(class);
+        match step_at_look(label, thread, waited) {
+            Some(number) => self.step(number, class),
+            None => self.say("nothing while it waits"),
         }
     }
 
@@ -219,17 +240,17 @@ impl Words<'_> {
             },
         ) = last
         {
-            self.step(", a get or put of ", class);
+            self.of_class(", a get or put of ", class);
         }
     }
 
     /// What may come in an initializer that runs.
     fn running(&mut self, class: ClassId, last: Option<Completed>) {
         match ending_error(last) {
-            Some(error) => self.step_by("step12 ", class, error),
+            Some(error) => self.step_by(12, class, error),
             None => {
-                self.step("step10 ", class);
-                self.step(", step12 ", class);
+                self.step(10, class);
+                self.or_step(12, class);
                 self.say(" by an Error, ");
                 self.items(last);
             }
@@ -242,22 +263,22 @@ impl Words<'_> {
             Stage::Looking { waited } => self.look(thread, open.class, *waited),
             Stage::Needing(_) => {}
             Stage::Running { ran: false } => {
-                self.step("step9 ", open.class);
-                self.step(", step7 ", open.class);
+                self.step(9, open.class);
+                self.or_step(7, open.class);
                 self.say(" java/lang/OutOfMemoryError")
             }
             Stage::Running { ran: true } => self.running(open.class, last),
-            Stage::SuperFails { error, .. } => self.step_by("step7 ", open.class, *error),
+            Stage::SuperFails { error, .. } => self.step_by(7, open.class, *error),
         }
     }
 
     /// What may come beside a look: the request is given up in the class around it.
     fn giving_up(&mut self, around: &OpenClass) {
-        let step = match around.stage {
-            Stage::Needing(_) => ", step7 ",
-            _ => ", step12 ",
+        let number = match around.stage {
+            Stage::Needing(_) => 7,
+            _ => 12,
         };
-        self.step(step, around.class);
+        self.or_step(number, around.class);
         self.say(MACHINE_ERRORS);
     }
 
