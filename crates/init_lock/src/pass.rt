@@ -25,7 +25,7 @@ pub struct Pass<R: Keeps> {
     pub(crate) seat: Seat<Option<Block<R>>, View<R, R::Event>>,
     pub(crate) number: usize,
     // The place whose slot the seat carries, empty, between taking its record and giving it back. A pass that has several
-    // records carries the slot of the first, and the others' stand at home: only for these it makes steps of their own.
+    // records carries the slot of the first, and the others' are at home: only for these it makes steps of their own.
     pub(crate) carried: Option<usize>,
     // All passes are made side by side in one `Vec`, and each thread writes to the length and the room of its own
     // journal at every draw. The padding keeps two of them off one cache line, wherever the passes lie.
@@ -50,13 +50,6 @@ impl<R: Keeps> Pass<R> {
         ensures { result ≡ self.now.number }
     {
         self.number
-    }
-
-    /// How many more events the journal takes without memory.
-    pub fn room(&self) -> usize
-        ensures { result ≡ self.now.room }
-    {
-        self.journal.room()
     }
 
     /// Makes room in the journal for `count` more events, beside the room that is left.
