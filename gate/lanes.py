@@ -4,7 +4,7 @@ What has nearly the longest path of others after it leads. The other proofs and 
 beside it at a lower priority, and edits at a still lower one. So each takes what those before it leave: no task has work for all
 processors all the time. Only what has nearly the longest path of what could run has more jobs than it needs: two where that path is longer
 than what is left for each processor, and as many as the others leave idle, of which a proof with less work counts for its share alone.
-Several jobs take the processors a fifth to two thirds longer than one. A caller who has measured what serves best may say in its place
+Several jobs take the processors longer than one: a seventh with kit 13f, up to two thirds with 13b. A caller who has measured what serves best may say in its place
 how many jobs each task has, and which lead."""
 import os
 from concurrent.futures import FIRST_COMPLETED, ThreadPoolExecutor, wait

@@ -1,4 +1,4 @@
--- What stands where a procedure asks for something, and what it is then told.
+-- What holds where a procedure asks for something, and what it is then told.
 use Rattle.std.proofs.Common.{◌≡◌, ◌≢◌, ℕ, List, [], ◌∷◌, Option, None, Bool, true, false, refl, sym, subst, ap, ◌∙◌}
 use Rattle.std.specs.List.{AllByRecursion}
 use Rattle.hierarchy.specs.declared.built_in.BuiltIn.TheVariants.{OutOfMemoryError}
@@ -60,7 +60,7 @@ runs_frames : (c : ClassId) (fs : List Frame) (r : Bool) → next_of fs ≡ next
 runs_frames c [] r q e = cc
 runs_frames c (f ∷ fs) r q e = (fs, runs_in f.class c f.phase fs r q e)
 
--- it asks for a body, before step 9 or behind it
+-- it asks for a body, before step 9 or after it
 pub runs_at : (s : Standing) (c : ClassId) (r : Bool) → next_of s.frames ≡ next.Body c → is_running s.frames ≡ r → IsAt s c (Running r)
 runs_at s c r q e = let x = runs_frames c s.frames r q e in record { below = x.0; frames = x.1 }
 
@@ -95,7 +95,7 @@ module _ (p : LinkedProgram) (t : ℕ) (s : Standing) (c : ClassId) where
       let same : thread_ended s e ≡ after_word l.1.below c (Ended e) = ap (λ (fs : List Frame). thread_ended (standing fs s.last) e) l.1.frames in
       subst (λ (v : Standing). Advances p t s (answer.GaveUp e false) [] v) (sym (is ∙ same)) (as_is (Looking l.0) (answer.GaveUp e false) [] (after_word l.1.below c (Ended e)) l.1 (gives_up_look machine))
 
-  -- and so may step 9, for want of memory
+  -- and so may step 9, when memory runs out
   pub gives_up_run : next_of s.frames ≡ next.Body c → is_running s.frames ≡ false → (z : Standing) × Advances p t s (answer.GaveUp (built_in p OutOfMemoryError) true) [] z
   gives_up_run q e = let l = runs_at s c false q e in (_, as_is (Running false) (answer.GaveUp (built_in p OutOfMemoryError) true) [] _ l gives_up_body)
 
@@ -146,7 +146,7 @@ module _ {p : LinkedProgram} {t : ℕ} {M : Maker} {Outer : ClassId → List Eve
 
 -- ---- in a body
 
--- where a request may be made: outside of any class, or in the body of one behind its step 9
+-- where a request may be made: outside of any class, or in the body of one after its step 9
 pub data IsBodyAt : List Frame → Type 0 where
   of_main : IsBodyAt []
   of_class : (c : ClassId) (fs : List Frame) → IsBodyAt (frame c (Running true) ∷ fs)

@@ -1,4 +1,4 @@
--- What bodies do, by the states of what runs them, and what of it the words of a procedure stand over.
+-- What bodies do, by the states of what runs them, and what of it the words of a procedure are stated over.
 use Rattle.std.specs.Prelude.{◌≡◌, Option, Some, None}
 use Rattle.hierarchy.specs.declared.class.ClassId.{ClassId}
 use Rattle.hierarchy.specs.declared.value.Value.{Value}
@@ -22,7 +22,7 @@ pub record Making (S : Type 0) : Type 1 where
   pub enters : S → ClassId → S → Type 0
   -- told the procedure completed last, if nothing was done since, the innermost body does this next
   pub does : S → Option Completed → Does → S → Type 0
-  -- it stands at something that another thread holds
+  -- it is at something that another thread holds
   pub waits : S → Type 0
   -- it takes the value that it reads
   pub gets : S → Value → S → Type 0
@@ -35,7 +35,7 @@ pub record Making (S : Type 0) : Type 1 where
   -- the machine has ended a body at this limit
   pub limits : Limit → S → Type 0
 
--- Where the machine may end a body: where it stands, or, unless it has ended an active use in it, at what it does next.
+-- Where the machine may end a body: where it is, or, unless it has ended an active use in it, at what it does next.
 pub data HasCome {S : Type 0} (M : Making S) (s : S) (last : Option Completed) : S → Type 0 where
   stays : HasCome M s last s
   comes : {u : S} (d : Does) → GoesOn last → M.does s last d u → HasCome M s last u

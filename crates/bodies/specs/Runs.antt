@@ -28,7 +28,7 @@ pub record AreMains (p : LinkedProgram) (mains : List ClassId) : Type 0 where
   pub few : length mains ≤ THREADS
 
 -- the machine ends a thread at this limit, by this error: at one that its bodies have, or its patience, which has one, by
--- InternalError; for want of memory by OutOfMemoryError
+-- InternalError; out of memory, by OutOfMemoryError
 abbrev pub IsEndedAt : {S : Type 0} → LinkedProgram → Making S → Limits → S → Limit → ClassId → Type 0
 IsEndedAt p M limits s Steps e = (e ≡ built_in p InternalError) × M.limits Steps s
 IsEndedAt p M limits s Patience e = (e ≡ built_in p InternalError) × (limits.patience ≢ 0)

@@ -9,12 +9,12 @@ use Rattle.init_core.specs.Standing.{Standing}
 use Rattle.init_core.specs.Stands.{StandsOf}
 use Rattle.bodies.specs.Making.{Making, maker_of}
 
--- what may stand before a request from outside of any class
+-- what may come before a request from outside of any class
 abbrev pub OutsideOf : {S : Type 0} → LinkedProgram → ℕ → Making S → S → ClassId → Bool → ClassId → List Event → S → Type 0
 OutsideOf p t M start main false = BeforeMainOf p t (maker_of p M) start main
 OutsideOf p t M start main true = BeforeItemOf p t (maker_of p M) start main
 
--- what stands there where no class is open
+-- what is there where no class is open
 abbrev pub NoneOpenOf : {S : Type 0} → LinkedProgram → ℕ → Making S → S → ClassId → Bool → Option Completed → List Event → S → Type 0
 NoneOpenOf p t M start main false = MainDoneOf p t (maker_of p M) start main
 NoneOpenOf p t M start main true = MainItemsOf p t (maker_of p M) start main

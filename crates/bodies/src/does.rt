@@ -50,7 +50,7 @@ pub trait Bodies: Drop {
     /// What the bodies do, over the states of what runs them.
     ghost making: { LinkedProgram → Making Self };
 
-    /// The initializer of a class begins, behind step 9.
+    /// The initializer of a class begins, in step 9.
     fn start(&mut self, alloc: Global, program: &Program, class: ClassId)
         requires class { IsOfFiles program.now class }
         ensures { (making program.now).starts self.old class self.new };
@@ -74,7 +74,7 @@ pub trait Bodies: Drop {
     fn leave(&mut self, program: &Program)
         ensures { (making program.now).is_ended self.old self.new };
 
-    /// Step 11: the class of the error by which the class fails, for a throwable that its initializer threw. An `Err` is out of memory;
+    /// Step 11: the class of the error by which the class fails, for a throwable that its initializer threw. An `Err` means out of memory;
     /// what a body has done before it has still done.
     fn replace(
         &mut self,

@@ -18,7 +18,7 @@ pub trait Lends<H>: Bodies {
         ensures own { self.new ≡ lending.with_shared self.old shared.old }
         ensures shared { shared.new ≡ lending.shared_of self.old };
 
-    /// Whether the innermost body stands at something that another thread holds, by what is shared now, and so can't go on.
+    /// Whether the innermost body is at something that another thread holds, by what is shared now, and so can't go on.
     fn waits(&self, program: &Program, shared: &H) -> bool
         ensures { IsTrue result ↔ (Self.making program.now).waits (lending.with_shared self.now shared.now) };
 

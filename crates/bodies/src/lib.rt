@@ -9,7 +9,7 @@
 //! and the output, which [`printed_by`] takes from the events.
 //!
 //! A [`Bodies`] says by relations over its own states what its bodies do; `specs/Making.antt` has them, and makes of them what
-//! the words of a procedure stand over.
+//! the words of a procedure are stated over.
 #![tactic(auto)]
 
 mod does;

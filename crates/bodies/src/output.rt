@@ -7,7 +7,7 @@ use init_core::Event;
 use sequence::{Sequence, Text};
 use std::alloc::{AllocError, Global};
 
-/// What an event prints, added to the output. An `Err` is out of memory.
+/// What an event prints, added to the output. An `Err` means out of memory.
 fn add_output(output: &mut Vec<u8>, event: &Event) -> Result<(), AllocError>
     ensures { IfOk result (λ _. output.new.items ≡ output.old.items ++ output_in event.now.kind) }
 {
@@ -17,7 +17,7 @@ fn add_output(output: &mut Vec<u8>, event: &Event) -> Result<(), AllocError>
     Ok(())
 }
 
-/// What the events print, in order: the texts one after the other. An `Err` is out of memory.
+/// What the events print, in order: the texts one after the other. An `Err` means out of memory.
 pub fn printed_by(alloc: Global, events: &[Event]) -> Result<Text, AllocError>
     ensures { IfOk result (λ output. output ≡ output_of events.now) }
 {

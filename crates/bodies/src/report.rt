@@ -22,7 +22,7 @@ pub enum ThreadOutcome {
     Normal,
     /// By a throwable of this class that nothing caught.
     Abrupt(ClassId),
-    /// By the machine, at a limit or for want of memory.
+    /// By the machine, at a limit or out of memory.
     Ended(Limit),
 }
 

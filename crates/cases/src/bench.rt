@@ -1,9 +1,9 @@
 //! Times of Jinit's crates, as ratios within one run: `cases bench NAME`.
 //!
-//! NAME is a benchmark, as `link`; its module says what is measured. `reader` and `lock` take a number behind it, of parts and
+//! NAME is a benchmark, as `link`; its module says what is measured. `reader` and `lock` take a number after it, of parts and
 //! of rounds, and `threads` takes `held`. Each line has the time of a part of the work
 //! beside that of other work, in nanoseconds, and beside one uncontended `fetch_add`, all taken many times in turn (`harness`), and
-//! how many millions of parts are done in a second: MB/s where a part is a byte. With a name or a word behind it that it doesn't know
+//! how many millions of parts are done in a second: MB/s where a part is a byte. With a name or a word after it that it doesn't know
 //! the program lists the names, and its exit status is 2. Among the names of files `bench` is a little of each benchmark, a case each,
 //! and no time is printed.
 

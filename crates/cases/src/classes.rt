@@ -1,9 +1,9 @@
 //! Cases of classes: which files are linked, and what is known of the classes.
 //!
-//! A program begins as in all files of [`linked`](crate::linked). What stands up to the next one is asked of it:
+//! A program begins as in all files of [`linked`](crate::linked). What follows, up to the next one, is asked of it:
 //!
 //! - `-- linked: 3 classes --` and `-- refused: H6 java/A --` are what linking answers, a case each.
-//! - Any other part asks a question a line, each a case: ` = ` parts the question from the answer. The head says what
+//! - Any other part asks a question a line, each a case: ` = ` separates the question from the answer. The head says what
 //!   is asked: [`answer`] has them.
 
 use crate::archive::Part;

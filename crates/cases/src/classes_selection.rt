@@ -5,7 +5,7 @@ use crate::text::Text;
 use hierarchy::{Call, ClassId, Invoke, Program};
 use std::alloc::Global;
 
-/// The call of an instruction that names a class, with the class behind its reference.
+/// The call of an instruction that names a class, with the class after its reference.
 fn call(how: Invoke, named: ClassId, class: ClassId) -> Option<Call> {
     match how {
         Invoke::Static => None,
@@ -37,7 +37,7 @@ fn selects_by(
     true
 }
 
-/// Which method an instruction runs: behind its reference stands a class, an object's, `A/own()V on C`, or the one whose code makes
+/// Which method an instruction runs: after its reference comes a class, an object's, `A/own()V on C`, or the one whose code makes
 /// the call, `A/own()V in C`.
 pub(crate) fn selects(alloc: Global, program: &Program, asked: &str, came: &mut Text) -> bool {
     let Some((instruction, rest)) = asked.split_once(' ') else {

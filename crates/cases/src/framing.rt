@@ -1,9 +1,9 @@
-//! What stands around cases, and the answer that a head demands of a case there.
+//! What is around cases, and the answer that a head demands of a case there.
 
 use crate::text::Text;
 use std::str::from_utf8;
 
-/// What stands before and after a case.
+/// What comes before and after a case.
 pub(crate) type Frame<'a> = (&'a [u8], &'a [u8]);
 
 /// The frame of a body with three dots.

@@ -21,7 +21,7 @@ use jasmin_reader::read_class;
 use jasmin_writer::write_class;
 use std::alloc::Global;
 
-/// What stands around the files, if anything does, and around the canonical texts; and the canonical text of a case, where that is
+/// What is around the files, if anything is, and around the canonical texts; and the canonical text of a case, where that is
 /// given.
 #[derive(Drop)]
 struct Around<'a> {
@@ -113,7 +113,7 @@ fn add_frame<'a>(part: &'a Part<'_>, frames: &mut Vec<Frame<'a>>, report: &mut R
     }
 }
 
-/// Judges a part, or takes from it what stands around the cases after it.
+/// Judges a part, or takes from it what is around the cases after it.
 fn judge_part<'a>(
     alloc: Global,
     part: &'a Part<'_>,

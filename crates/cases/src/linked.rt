@@ -1,7 +1,7 @@
 //! Programs of classes, each in a part of its own, and the parts with what is asked of it.
 //!
 //! A part `-- classes --` begins a program. Its body has the program's files in the Jasmin form, each from a line
-//! that begins with `.class` or `.interface` to the next such line. What stands up to the next such part is asked of
+//! that begins with `.class` or `.interface` to the next such line. What follows, up to the next such part, is asked of
 //! this program: see [`classes`] and [`traces`].
 
 use crate::archive::{Part, parts_after};
@@ -82,7 +82,7 @@ fn add_classes(alloc: Global, body: &str, classes: &mut Vec<ClassText>) -> Resul
     add_class(alloc, &file.bytes, classes)
 }
 
-/// Judges what is asked of a program, whose files stand in the first part: which texts are its traces, in a file of traces, else what
+/// Judges what is asked of a program, whose files are in the first part: which texts are its traces, in a file of traces, else what
 /// is known of its classes.
 fn judge_program(
     alloc: Global,

@@ -1,6 +1,6 @@
 //! Cases of traces: which texts are read as the events of a program, and which first fault the others have.
 //!
-//! A part `-- classes --` begins a program, as in files of [`linked`](crate::linked). Texts for it stand up to the
+//! A part `-- classes --` begins a program, as in files of [`linked`](crate::linked). Texts for it follow, up to the
 //! next such part, under these heads:
 //!
 //! - `-- L3 in line 2 --`: the body is a text of which this is the first fault, its kind and its line. Where the
@@ -21,7 +21,7 @@ use std::alloc::Global;
 use trace::write_trace;
 use trace_reader::read_trace;
 
-/// How many threads there are, and what stands around the texts, if anything does.
+/// How many threads there are, and what is around the texts, if anything is.
 #[derive(Drop)]
 struct Setting<'a> {
     threads: usize,

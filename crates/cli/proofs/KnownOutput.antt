@@ -2,7 +2,7 @@
 use Rattle.std.proofs.Common.{◌∙◌, ap, append_assoc, refl, List, ℕ, ◌++◌, Option, Some, None}
 use Rattle.std.specs.Io.KnownBytes.{Appends, Keeps}
 
--- a flush behind a write
+-- a flush after a write
 pub appends_kept : (before middle after : Option (List ℕ)) (bytes : List ℕ) → Appends before middle bytes → Keeps middle after → Appends before after bytes
 appends_kept None middle after bytes appended kept = tt
 appends_kept (Some xs) None after bytes appended kept = absurd appended

@@ -36,14 +36,14 @@ pub record IsJudged (known : Option Files) (files : List (List ℕ)) (mains : Op
   pub of_program : IsJudgedOf known p mains trace classes events verdict
 
 -- Why a file's trace isn't had: the file can't be had, or has this fault as its first, of which what lies further than a byte
--- past 64 MiB tells nothing; or memory runs out.
+-- past 64 MiB says nothing; or memory runs out.
 pub data IsTraceRefusal (known : Option Files) (file : List ℕ) (p : LinkedProgram) (threads : ℕ) : Fault → Type 0 where
   unread : {name : Bor (List ℕ)} → name.now ≡ file → IsTraceRefusal known file p threads (fault.Io name)
   faulty : {name : Bor (List ℕ)} {f : TraceFault} → name.now ≡ file → FileHolds known file (λ all. events_of p threads (take (MOST_BYTES + 1) all) ≡ Err f) →
       IsTraceRefusal known file p threads (fault.Trace name f)
   no_room : IsTraceRefusal known file p threads fault.Memory
 
--- why a trace isn't judged against a program: the first fault, in this order, or want of memory
+-- why a trace isn't judged against a program: the first fault, in this order, or being out of memory
 pub data IsJudgeRefusal (known : Option Files) (p : LinkedProgram) (mains : Option (List ℕ)) (trace : List ℕ) : Fault → Type 0 where
   no_mains : mains_in p mains ≡ None → IsJudgeRefusal known p mains trace fault.Mains
   no_trace : {classes : List ClassId} {f : Fault} → mains_in p mains ≡ Some classes → IsTraceRefusal known trace p (length classes) f → IsJudgeRefusal known p mains trace f

@@ -1,4 +1,4 @@
--- The line that tells of a fault.
+-- The line that reports a fault.
 use Rattle.std.specs.Prelude.{ℕ, List, [], ◌++◌, codes, decimal}
 use Rattle.hierarchy.specs.declared.fault.LinkFault.{LinkFault}
 use Rattle.hierarchy.specs.declared.fault.LinkFaultKind.{LinkFaultKind}

@@ -1,4 +1,4 @@
--- Why what is asked for isn't done: the first fault, in the order in which faults are looked for, or want of memory before it.
+-- Why what is asked for isn't done: the first fault, in the order in which faults are looked for, or being out of memory before it.
 use Rattle.std.specs.Prelude.{◌≡◌, ◌≢◌, ℕ, List, [], Option, Some}
 use Rattle.std.specs.Io.KnownBytes.{Appends}
 use Rattle.clap.specs.Words.{IsAmong, Text}
@@ -36,7 +36,7 @@ IsFaultOf known (check words) f = IsCheckRefusal known words.files words.mains w
 IsFaultOf known (needs files) f = AreUnlinked known files f
 IsFaultOf known unfit f = f ≡ Words
 
--- the one line that is added to standard error, known before and after, tells of the first fault of what is asked for, whose exit
+-- the one line that is added to standard error, known before and after, reports the first fault of what is asked for, whose exit
 -- status is 2
 pub record IsRefusedBy (known : Option Files) (errors errors_after : Option (List ℕ)) (request : Request) : Type 0 where
   pub first : Fault

@@ -18,7 +18,7 @@ use Rattle.cli.specs.declared.fault.Fault.{Fault}
 use Rattle.cli.specs.declared.fault.Fault.TheVariants.{Link, Mains, Memory, Order, Threads}
 use Rattle.cli.specs.Orders.{is_of_threads}
 
--- why class texts aren't linked: their first fault, or want of memory
+-- why class texts aren't linked: their first fault, or being out of memory
 pub data IsLinkRefusal (texts : List ClassParts) : Fault → Type 0 where
   first : {f : LinkFault} → IsFirstFault texts f → IsLinkRefusal texts (Link f)
   memory : IsLinkRefusal texts Memory
@@ -45,7 +45,7 @@ mains_from p name (byte ∷ rest) = if nat_eq byte 44 then with_main (main_named
 abbrev pub up_to_16 : List ClassId → Option (List ClassId)
 up_to_16 cs = if nat_lt 16 (length cs) then None else Some cs
 
--- the classes of the files that the names in a text are of, 1 to 16, parted by commas
+-- the classes of the files that the names in a text are of, 1 to 16, separated by commas
 abbrev pub mains_named : LinkedProgram → List ℕ → Option (List ClassId)
 mains_named p text = option_and_then up_to_16 (mains_from p [] text)
 
@@ -84,14 +84,14 @@ pub record IsRunOfNamed (mains : Option (List ℕ)) (order : Option (List ℕ)) 
   pub named : mains_in p mains ≡ Some classes
   pub run : IsRunOfMains p classes order limits r
 
--- why a program isn't run: the first fault, in this order, or want of memory or of a thread
+-- why a program isn't run: the first fault, in this order, or being out of memory or of threads
 pub data IsRunRefusal (p : LinkedProgram) (mains : Option (List ℕ)) (order : Option (List ℕ)) : Fault → Type 0 where
   unnamed : mains_in p mains ≡ None → IsRunRefusal p mains order Mains
   disordered : {classes : List ClassId} → mains_in p mains ≡ Some classes → is_of_threads (length classes) order ≡ false → IsRunRefusal p mains order Order
   no_thread : {classes : List ClassId} → mains_in p mains ≡ Some classes → order ≡ None → IsRunRefusal p mains order Threads
   no_memory : IsRunRefusal p mains order Memory
 
--- why class texts, a text of `--mains` and an order aren't run: the first fault, in this order, or want of memory or of a thread
+-- why class texts, a text of `--mains` and an order aren't run: the first fault, in this order, or being out of memory or of threads
 pub data IsRefusal (texts : List ClassParts) (mains : Option (List ℕ)) (order : Option (List ℕ)) : Fault → Type 0 where
   unlinked : {f : Fault} → IsLinkRefusal texts f → IsRefusal texts mains order f
   not_run : {p : LinkedProgram} {f : Fault} → LinksTo texts p → IsRunRefusal p mains order f → IsRefusal texts mains order f

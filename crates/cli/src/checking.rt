@@ -128,7 +128,7 @@ fn judge_trace<'a, N: Named>(
 ///
 /// The first of: more than 256 files, or the first file's fault (`Fault::Files`, `Fault::Io`, `Fault::Jasmin`); the first fault of
 /// linking (`Fault::Link`); no main class, one that no file has, or more than 16 (`Fault::Mains`); the trace file can't be read
-/// (`Fault::Io`) or isn't a trace of these classes and threads (`Fault::Trace`). Want of memory (`Fault::Memory`) may come before
+/// (`Fault::Io`) or isn't a trace of these classes and threads (`Fault::Trace`). Being out of memory (`Fault::Memory`) may come before
 /// any of them.
 pub fn check_named<'a, N: Named>(
     alloc: Global,
@@ -194,7 +194,7 @@ fn write_reason(alloc: Global, out: &mut Writer, judged: &Judged)
 /// The line of the verdict, `legal` or `illegal at <n>: <rule>`, and where `explains` is set further lines that say in words
 /// what is illegal ([`explain`]).
 ///
-/// An `Err` is want of memory.
+/// An `Err` means out of memory.
 pub fn write_judged(alloc: Global, judged: &Judged, explains: bool) -> Result<Vec<u8>, AllocError>
     ensures { IfOk result (λ text. TellsVerdict judged.now.verdict explains text.items) }
 {

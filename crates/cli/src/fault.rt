@@ -24,7 +24,7 @@ pub enum Fault<'a> {
     Jasmin { file: &'a str, fault: ReadFault },
     /// A file's text is no trace of the classes and their threads.
     Trace { file: &'a str, fault: TraceFault },
-    /// The classes can't be linked, for another reason than want of memory.
+    /// The classes can't be linked, for another reason than being out of memory.
     Link(LinkFault),
     /// The order has an entry that is no number of a main class, or there are no main classes.
     Order,
@@ -36,9 +36,9 @@ pub enum Fault<'a> {
     Mains,
     /// A thread of the machine can't be started.
     Threads,
-    /// Want of memory.
+    /// Out of memory.
     Memory,
-    /// The output, or the lines that tell how threads ended, can't be written.
+    /// The output, or the lines that say how threads ended, can't be written.
     Output,
 }
 
@@ -102,7 +102,7 @@ impl Fault<'_> {
         }
     }
 
-    /// Writes the one line that tells of the fault.
+    /// Writes the one line that reports the fault.
     pub fn tell<W: io::Write>(&self, err: &mut W) -> io::Result<()>
         ensures { OnOk result (Appends (W.contents err.old) (W.contents err.new) (fault_line self.now)) }
     {

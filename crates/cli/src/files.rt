@@ -23,7 +23,7 @@ pub const MOST_BYTES: usize = 1_048_576;
 pub enum NamedFault {
     /// The file's own fault: it isn't there, can't be read, or can't be written.
     Io,
-    /// Want of memory.
+    /// Out of memory.
     Memory,
 }
 
@@ -32,13 +32,13 @@ pub trait Named {
     // What the files hold, by their names, where that is known.
     ghost held: { Self → Option (List ℕ → Option (List ℕ)) } = { λ _. None };
 
-    /// The first bytes of a file, at most `most` of them. An `Err` is the file's fault, or want of memory.
+    /// The first bytes of a file, at most `most` of them. An `Err` is the file's fault, or being out of memory.
     fn read(&mut self, alloc: Global, name: &str, most: usize) -> Result<Vec<u8>, NamedFault>
         ensures most { IfOk result (λ bytes. vec_len bytes ≤ most) }
         ensures bytes { IfOk result (λ bytes. FileHolds (held self.old) name.now (λ all. bytes.items ≡ take most all)) }
         ensures files { KeepsAllBut None (held self.old) (held self.new) };
 
-    /// Makes a file of these bytes, in the place of what stood there. At an `Err`, the file's fault or want of memory,
+    /// Makes a file of these bytes, in place of what was there. At an `Err`, the file's fault or being out of memory,
     /// it may hold anything.
     fn write(&mut self, name: &str, bytes: &[u8]) -> Result<(), NamedFault>
         ensures bytes { OnOk result (FileHolds (held self.new) name.now (λ all. all ≡ bytes.now)) }

@@ -1,4 +1,4 @@
-//! How the threads of a run ended, told.
+//! The lines that say how the threads of a run ended.
 
 ghost use Rattle.std.specs.Prelude.{◌≡◌, IfOk};
 ghost use Rattle.sequence.specs.Written.{Adds};

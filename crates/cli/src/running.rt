@@ -32,7 +32,7 @@ use std::alloc::{AllocError, Global};
 use std::sync::Wait;
 use std::thread::Threads;
 
-/// The program of all class texts. Want of memory is told in its own way.
+/// The program of all class texts. Being out of memory is reported in its own way.
 fn link_texts<'a>(alloc: Global, texts: Vec<ClassText>) -> Result<Program, Fault<'a>>
     ensures linked { IfOk result (LinksTo texts.items) }
     ensures refused { IfErr result (IsLinkRefusal texts.items) }
@@ -342,7 +342,7 @@ pub struct ProgramRun {
 ///
 /// The first of: the first fault of linking (`Fault::Link`); no main class, one that no file has, or more than 16
 /// (`Fault::Mains`); an order with a number that isn't below that of the main classes (`Fault::Order`); a thread that can't be
-/// started (`Fault::Threads`). Want of memory (`Fault::Memory`) may come before any of them.
+/// started (`Fault::Threads`). Being out of memory (`Fault::Memory`) may come before any of them.
 pub fn run_texts<'a, R: Threads + Wait + Sync>(
     rt: &R,
     alloc: Global,

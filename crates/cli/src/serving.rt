@@ -325,7 +325,7 @@ fn tell_fault<E: io::Write>(fault: &Fault<'_>, err: &mut E) -> u8
     fault.status()
 }
 
-/// Does what the words ask for, or tells why it isn't done, and answers the exit status.
+/// Does what the words ask for, or reports why it isn't done, and answers the exit status.
 fn answer_or_tell<R: Threads + Wait + Sync, N: Named, O: io::Write, E: io::Write>(
     rt: &R,
     alloc: Global,

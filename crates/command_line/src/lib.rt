@@ -36,7 +36,7 @@ pub struct Check<'a> {
     pub mains: Option<&'a str>,
     /// The text of `--trace`: the file whose trace is judged.
     pub trace: &'a str,
-    /// Whether `--explain` is given: what is illegal is told in words too.
+    /// Whether `--explain` is given: what is illegal is reported in words too.
     pub explains: bool,
     /// The Jasmin files, in order.
     pub files: Vec<&'a str>,
@@ -51,7 +51,7 @@ pub enum Asked<'a> {
     Check(Check<'a>),
     /// `jinit needs`, with the Jasmin files in order.
     Needs(Vec<&'a str>),
-    /// Nothing that can be done: an option of one subcommand stands with another, which doesn't take it, or `check` without a trace.
+    /// Nothing that can be done: an option of one subcommand with another, which doesn't take it, or `check` without a trace.
     Unfit,
 }
 
@@ -142,7 +142,7 @@ fn with_run_options<'a>(
     with_option(alloc, command, "patience", "N", help, is_hidden)
 }
 
-/// The command with the options of main classes and their trace, and of what is told of a trace.
+/// The command with the options of main classes and their trace, and of what is said of a trace.
 #[tactic(auto, unfolding(crate::specs::CommandLine::with_trace))]
 fn with_trace<'a>(
     alloc: Global,
@@ -358,7 +358,7 @@ fn matches_of<'a>(alloc: Global, words: &'a [&'a str]) -> Result<ArgMatches<'a>,
 /// # Errors
 ///
 /// The words are no words of that command line, or ask for help or the version: the error's text says which, and
-/// its kind is the one that `clap` gives. Want of memory is a kind of its own there.
+/// its kind is the one that `clap` gives. Being out of memory is a kind of its own there.
 pub fn parse<'a>(alloc: Global, words: &'a [&'a str]) -> Result<Asked<'a>, Error>
     ensures asked { IfOk result (λ asked. request_of asked ≡ request_in (texts words.entry.now)) }
     ensures fails { FailsBy (faults_in (texts words.entry.now)) result }

@@ -69,6 +69,6 @@ name_len-passes started (b ∷ bs) rest h =
       | inr (_, ok) ↦ rw (no_semicolon b (and_parts (is_name_byte b) (passes true bs) ok).0) (one_more (name_len (bs ++ 59 ∷ rest)) ∙ ap suc (name_len-passes true bs rest (and_parts (is_name_byte b) (passes true bs) ok).1))
     ]
 
--- behind a name the first ; is the one that closes it
+-- after a name the first ; is the one that closes it
 pub name_len-closed : (name rest : List ℕ) → IsClassName name → name_len (name ++ 59 ∷ rest) ≡ length name
 name_len-closed name rest h = name_len-passes false name rest (passes_is name ∙ h)

@@ -11,7 +11,7 @@ use Rattle.descriptors.specs.Signature.{Signature}
 use Rattle.descriptors.specs.Letters.{base_of_letter, is_left_out}
 use Rattle.descriptors.specs.ClassName.{is_class_name}
 
--- how many bytes stand before the first ;
+-- how many bytes come before the first ;
 abbrev pub name_len : List ℕ → ℕ
 name_len [] = 0
 name_len (b ∷ bs) = if b == 59 then 0 else 1 + name_len bs
@@ -21,7 +21,7 @@ abbrev pub closed_name : List ℕ → List ℕ → Result (List ℕ × List ℕ)
 closed_name name [] = Err Unfinished
 closed_name name (_ ∷ rest) = if is_class_name name then Ok (name, rest) else Err Unfinished
 
--- behind an L: a class name and the bytes behind its ;
+-- after an L: a class name and the bytes after its ;
 unfoldable pub class_at : List ℕ → Result (List ℕ × List ℕ) DescriptorFault
 class_at bytes = closed_name (take (name_len bytes) bytes) (drop (name_len bytes) bytes)
 
@@ -29,7 +29,7 @@ abbrev pub base_at : Option BaseType → List ℕ → Result (ElementType × Lis
 base_at None rest = Err UnknownLetter
 base_at (Some base) rest = Ok (Base base, rest)
 
--- a type that is no array, and the bytes behind it
+-- a type that is no array, and the bytes after it
 unfoldable pub element_at : List ℕ → Result (ElementType × List ℕ) DescriptorFault
 element_at [] = Err Unfinished
 element_at (b ∷ bs) =
@@ -40,18 +40,18 @@ element_at (b ∷ bs) =
 abbrev pub with_dimensions : ℕ → Result (ElementType × List ℕ) DescriptorFault → Result (FieldType × List ℕ) DescriptorFault
 with_dimensions n read = read >>= λ x. Ok (record { dimensions = n; element = x.0 }, x.1)
 
--- behind n [ of a type: the type and the bytes behind it
+-- after n [ of a type: the type and the bytes after it
 unfoldable pub array_at : ℕ → List ℕ → Result (FieldType × List ℕ) DescriptorFault
 array_at n [] = Err Unfinished
 array_at n (b ∷ bs) =
     if b == 91 then (if n == 255 then Err TooManyDimensions else array_at (n + 1) bs)
     else with_dimensions n (element_at (b ∷ bs))
 
--- a type, and the bytes behind it
+-- a type, and the bytes after it
 abbrev pub field_at : List ℕ → Result (FieldType × List ℕ) DescriptorFault
 field_at bytes = array_at 0 bytes
 
--- nothing stands behind the end
+-- nothing follows the end
 abbrev pub ended : {A : Type 0} → A → List ℕ → Result A DescriptorFault
 ended x [] = Ok x
 ended x (_ ∷ _) = Err BytesLeftOver
@@ -64,18 +64,18 @@ field_of_text (b ∷ bs) = field_at (b ∷ bs) >>= λ x. ended x.0 x.1
 abbrev pub with_front : List FieldType → Result (List FieldType × List ℕ) DescriptorFault → Result (List FieldType × List ℕ) DescriptorFault
 with_front front read = read >>= λ x. Ok (front ++ x.0, x.1)
 
--- parameters up to the ) and the bytes behind it, where room says how many more may come
+-- parameters up to the ) and the bytes after it, where room says how many more may come
 unfoldable pub parameters_at : ℕ → List ℕ → Result (List FieldType × List ℕ) DescriptorFault
 parameters_at room [] = Err Unfinished
 parameters_at zero (b ∷ bs) = if b == 41 then Ok ([], bs) else field_at (b ∷ bs) >>= λ _. Err TooManyParameters
 parameters_at (suc room) (b ∷ bs) = if b == 41 then Ok ([], bs) else field_at (b ∷ bs) >>= λ x. with_front (x.0 ∷ []) (parameters_at room x.1)
 
--- V or a type, and the bytes behind it
+-- V or a type, and the bytes after it
 unfoldable pub result_at : List ℕ → Result (Option FieldType × List ℕ) DescriptorFault
 result_at [] = Err Unfinished
 result_at (b ∷ bs) = if b == 86 then Ok (None, bs) else field_at (b ∷ bs) >>= λ x. Ok (Some x.0, x.1)
 
--- behind the (
+-- after the (
 unfoldable pub signature_at : List ℕ → Result Signature DescriptorFault
 signature_at bytes = parameters_at 255 bytes >>= λ p. result_at p.1 >>= λ r. ended (record { parameters = p.0; result = r.0 }) r.1
 

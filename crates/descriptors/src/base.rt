@@ -19,7 +19,7 @@ pub enum BaseType {
 }
 
 impl BaseType {
-    /// The letter that stands for the type in a descriptor.
+    /// The letter that represents the type in a descriptor.
     pub fn letter(self) -> u8
         ensures { result ≡ letter_of self }
     {
@@ -32,7 +32,7 @@ impl BaseType {
         }
     }
 
-    /// The type that the letter stands for, if it stands for one.
+    /// The type that the letter represents, if it represents one.
     pub fn of_letter(letter: u8) -> Option<BaseType>
         ensures { result ≡ base_of_letter letter }
     {

@@ -11,7 +11,7 @@ use std::fmt;
 pub enum DescriptorFault {
     /// The text is empty.
     Empty,
-    /// A letter stands where a type begins, and no type begins with it. `V` is such a letter in a field
+    /// A letter comes where a type begins, and no type begins with it. `V` is such a letter in a field
     /// descriptor, an array and a parameter. So is what a method's text begins with in place of `(`.
     UnknownLetter,
     /// A class name isn't closed by `;` or isn't the name of a class, a method's parameters aren't closed
@@ -19,7 +19,7 @@ pub enum DescriptorFault {
     Unfinished,
     /// An array has more than 255 dimensions. Met at the 256th `[`.
     TooManyDimensions,
-    /// Bytes stand behind the end of the descriptor.
+    /// Bytes follow the end of the descriptor.
     BytesLeftOver,
     /// The letter of a type that this machine leaves out: `J` (long), `F` (float) or `D` (double).
     LeftOut,

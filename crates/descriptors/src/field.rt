@@ -16,7 +16,7 @@ pub enum ElementType {
 pub struct FieldType {
     /// How many dimensions an array has, at most 255 (JVMS SE 8 4.3.2). A type that is no array has 0.
     pub dimensions: u8,
-    /// What stands behind the dimensions.
+    /// What follows the dimensions.
     pub element: ElementType,
 }
 

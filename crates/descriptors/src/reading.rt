@@ -32,7 +32,7 @@ fn name_length(bytes: &[u8]) -> usize
     count
 }
 
-/// Behind an `L`: a class name and the bytes behind its `;`.
+/// After an `L`: a class name and the bytes after its `;`.
 #[tactic(auto, unfolding(crate::specs::Reading::class_at))]
 fn class_of(alloc: Global, bytes: &[u8]) -> Read<'_, ClassName>
     ensures { Gives (λ x. (x.0, x.1.now)) result (class_at bytes.now) }
@@ -47,7 +47,7 @@ fn class_of(alloc: Global, bytes: &[u8]) -> Read<'_, ClassName>
     }
 }
 
-/// A type that is no array, and the bytes behind it.
+/// A type that is no array, and the bytes after it.
 #[tactic(auto, unfolding(crate::specs::Reading::element_at))]
 fn element_of(alloc: Global, bytes: &[u8]) -> Read<'_, ElementType>
     ensures { Gives (λ x. (x.0, x.1.now)) result (element_at bytes.now) }
@@ -66,7 +66,7 @@ fn element_of(alloc: Global, bytes: &[u8]) -> Read<'_, ElementType>
     }
 }
 
-/// A type, and the bytes behind it.
+/// A type, and the bytes after it.
 #[tactic(auto, unfolding(crate::specs::Reading::array_at))]
 fn field_of(alloc: Global, bytes: &[u8]) -> Read<'_, FieldType>
     ensures { Gives (λ x. (x.0, x.1.now)) result (field_at bytes.now) }
@@ -93,7 +93,7 @@ fn field_of(alloc: Global, bytes: &[u8]) -> Read<'_, FieldType>
     Err(Refusal::Fault(DescriptorFault::Unfinished))
 }
 
-/// The parameters up to the `)`, and the bytes behind it.
+/// The parameters up to the `)`, and the bytes after it.
 fn parameters_of(alloc: Global, bytes: &[u8]) -> Read<'_, Sequence<FieldType>>
     ensures read { Gives (λ x. (x.0, x.1.now)) result (parameters_at 255 bytes.now) }
     ensures limit { IfOk result (λ x. length x.0 ≤ 255) }
@@ -114,7 +114,7 @@ fn parameters_of(alloc: Global, bytes: &[u8]) -> Read<'_, Sequence<FieldType>>
     Err(Refusal::Fault(DescriptorFault::Unfinished))
 }
 
-/// `V` or a type, and the bytes behind it.
+/// `V` or a type, and the bytes after it.
 #[tactic(auto, unfolding(crate::specs::Reading::result_at))]
 fn result_of(alloc: Global, bytes: &[u8]) -> Read<'_, Option<FieldType>>
     ensures { Gives (λ x. (x.0, x.1.now)) result (result_at bytes.now) }

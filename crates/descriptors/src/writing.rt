@@ -36,7 +36,7 @@ fn add_field(text: &mut Writer, field: &FieldType)
 }
 
 /// The descriptor of the type (JVMS SE 8 4.3.2), which [`parse_field`](crate::parse_field) reads back as
-/// this type. An `Err` is want of memory.
+/// this type. An `Err` means out of memory.
 pub fn write_field(alloc: Global, field: &FieldType) -> Result<Vec<u8>, AllocError>
     ensures text { IfOk result (λ text. text.items ≡ field_spelling field.now) }
     // Each value is a type whose text is read back.
@@ -48,7 +48,7 @@ pub fn write_field(alloc: Global, field: &FieldType) -> Result<Vec<u8>, AllocErr
 }
 
 /// The descriptor of the type (JVMS SE 8 4.3.3), which [`parse_method`](crate::parse_method) reads back as
-/// this type. An `Err` is want of memory.
+/// this type. An `Err` means out of memory.
 pub fn write_method(alloc: Global, method: &MethodType) -> Result<Vec<u8>, AllocError>
     ensures text { IfOk result (λ text. text.items ≡ method_spelling method.now) }
     // Each value is a type whose text is read back.

@@ -5,7 +5,7 @@
 pub enum Cell {
     /// A local that was never set.
     Unset,
-    /// An int, which stands for a boolean, byte, char or short too.
+    /// An int, which represents a boolean, byte, char or short too.
     Int(i32),
     /// The null reference.
     Null,

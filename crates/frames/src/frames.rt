@@ -69,7 +69,7 @@ fn put_innermost(innermost: &mut Option<Slot>, below: &mut Vec<Slot>, next: Slot
     }
 }
 
-/// Begins a body, whose first frame this one becomes. An `Err` is want of memory and changes nothing.
+/// Begins a body, whose first frame this one becomes. An `Err` means out of memory and changes nothing.
 fn begin_in(
     innermost: &mut Option<Slot>,
     below: &mut Vec<Slot>,
@@ -91,7 +91,7 @@ fn begin_in(
     Ok(())
 }
 
-/// Calls a method, whose frame this one becomes. An `Err` is want of memory and changes nothing.
+/// Calls a method, whose frame this one becomes. An `Err` means out of memory and changes nothing.
 fn call_in(
     innermost: &mut Option<Slot>,
     below: &mut Vec<Slot>,
@@ -216,7 +216,7 @@ impl Frames {
     }
 
     /// Begins a body: a method's first frame is the innermost, with these arguments, the lowest first (JVMS SE 8 2.6.1).
-    /// An `Err` is want of memory and changes nothing.
+    /// An `Err` means out of memory and changes nothing.
     pub fn begin(
         &mut self,
         class: usize,
@@ -242,7 +242,7 @@ impl Frames {
     }
 
     /// Calls a method with so many operands of the innermost frame, which leave it: the method's frame is then the innermost
-    /// (JVMS SE 8 2.6.1). An `Err` is want of memory and changes nothing.
+    /// (JVMS SE 8 2.6.1). An `Err` means out of memory and changes nothing.
     pub fn call(
         &mut self,
         class: usize,

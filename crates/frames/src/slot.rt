@@ -65,7 +65,7 @@ impl Model for Slot {
 }
 
 impl Slot {
-    /// An activation of no method, for any that is entered. An `Err` is out of memory.
+    /// An activation of no method, for any that is entered. An `Err` means out of memory.
     pub(crate) fn new(alloc: Global) -> Result<Self, AllocError> {
         let locals = Vec::with_capacity(alloc, MOST_LOCALS)?;
         let mut stack = Vec::with_capacity(alloc, MOST_OPERANDS + 1)?;

@@ -1,4 +1,4 @@
--- In a whole word each 9 stands between a 6 and an end of its class, and each 6 before an end.
+-- In a whole word each 9 comes between a 6 and an end of its class, and each 6 before an end.
 use Rattle.std.proofs.Common.{◌≡◌, ◌≢◌, ℕ, List, [], ◌∷◌, ◌++◌, Option, Some, Bool, true, false, refl, ap, ◌⊎◌, inl, inr, append-nil, append_assoc, subst, sym}
 use Rattle.hierarchy.specs.LinkedProgram.{LinkedProgram, built_in}
 use Rattle.hierarchy.specs.declared.class.ClassId.{ClassId}
@@ -38,7 +38,7 @@ pub has_right : (P : Event → Type 0) (xs ys : List Event) → Has P ys → Has
 has_right P [] ys b = b
 has_right P (e ∷ es) ys b = inr (has_right P es ys b)
 
--- what is asked of one event of the word, by what stands before and after it
+-- what is asked of one event of the word, by what comes before and after it
 abbrev pub Within : ℕ → List Event → Event → List Event → Type 0
 Within t before e after = (c : ClassId) → (e ≡ event t c kind.Runs → Begins t c before × Ends t c after) × (e ≡ event t c kind.Begins → Ends t c after)
 
@@ -69,7 +69,7 @@ module _ (t : ℕ) where
   before_is : (before before' xs after : List Event) → before ≡ before' → AllWithin t before xs after → AllWithin t before' xs after
   before_is before before' xs after q a = subst (λ (z : List Event). AllWithin t z xs after) q a
 
-  -- more may stand around
+  -- more may be around
   more : (before xs after front back : List Event) → AllWithin t before xs after → AllWithin t (front ++ before) xs (after ++ back)
   more before [] after front back a = tt
   more before (e ∷ es) after front back a = (
@@ -91,7 +91,7 @@ module _ (t : ℕ) where
   abbrev pub Alone : List Event → Type 0
   Alone xs = AllWithin t [] xs []
 
-  -- and may stand anywhere
+  -- and may be anywhere
   anywhere : (before xs after : List Event) → Alone xs → AllWithin t before xs after
   anywhere before xs after a = before_is (before ++ []) before xs after (append-nil before) (more [] xs [] before after a)
 

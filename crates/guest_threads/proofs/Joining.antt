@@ -261,7 +261,7 @@ module _ {S : Type 0} (making : LinkedProgram → Making S) (k : PlanFacts) (sta
     pub events_are : (places : ℕ) → AllAllowed (length k.mains) places MayDraw log → AllByRecursion (λ e. IsProgramEvent k.program k.table.threads e) (merged log)
     events_are places f = all_merged (λ e. IsProgramEvent k.program k.table.threads e) (length k.mains) places log f (of_each places f (λ es. AllByRecursion (λ e. IsProgramEvent k.program k.table.threads e) es) tt (λ u m q. let at = start_of u m q in (thread_done u m at.0 q at.1).events))
 
-    -- the first pass tells of which class each record is
+    -- the first pass says of which class each record is
     fields_are : 0 < length k.mains → length rs ≡ length k.program.classes → (n : ℕ) (r : Guarded) → element_at n rs ≡ Some r → n < length rs → r.record.fields ≡ statics_of k.program (id n)
     fields_are some many n r q l =
         let x = numbered (λ (w : Worked). w.pass.number) 0 (length k.mains) 0 ds all.numbered some in

@@ -123,7 +123,7 @@ label_same threads places c log l =
     let d : find is_beginning (about c log) ≡ find is_beginning (events_at c.number log) = find_same is_beginning (λ k e m. (unplaced e.class e.kind e.thread m.1).2) threads places c log l in
     cc
 
--- an event without place is allowed by the label of what stands at its class's place before it
+-- an event without place is allowed by the label of what is at its class's place before it
 abbrev pub Welcome : ClassId → Log → Log → Type 0
 Welcome c before [] = Unit {0}
 Welcome c before (e ∷ es) = (e.place ≡ None → e.event.class ≡ Some c → Allows (label_of (events_at c.number before)) e.event.thread e.event.kind) × Welcome c (before ++ e ∷ []) es
@@ -168,12 +168,12 @@ has_filter P true x xs ys go (inl q) = inl q
 has_filter P true x xs ys go (inr h) = inr (go h)
 has_filter P false x xs ys go h = inr (go h)
 
--- what stands in a thread's part stands in the whole list
+-- what is in a thread's part is in the whole list
 pub has_of_thread : (P : Event → Type 0) (t : ℕ) (xs : List Event) → Has P (of_thread t xs) → Has P xs
 has_of_thread P t [] h = absurd h
 has_of_thread P t (x ∷ xs) h = has_filter P (eqb x.thread t) x (of_thread t xs) xs (has_of_thread P t xs) h
 
--- an event of a class that is drawn at a place alone stands at its place
+-- an event of a class that is drawn at a place alone is at its place
 abbrev HasPlace : (Event → Type 0) → ClassId → Type 0
 HasPlace P c = (k : ℕ) (place : Option ℕ) (x : Event) → MayDraw k place x → P x → is_at c.number place ≡ true
 

@@ -101,7 +101,7 @@ module _ {S : Type 0} (M : Making S) (k : TaskFacts S) where
       told M k w s (answer.GaveUp e false) w.bodies l step refl (λ y r. ⊎_elim (λ z. absurd (let no_way : None ≡ Some y = sym none ∙ z in cc)) (λ z. subst (IsWhy M k w.bodies l) z limit)
       (error_after k.program k.number step (outer_of M k w.in_main w.procedure (drawn w.pass.journal) (seen_of w.pass) w.bodies o.stands) y r)) o
 
-  -- step 9 can't be made for want of memory
+  -- step 9 can't be made since memory ran out
   pub gave_up_run : (w : Work S) (s : Standing) (c e : ClassId) → next_of w.procedure.frames ≡ next.Body c → is_running w.procedure.frames ≡ false → e ≡ built_in k.program OutOfMemoryError → LeavesAt k.program w.procedure (answer.GaveUp e true) s → Working M k w → Working M k (record w { procedure = s; why = Memory })
   gave_up_run w s c e q n is_error is o =
       let oom : ClassId = built_in k.program OutOfMemoryError in
@@ -127,7 +127,7 @@ module _ {S : Type 0} (M : Making S) (k : TaskFacts S) where
       (λ x e. absurd (let none_ends : None ≡ Some x = ap ending_error (sym to) ∙ e in cc))
       (let r = o.room in omega arith) o
 
-  -- what the look finds tells whether the request waits
+  -- what the look finds says whether the request waits
   pub look_waits : (w : Work S) (c : ClassId) (y : View) (h : HeldFacts Guarded) (found : History) → next_of w.procedure.frames ≡ next.Look c → Took k.program c w.pass y h → found ≡ h.kept.record → Working M k w → waits k.number found.events ≡ is_waiting found.class w.procedure.frames
   look_waits w c y h found q took kept o =
       let st = with_record M k w c y h took o in

@@ -1,4 +1,4 @@
--- Which events a thread may draw at which place, and which record of a class may stand in another's place.
+-- Which events a thread may draw at which place, and which record of a class may take another's place.
 use Rattle.std.specs.Prelude.{◌≡◌, ℕ, List, ◌++◌, Option, Some, None, map}
 use Rattle.std.specs.List.{AllByRecursion}
 use Rattle.hierarchy.specs.declared.class.ClassId.{ClassId}

@@ -29,11 +29,11 @@ error_of p Memory = built_in p OutOfMemoryError
 error_of p Steps = built_in p InternalError
 error_of p Patience = built_in p InternalError
 
--- the machine may end the thread at this limit, by this error, where its bodies stand so
+-- the machine may end the thread at this limit, by this error, where its bodies are in this state
 abbrev pub IsWhy : {S : Type 0} → Making S → TaskFacts S → S → Limit → ClassId → Type 0
 IsWhy M k s l e = IsEndedAt k.program M k.limits s l e
 
--- the machine may end the thread at this limit, where its bodies stand so
+-- the machine may end the thread at this limit, where its bodies are in this state
 abbrev pub IsLimitOf : {S : Type 0} → Making S → TaskFacts S → S → Limit → Type 0
 IsLimitOf M k s l = IsWhy M k s l (error_of k.program l)
 

@@ -102,15 +102,15 @@ pub record GaveBack (n : ℕ) (events : List Event) (before after : PassFacts Gu
   pub others : IsSameBut n before.places after.places
   pub away : IsAway after.places
 
--- before main's body or in it, what stands of its procedures after these events of its own
+-- before main's body or in it, how its procedures stand after these events of its own
 abbrev pub StandsAt : {S : Type 0} → Making S → TaskFacts S → Bool → Standing → List Event → (ClassId → List Event) → S → Type 0
 StandsAt M k in_main s own seen z = ThreadStands k.program k.number M k.start k.main in_main s own seen z
 
--- what may stand before a request from outside of any class
+-- what may come before a request from outside of any class
 abbrev pub OuterOf : {S : Type 0} → Making S → TaskFacts S → Bool → ClassId → List Event → S → Type 0
 OuterOf M k b = OutsideOf k.program k.number M k.start k.main b
 
--- what stands there where no class is open
+-- what comes there where no class is open
 abbrev pub IdleOf : {S : Type 0} → Making S → TaskFacts S → Bool → Option Completed → List Event → S → Type 0
 IdleOf M k b = NoneOpenOf k.program k.number M k.start k.main b
 
@@ -135,7 +135,7 @@ pub record IsRoomier {S : Type 0} (before after : Work S) : Type 0 where
 pub record HasLooked {S : Type 0} (before after : Work S) : Type 0 where
   pub procedure : after.procedure ≡ before.procedure
 
--- it is in a body: of an initializer behind step 9, or of main
+-- it is in a body: of an initializer after step 9, or of main
 pub record IsInBody {S : Type 0} (w : Work S) : Type 0 where
   pub requests : MayRequest w.procedure.frames
   pub main : w.procedure.frames ≡ [] → w.in_main ≡ true

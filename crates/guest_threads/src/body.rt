@@ -1,4 +1,4 @@
-//! What a body does, of an initializer behind step 9 or of `main`.
+//! What a body does: an initializer, from step 9 on, or `main`.
 
 ghost use Rattle.std.specs.Prelude.{◌≡◌, ◌≢◌, ◌≤◌};
 ghost use Rattle.init_core.specs.Advance.{FitsBody};

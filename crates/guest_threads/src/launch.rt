@@ -63,7 +63,7 @@ impl<'a, B: Bodies> Promise<Worked> for WorkOf<'a, B> {
     ghost kept_by = { λ w r. Did B.making w.plan.now w.job.value r };
 }
 
-/// Each pass with what runs the bodies of its thread. An `Err` is want of memory.
+/// Each pass with what runs the bodies of its thread. An `Err` means out of memory.
 pub(crate) fn jobs<B: Bodies>(
     alloc: Global,
     passes: Vec<Pass<Guarded>>,

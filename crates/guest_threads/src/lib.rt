@@ -11,9 +11,9 @@
 //! own events and what it saw of each class at its last visit: other threads move no class that is in progress by it, so
 //! that suffices for all of its steps. When all threads have ended, their journals are merged in the order of the stamps.
 //! That the merged list is a legal interleaving follows from three facts: each journal is a word, each record is lawful,
-//! and a step 9 stands between the step 6 and the ending of its class in the journal of one thread.
+//! and a step 9 comes between the step 6 and the ending of its class in the journal of one thread.
 //!
-//! The definition of what a run makes stands in `bodies/specs/Runs.antt`.
+//! The definition of what a run makes is in `bodies/specs/Runs.antt`.
 #![tactic(auto)]
 
 mod body;

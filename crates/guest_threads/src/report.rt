@@ -14,7 +14,7 @@ use init_lock::{InitTable, Pass, merge};
 use sequence::Sequence;
 use std::alloc::{AllocError, Global};
 
-/// The label of each record. Each record shows that its history is lawful. An `Err` is want of memory.
+/// The label of each record. Each record shows that its history is lawful. An `Err` means out of memory.
 fn labels(alloc: Global, records: &[Guarded]) -> Result<Sequence<Label>, AllocError>
     ensures labels { IfOk result (λ labels. labels ≡ map (λ r. label_of r.record.events) records.now) }
     ensures lawful { IfOk result (λ labels. AllByRecursion (λ r. IsLawful r.record.fields r.record.events) records.now) }
@@ -27,8 +27,8 @@ fn labels(alloc: Global, records: &[Guarded]) -> Result<Sequence<Label>, AllocEr
     Ok(labels)
 }
 
-/// The passes and the outcomes apart. An `Err` is want of memory.
-fn parted(
+/// The passes and the outcomes apart. An `Err` means out of memory.
+fn separated(
     alloc: Global,
     done: Vec<Worked>,
 ) -> Result<(Vec<Pass<Guarded>>, Sequence<ThreadOutcome>), AllocError>
@@ -45,7 +45,7 @@ fn parted(
     Ok((passes, outcomes))
 }
 
-/// The report of a run that is over. An `Err` is want of memory.
+/// The report of a run that is over. An `Err` means out of memory.
 pub(crate) fn report<B: Bodies>(
     alloc: Global,
     table: InitTable<Guarded>,
@@ -54,7 +54,7 @@ pub(crate) fn report<B: Bodies>(
     requires back { AreBack table done.items }
     ensures reports { IfOk result (IsReportOf B.making table done.items) }
 {
-    let (passes, outcomes) = parted(alloc, done)?;
+    let (passes, outcomes) = separated(alloc, done)?;
     let closed = table.finish(passes);
     let labels = labels(alloc, closed.records.as_slice())?;
     let events = merge(alloc, closed.journals)?;

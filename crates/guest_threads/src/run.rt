@@ -31,7 +31,7 @@ impl From<AllocError> for RunFault {
     }
 }
 
-/// A record for each class of the program, prepared. An `Err` is want of memory.
+/// A record for each class of the program, prepared. An `Err` means out of memory.
 fn prepared(alloc: Global, program: &Program) -> Result<Vec<Guarded>, AllocError>
     ensures few { length program.now.classes ≤ 1024 }
     ensures count { IfOk result (λ made. vec_len made ≡ length program.now.classes) }

@@ -85,7 +85,7 @@ impl<'a, G: Gate, B: Bodies> Task<'a, G, B> {
         self.gate.at(&Event::new(self.number, class, Kind::Runs));
     }
 
-    /// Step 9 can't be made for want of memory: step 7 comes next.
+    /// Step 9 can't be made since memory ran out: step 7 comes next.
     pub(crate) fn give_up_body(&self, work: &mut Work<B>, class: ClassId)
         requires working { Working (B.making self.now.program) self.now work.old }
         requires next { next_of work.old.procedure.frames ≡ nexts.Body class }

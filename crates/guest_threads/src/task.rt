@@ -68,7 +68,7 @@ pub(crate) fn error_at(program: &Program, limit: Limit) -> ClassId
 }
 
 impl<'a, G: Gate, B: Bodies> Task<'a, G, B> {
-    /// Whether there is room for so many events, which is made where there is none: an answer `false` is want of memory.
+    /// Whether there is room for so many events, which is made where there is none: an answer `false` means out of memory.
     pub(crate) fn has_room(&self, work: &mut Work<B>, count: usize) -> bool
         requires working { Working (B.making self.now.program) self.now work.old }
         requires few { count ≤ 64 }

@@ -44,7 +44,7 @@ fn outcome_of(done: Outcome, why: Limit) -> ThreadOutcome
     }
 }
 
-/// The request of the main class. An `Err` is want of memory.
+/// The request of the main class. An `Err` means out of memory.
 fn begin(alloc: Global, main: ClassId) -> Result<Procedure, AllocError>
     ensures { IfOk result (λ s. s ≡ standing (frame main (Looking false) ∷ []) None) }
 {

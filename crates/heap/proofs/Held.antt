@@ -1,4 +1,4 @@
--- A monitor that is held stands in its list.
+-- A monitor that is held is in its list.
 use Rattle.std.proofs.Common.{◌≡◌, ℕ, ◌+◌, ◌≤◌, nat_lt, Bool, true, false, List, Option, Some, None, length, refl, sym, ap, subst, ◌∙◌, slice_set, arith}
 use Rattle.std.proofs.lemmas.Bool.Decides.{nat_tests}
 use Rattle.std.proofs.lemmas.Option.{slice_get_past}

@@ -105,8 +105,8 @@ abbrev pub is_no_class : BuiltIn → Bool
 is_no_class NoClassDefFoundError = true
 is_no_class b = false
 
--- The machine throws its ready NoClassDefFoundError itself. Of another throwable it makes a new object, which has no field, and its
--- ready OutOfMemoryError stands in where the heap is full.
+-- The machine throws its ready NoClassDefFoundError itself. Of another throwable it makes a new object, which has no field, and
+-- throws its ready OutOfMemoryError instead where the heap is full.
 abbrev pub thrown_by : LinkedProgram → BuiltIn → List HeapObject → Thrown
 thrown_by p b made = if is_no_class b then ready_no_class p else if has_cells p made 1 then record { reference = next_reference p made; class = built_in p b } else ready_out_of_memory p
 

@@ -29,7 +29,7 @@ impl<T: Copy> Cells<T> {
         }
     }
 
-    /// So many elements, all the same. An `Err` is out of memory.
+    /// So many elements, all the same. An `Err` means out of memory.
     pub(crate) fn filled(alloc: Global, count: usize, item: T) -> Result<Self, AllocError>
         ensures { IfOk result (λ cells. cells ≡ replicate count item) }
     {

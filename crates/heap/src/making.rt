@@ -35,8 +35,8 @@ impl Heap {
         count < left.saturating_sub(self.taken)
     }
 
-    /// Adds an object or array with so many fields or elements, for which there is room, and answers its reference. An `Err` is out
-    /// of memory, and changes nothing.
+    /// Adds an object or array with so many fields or elements, for which there is room, and answers its reference. An `Err`
+    /// means out of memory, and changes nothing.
     fn add(
         &mut self,
         program: &Program,
@@ -132,7 +132,7 @@ impl Heap {
         self.instance(program, BuiltIn::ExceptionInInitializerError)
     }
 
-    /// What the machine throws for a built-in throwable. An `Err` is out of memory, and changes nothing.
+    /// What the machine throws for a built-in throwable. An `Err` means out of memory, and changes nothing.
     fn instance(&mut self, program: &Program, class: BuiltIn) -> Result<Thrown, AllocError>
         ensures thrown { IfOk result (λ t. t ≡ thrown_by program.now class self.old) }
         ensures made { OnOk result (self.new ≡ with_thrown program.now class self.old) }

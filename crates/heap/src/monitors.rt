@@ -66,7 +66,7 @@ fn held_at(held: &[Option<Holder>], place: usize) -> Option<Holder>
     *held.get(place)?
 }
 
-/// Changes who holds the monitor at a place, which nobody holds where the list ends before it. An `Err` is out of memory, and
+/// Changes who holds the monitor at a place, which nobody holds where the list ends before it. An `Err` means out of memory, and
 /// changes nothing.
 fn hold_at(
     held: &mut Vec<Option<Holder>>,
@@ -169,7 +169,7 @@ impl Monitors {
         }
     }
 
-    /// Changes who holds a monitor. An `Err` is out of memory, and changes nothing.
+    /// Changes who holds a monitor. An `Err` means out of memory, and changes nothing.
     fn hold(&mut self, monitor: Monitor, holder: Option<Holder>) -> Result<(), AllocError>
         ensures ok { OnOk result (self.new ≡ with_holder self.old monitor holder) }
         ensures err { OnErr result (self.new ≡ self.old) }

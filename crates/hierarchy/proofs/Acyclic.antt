@@ -1,4 +1,4 @@
--- Where no class of the files stands on a cycle each way up ends, and the other way round.
+-- Where no class of the files is on a cycle each way up ends, and the other way round.
 use Rattle.std.proofs.Common.{◌≡◌, ℕ, zero, suc, ◌+◌, ◌-◌, ◌*◌, ◌<◌, ◌≤◌, true, false, ◌⊎◌, inl, inr, Option, Some, None, List, [], ◌∷◌, ◌++◌, length, refl, sym, ap, subst, ◌∙◌, arith, slice_get}
 use Rattle.std.proofs.lemmas.Bool.{cases_lt}
 use Rattle.hierarchy.specs.declared.class.ClassId.{ClassId}
@@ -14,7 +14,7 @@ use Rattle.hierarchy.proofs.Counts.{length-in_range, length-below}
 use Rattle.hierarchy.proofs.BuiltIns.{number-small, at-number, superclass-falls}
 use Rattle.hierarchy.proofs.Searches.{reaches_on, in_range}
 
--- a class that stands on no cycle, with its supertypes
+-- a class that is on no cycle, with its supertypes
 pub record IsClear (classes : List Class) (c : ClassId) : Type 0 where
   pub found : List ClassId
   pub are : AreSupertypes classes c found
@@ -85,13 +85,13 @@ acyclic_all classes r all c =
           subst (λ h. IsWithin h classes c) e (past_within classes (length classes + 2 * BUILT_IN_COUNT) c l (omega arith))
     ]
 
--- a class from which each way up ends stands on no cycle
+-- a class from which each way up ends is on no cycle
 pub within_not_cyclic : (classes : List Class) (h : ℕ) (c : ClassId) → IsWithin h classes c → Reaches classes c c → ⊥
 within_not_cyclic classes zero c w r = w
 within_not_cyclic classes (suc h) c w (direct m) = within_not_cyclic classes h c (every_at (IsWithin h classes) w m) (direct m)
 within_not_cyclic classes (suc h) c w (further {d = d} m q) = within_not_cyclic classes h d (every_at (IsWithin h classes) w m) (reaches_on q (direct m))
 
--- where each way up ends, no class stands on a cycle
+-- where each way up ends, no class is on a cycle
 pub not_cyclic : (classes : List Class) → IsAcyclic classes → (c : ClassId) → IsCyclic classes c → ⊥
 not_cyclic classes a c r = within_not_cyclic classes (height classes) c (a c) r
 
@@ -106,7 +106,7 @@ get-pushed [] x (suc k) y e = absurd cc
 get-pushed (z ∷ xs) x zero y e = inl e
 get-pushed (z ∷ xs) x (suc k) y e = elim (get-pushed xs x k y e) [ inl l ↦ inl l | inr r ↦ inr (ap suc r.0, r.1) ]
 
--- the first classes stand on no cycle
+-- the first classes are on no cycle
 abbrev pub AreClear : List Class → ℕ → Type 0
 AreClear classes count = (n : ℕ) → n < count → IsClear classes (id n)
 

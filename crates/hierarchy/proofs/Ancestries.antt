@@ -15,7 +15,7 @@ use Rattle.hierarchy.proofs.ClassMembership.{every_at, among_from_true, among_le
 use Rattle.hierarchy.proofs.Enumerations.{flat_map-longer, flat_map-same, flat_map-has, flat_map-from, among_supers}
 use Rattle.hierarchy.proofs.Acyclic.{not_cyclic}
 
--- what stands directly above a class is one of its direct supertypes
+-- what is directly above a class is one of its direct supertypes
 abbrev pub IsUpward : List Class → (ClassId → List ClassId) → Type 0
 IsUpward classes above = (c d : ClassId) → Among d (above c) → Among d (supers classes c)
 
@@ -59,7 +59,7 @@ ancestry-law classes above u a c =
     (flat_map-same (ancestry_within (most_steps classes) above) (ancestry_within (height classes) above) (above c)
     (λ j m. ancestry_within-same classes above u (most_steps classes) (height classes) j (within_above classes above u (most_steps classes) c j (a c) m) (a j)))
 
--- what stands directly above has a shorter ancestry
+-- what is directly above has a shorter ancestry
 pub ancestry-falls : (classes : List Class) (above : ClassId → List ClassId) → IsUpward classes above → IsAcyclic classes → (c x : ClassId) → Among x (above c) → length (ancestry classes above x) < length (ancestry classes above c)
 ancestry-falls classes above u a c x m =
     let l = ap length (ancestry-law classes above u a c) in
@@ -69,7 +69,7 @@ ancestry-falls classes above u a c x m =
 pub ancestry-self : (classes : List Class) (above : ClassId → List ClassId) → IsUpward classes above → IsAcyclic classes → (c : ClassId) → Among c (ancestry classes above c)
 ancestry-self classes above u a c = rw (ancestry-law classes above u a c) first
 
--- what stands above what is directly above c stands above c
+-- what is above what is directly above c is above c
 pub ancestry-above : (classes : List Class) (above : ClassId → List ClassId) → IsUpward classes above → IsAcyclic classes → (c x y : ClassId) → Among x (above c) → Among y (ancestry classes above x) → Among y (ancestry classes above c)
 ancestry-above classes above u a c x y m h = rw (ancestry-law classes above u a c) (later (flat_map-has (ancestry classes above) m h))
 
@@ -85,7 +85,7 @@ ancestry_within-whole classes above u a (suc d) c w j h k m =
       | inr r ↦ ancestry-above classes above u a c r.0 k r.1 (ancestry_within-whole classes above u a d r.0 (within_above classes above u d c r.0 w r.1) j r.2 k m)
     ]
 
--- the ancestry of each class of an ancestry stands in it
+-- the ancestry of each class of an ancestry is in it
 pub ancestry-whole : (classes : List Class) (above : ClassId → List ClassId) → IsUpward classes above → IsAcyclic classes → (c j k : ClassId) → Among j (ancestry classes above c) → Among k (ancestry classes above j) → Among k (ancestry classes above c)
 ancestry-whole classes above u a c j k h m = ancestry_within-whole classes above u a (height classes) c (a c) j h k m
 
@@ -101,11 +101,11 @@ ancestry_within-reaches classes above u a (suc d) c w j h =
           ]
     ]
 
--- what stands in the ancestry of c is c or a supertype
+-- what is in the ancestry of c is c or a supertype
 pub ancestry-reaches : (classes : List Class) (above : ClassId → List ClassId) → IsUpward classes above → IsAcyclic classes → (c j : ClassId) → Among j (ancestry classes above c) → (j ≡ c) ⊎ Reaches classes c j
 ancestry-reaches classes above u a c j h = ancestry_within-reaches classes above u a (height classes) c (a c) j h
 
--- a class doesn't stand above what is above it
+-- a class isn't above what is above it
 not_below : (classes : List Class) (above : ClassId → List ClassId) → IsUpward classes above → IsAcyclic classes → (c x : ClassId) → Among x (above c) → Among c (ancestry classes above x) → ⊥
 not_below classes above u a c x m h =
     elim (ancestry-reaches classes above u a x c h) [

@@ -76,7 +76,7 @@ none_distinct = tt
 pub distinct-once : (xs : List ClassId) → IsDistinct same_class (distinct xs)
 distinct-once xs = add_all-distinct [] xs none_distinct
 
--- the class at a place stands in the list
+-- the class at a place is in the list
 pub stands_there : (xs : List ClassId) (k : ℕ) (o : Option ClassId) → o ≡ slice_get xs k → IfSome o (λ c. Among c xs)
 stands_there xs k None e = tt
 stands_there xs k (Some c) e = among_get xs k c e

@@ -38,7 +38,7 @@ enumeration-ordered : (classes : List Class) (i : ClassId) {j : ClassId} → Amo
 unfolding enumeration ancestry
 enumeration-ordered classes i h = enumeration_within-ordered classes (height classes) i h
 
--- a superinterface stands in the enumeration
+-- a superinterface is in the enumeration
 superinterface_enumerated : (classes : List Class) → IsAcyclic classes → (c i : ClassId) → Among i (superinterfaces classes c) → Among i (enumeration classes c)
 superinterface_enumerated classes a c i h =
     subst (λ z. Among i z) (sym (enumeration-law classes c a)) (among_left (c ∷ []) (distinct-from (flat_map (enumeration classes) (interfaces_of classes c)) h))
@@ -137,7 +137,7 @@ order_brought classes a i s found whole e k h y m =
           | inr l ↦ subst (λ z. Among z found) (sym (among_one (subst (λ o. Among d (option_to_list o)) e l))) k
         ]
 
--- the class itself, then its order, in which it stands first
+-- the class itself, then its order, in which it comes first
 pub ordered_again : (classes : List Class) → IsAcyclic classes → (start now next list : List ClassId) (i : ClassId) → list ≡ distinct (field_order classes i) → now ≡ add_new start i → next ≡ add_all now list → next ≡ add_all start (field_order classes i)
 ordered_again classes a start now next list i l n e =
     e ∙ ap (add_all now) l ∙ add_all-added now [] (field_order classes i) ∙ ap (λ z. add_all z (field_order classes i)) n ∙ again

@@ -57,7 +57,7 @@ enumeration-law classes i h =
     (flat_map-same (enumeration_within (most_steps classes) classes) (enumeration_within (height classes) classes) (interfaces_of classes i)
     (λ j m. enumeration_within-same classes (most_steps classes) (height classes) j (within_interface classes (most_steps classes) i j (h i) m) (h j)))
 
--- what an interface of an enumeration enumerates stands in it
+-- what an interface of an enumeration enumerates is in it
 pub enumeration_within-whole : (classes : List Class) → IsAcyclic classes → (d : ℕ) (i : ClassId) → IsWithin d classes i → (j : ClassId) → Among j (enumeration classes i) → (k : ClassId) → Among k (enumeration classes j) → Among k (enumeration classes i)
 enumeration_within-whole classes a zero i w j h k m = absurd w
 enumeration_within-whole classes a (suc d) i w j h k m =

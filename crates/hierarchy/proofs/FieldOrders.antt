@@ -18,7 +18,7 @@ use Rattle.hierarchy.proofs.ClassMembership.{among_left, among_right, add_all-ap
 use Rattle.hierarchy.proofs.Walks.{none_id, among_get_or}
 use Rattle.hierarchy.proofs.Ancestries.{interfaces_first_upward, walked_order}
 
--- a direct superinterface stands directly above
+-- a direct superinterface is directly above
 pub interface_above : (classes : List Class) (c : ClassId) (items : List ClassId) (k : ℕ) → interfaces_of classes c ≡ items → k < length items → Among (get_or items k none_id) (interfaces_first classes c)
 interface_above classes c items k e h = among_left (superclass_alone classes c) (rw e (among_get_or items k h))
 

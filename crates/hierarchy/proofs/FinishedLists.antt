@@ -1,4 +1,4 @@
--- Finished lists: each is made from those above it, in an order in which each class stands after its supertypes.
+-- Finished lists: each is made from those above it, in an order in which each class comes after its supertypes.
 use Rattle.std.proofs.Common.{◌≡◌, ℕ, zero, suc, ◌+◌, ◌<◌, ◌≤◌, ◌⊎◌, inl, inr, Option, Some, None, List, [], ◌∷◌, length, take, get_or, slice_get, slice_set, refl, sym, ap, subst, ◌∙◌, arith}
 use Rattle.std.proofs.lemmas.List.{take_all, take_more, length-set}
 use Rattle.std.proofs.lemmas.Option.{slice_get_within, slice_get-get_or}
@@ -40,7 +40,7 @@ pub finished_from : {f : ClassId → List ClassId} {classes : List Class} {all :
 finished_from {classes = classes} {c = c} a m =
     finished_for (λ e s. elim s [ inl same ↦ direct (subst (λ z. Among z (supers classes c)) same m) | inr r ↦ further m r ]) a
 
--- what stands in a list stands in that of its number
+-- what is in a list is in that of its number
 pub last_there : (all : List (List ClassId)) (n : ℕ) (list : List ClassId) (o : Option ClassId) → slice_get all n ≡ Some list → IfSome o (λ c. Among c list) → IfSome o (λ c. Among c (listed all n))
 last_there all n list o e h = rw e h
 
@@ -57,7 +57,7 @@ taken_longer (x ∷ xs) (suc n) zero l h = absurd (omega (arith, l))
 taken_longer (x ∷ xs) (suc n) (suc k) l first = first
 taken_longer (x ∷ xs) (suc n) (suc k) l (later h) = later (taken_longer xs n k (omega (arith, l)) h)
 
--- all supertypes stand before a class
+-- all supertypes come before a class
 supertypes_before : (classes : List Class) (order : List ClassId) → Rises classes order → (k : ℕ) (c d : ClassId) → slice_get order k ≡ Some c → Reaches classes c d → Among d (take k order)
 supertypes_before classes order r k c d e (direct h) = r k c e d h
 supertypes_before classes order r k c d e (further {d = s} h q) =

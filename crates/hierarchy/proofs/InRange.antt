@@ -137,7 +137,7 @@ classes_below names kinds (t ∷ texts) classes e i c g =
     let r = joined_ok (class_from names kinds t) (classes_from names kinds texts) classes e in
     first_or (length kinds + BUILT_IN_COUNT) r.0 r.1 c (class_below names kinds t r.0 r.2).0 (λ k h. classes_below names kinds texts r.1 r.3 k c h) i (subst (λ z. slice_get z i ≡ Some c) r.4 g)
 
--- the classes stand in the order of the texts
+-- the classes come in the order of the texts
 pub named_alike : (names : List (List ℕ)) (kinds : List ClassKind) (texts : List ClassParts) (classes : List Class) → classes_from names kinds texts ≡ Ok classes → class_names classes ≡ names_of texts
 named_alike names kinds [] classes e = let none : classes ≡ [] = cc in rw none refl
 named_alike names kinds (t ∷ texts) classes e =

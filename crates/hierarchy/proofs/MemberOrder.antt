@@ -46,7 +46,7 @@ one_key (x ∷ xs) (y ∷ ys) e =
     let p = both_equal (slice_cmp nat_cmp x y) (key_cmp xs ys) e in
     ap (λ z. z ∷ xs) (one_list x y p.0) ∙ ap (λ zs. y ∷ zs) (one_key xs ys p.1)
 
--- ---- a key tells the name and the type
+-- ---- a key gives the name and the type
 
 element_only : (s t : ElementType) → element_numbers s ≡ element_numbers t → s ≡ t
 element_only (Base a) (Base b) e = ap Base (letter-same a b cc)

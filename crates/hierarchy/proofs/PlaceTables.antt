@@ -18,7 +18,7 @@ take_more (y ∷ ys) (suc k) x e = ap (λ zs. y ∷ zs) (take_more ys k x e)
 pub one_more : {X : Type 0} (xs : List X) (k : ℕ) (x : X) → slice_get xs k ≡ Some x → take (k + 1) xs ≡ take k xs ++ x ∷ []
 one_more xs k x e = let n : k + 1 ≡ suc k = omega arith in ap (λ m. take m xs) n ∙ take_more xs k x e
 
--- what stands in a list with one element more
+-- what is in a list with one element more
 at_end : {X : Type 0} (xs : List X) (x : X) (n : ℕ) (z : X) → slice_get (xs ++ x ∷ []) n ≡ Some z → (slice_get xs n ≡ Some z) ⊎ ((n ≡ length xs) × (x ≡ z))
 at_end [] x zero z e = inr (refl, Some_same e)
 at_end [] x (suc n) z e = absurd cc

@@ -72,7 +72,7 @@ abbrev pub are_different : List (List ℕ) → Bool
 are_different [] = true
 are_different (n ∷ ns) = not (list_any (bytes_eq n) ns) && are_different ns
 
--- what passes stands among those that pass behind those that do before it
+-- what passes comes, among those that pass, after those that do before it
 pub filtered_there : {X : Type 0} (q : X → Bool) (xs : List X) (place : ℕ) (x : X) → slice_get xs place ≡ Some x → q x ≡ true → slice_get (filter q xs) (length (filter q (take place xs))) ≡ Some x
 filtered_there q [] place x e t = absurd cc
 filtered_there q (y ∷ ys) zero x e t = let same : y ≡ x = cc in let own : q y ≡ true = ap q same ∙ t in rw own (ap Some same)

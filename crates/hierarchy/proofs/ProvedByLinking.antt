@@ -43,7 +43,7 @@ clear classes c a n = elim (cases_Bool (is_among c a.found)) [
   | inr e ↦ record { found = a.found; are = a.are; clear = e }
 ]
 
--- where no class stands on a cycle each way up ends
+-- where no class is on a cycle each way up ends
 pub acyclic_without_cycle : (classes : List Class) → IsInRange classes → HasNoCycle classes → IsAcyclic classes
 acyclic_without_cycle classes r n = acyclic_all classes r (λ k l. clear classes (id k) (above classes r (id k)) (n k))
 

@@ -73,7 +73,7 @@ ready_first p (suc zero) o e = sym e
 ready_first p (suc (suc zero)) o e = sym e
 ready_first p (suc (suc (suc k))) o e = absurd cc
 
--- the references behind the ready objects are those of the texts
+-- the references after the ready objects are those of the texts
 pub ready_text : (p : LinkedProgram) (r : ℕ) (t : List ℕ) → text_at p r ≡ Some t → Some ready.Text ≡ slice_get (objects_at_start p) r
 ready_text p zero t e = absurd cc
 ready_text p (suc zero) t e = absurd cc

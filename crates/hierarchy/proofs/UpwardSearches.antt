@@ -1,4 +1,4 @@
--- The search for an order in which each class stands after its direct supertypes.
+-- The search for an order in which each class comes after its direct supertypes.
 use Rattle.std.proofs.Common.{◌≡◌, ℕ, zero, suc, ◌+◌, ◌<◌, ◌≤◌, inl, inr, Some, None, List, [], ◌∷◌, ◌++◌, length, take, get_or, slice_get, refl, sym, subst, ◌∙◌, arith}
 use Rattle.std.proofs.lemmas.Bool.{cases_Bool, cases_lt}
 use Rattle.std.proofs.lemmas.List.{take_all, take_more, take-append-le}
@@ -79,7 +79,7 @@ place_among (x ∷ xs) zero h = elim h [ ]
 place_among (x ∷ xs) (suc n) first = (0, omega arith, refl)
 place_among (x ∷ xs) (suc n) (later h) = let r = place_among xs n h in (suc r.0, omega (arith, r.1), r.2)
 
--- a class has no more steps above it than classes stand before it
+-- a class has no more steps above it than classes come before it
 rises_within : (classes : List Class) (order : List ClassId) → Rises classes order → (n k : ℕ) (c : ClassId) → k < n → slice_get order k ≡ Some c → IsWithin n classes c
 rises_within classes order r zero k c h e = absurd (omega (arith, h))
 rises_within classes order r (suc n) k c h e =

@@ -14,7 +14,7 @@ abbrev pub ancestry_within : ℕ → (ClassId → List ClassId) → ClassId → 
 ancestry_within zero above c = []
 ancestry_within (suc depth) above c = c ∷ flat_map (ancestry_within depth above) (above c)
 
--- c, then the ancestry of each class that stands directly above it, in order.
+-- c, then the ancestry of each class that is directly above it, in order.
 -- In a program each way up ends before the height.
 unfoldable pub ancestry : List Class → (ClassId → List ClassId) → ClassId → List ClassId
 ancestry classes above c = ancestry_within (height classes) above c

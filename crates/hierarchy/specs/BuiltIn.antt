@@ -143,6 +143,6 @@ built_in_at (Some k) = slice_get built_ins k
 abbrev pub built_in_named : List ℕ → Option BuiltIn
 built_in_named name = built_in_at (place_of built_in_names name)
 
--- java/lang/Object and the throwables, which stand behind the first four
+-- java/lang/Object and the throwables, which come after the first four
 abbrev pub may_be_superclass : BuiltIn → Bool
 may_be_superclass b = number_of b == 0 || nat_lt 3 (number_of b)

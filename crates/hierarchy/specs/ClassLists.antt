@@ -13,7 +13,7 @@ is_among c found = list_any (same_class c) found
 abbrev pub add_new : List ClassId → ClassId → List ClassId
 add_new found c = if is_among c found then found else found ++ c ∷ []
 
--- each in turn: of repeats the first stands
+-- each in turn: of repeats the first is kept
 abbrev pub add_all : List ClassId → List ClassId → List ClassId
 add_all found cs = fold add_new found cs
 

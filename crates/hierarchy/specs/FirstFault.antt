@@ -37,7 +37,7 @@ pub data IsNameFault (texts : List ClassParts) : LinkFaultKind → ℕ → Type 
   reserved : {i : ℕ} → HasRoom texts → position (λ t. is_reserved t.name) texts ≡ Some i → IsNameFault texts ReservedName i
   repeated : {i : ℕ} → HasRoom texts → HasUserNames texts → IsFirst (IsRepeated texts) i → IsNameFault texts RepeatedName i
 
--- no class stands on a cycle
+-- no class is on a cycle
 abbrev pub HasNoCycle : List Class → Type 0
 HasNoCycle classes = (n : ℕ) → IsCyclic classes (id n) → ⊥
 

@@ -42,11 +42,11 @@ pub data Reaches (classes : List Class) : ClassId → ClassId → Type 0 where
 abbrev pub IsSubtype : List Class → ClassId → ClassId → Type 0
 IsSubtype classes a b = (a ≡ b) ⊎ Reaches classes a b
 
--- c stands on a cycle
+-- c is on a cycle
 abbrev pub IsCyclic : List Class → ClassId → Type 0
 IsCyclic classes c = Reaches classes c c
 
--- the files' class of that number is the first in file order that stands on a cycle
+-- the files' class of that number is the first in file order that is on a cycle
 pub record IsFirstCyclic (classes : List Class) (n : ℕ) : Type 0 where
   pub within : n < length classes
   pub cyclic : IsCyclic classes (id n)
@@ -70,7 +70,7 @@ IsWithin (suc depth) classes c = Every (IsWithin depth classes) (supers classes 
 abbrev pub most_steps : List Class → ℕ
 most_steps classes = length classes + (2 * BUILT_IN_COUNT + 1)
 
--- more steps than a way up can have, where no class stands twice on it
+-- more steps than a way up can have, where no class is on it twice
 abbrev pub height : List Class → ℕ
 height classes = suc (most_steps classes)
 

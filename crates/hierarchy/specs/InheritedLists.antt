@@ -5,7 +5,7 @@ use Rattle.hierarchy.specs.declared.class.ClassId.{ClassId}
 use Rattle.hierarchy.specs.Ancestry.{superclass_of}
 use Rattle.hierarchy.specs.Methods.{all_superinterfaces}
 
--- an empty list stands for another one
+-- an empty list represents another one
 abbrev pub or_other : List ClassId → List ClassId → List ClassId
 or_other other [] = other
 or_other other (c ∷ cs) = c ∷ cs

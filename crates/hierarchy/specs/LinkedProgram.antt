@@ -1,4 +1,4 @@
--- A program: its linked classes in file order (JVMS SE 8 5.4), and the built-in ones behind them.
+-- A program: its linked classes in file order (JVMS SE 8 5.4), and the built-in ones after them.
 use Rattle.std.specs.Prelude.{ℕ, ◌+◌, ◌-◌, List, Option, Some, None, map, length, slice_get, position}
 use Rattle.std.specs.Option.{option_map, option_or}
 use Rattle.std.specs.Str.{bytes_eq}

@@ -41,7 +41,7 @@ abbrev pub field_cell_in : LinkedProgram → ClassId → ℕ → Option Field �
 field_cell_in p c place None = None
 field_cell_in p c place (Some f) = if is_instance_field f then Some (cells_in p (superclass_of p.classes c) + length (filter is_instance_field (take place (fields_of p c)))) else None
 
--- the cell of the instance field at this place of c: behind those of the superclass and of the fields before
+-- the cell of the instance field at this place of c: after those of the superclass and of the fields before
 abbrev pub field_cell : LinkedProgram → ClassId → ℕ → Option ℕ
 field_cell p c place = field_cell_in p c place (slice_get (fields_of p c) place)
 

@@ -12,7 +12,7 @@ use Rattle.hierarchy.specs.LinkedProgram.{LinkedProgram, class_at, built_in, nam
 abbrev pub AreFoundByName : LinkedProgram → Type 0
 AreFoundByName p = (c : ClassId) (name : List ℕ) → (name_at p c ≡ Some name) ↔ (class_named p name ≡ Some c)
 
--- no file's class stands before a built-in one
+-- no file's class comes before a built-in one
 abbrev pub AreBuiltInsFound : LinkedProgram → Type 0
 AreBuiltInsFound p = (b : BuiltIn) → class_named p (name_of b) ≡ Some (built_in p b)
 

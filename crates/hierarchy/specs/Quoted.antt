@@ -57,7 +57,7 @@ quoted_texts classes = distinct_texts (flat_map quoted_in classes)
 abbrev pub cells_of : List Class → ℕ
 cells_of classes = 3 + length (quoted_texts classes)
 
--- The reference to a quoted text: they are numbered in their order, behind the three ready objects.
+-- The reference to a quoted text: they are numbered in their order, after the three ready objects.
 abbrev pub text_reference : LinkedProgram → List ℕ → Option ℕ
 text_reference p text = option_map (λ place. 3 + place) (place_of_text text (quoted_texts p.classes))
 

@@ -24,7 +24,7 @@ abbrev pub known_at : List ClassKind → List ℕ → Option ℕ → Known
 known_at kinds name (Some place) = known_file place (slice_get kinds place)
 known_at kinds name None = known_built_in (built_in_named name)
 
--- what a name stands for among classes of these names and kinds: a file's class before a built-in one
+-- what a name means among classes of these names and kinds: a file's class before a built-in one
 abbrev pub known : List (List ℕ) → List ClassKind → List ℕ → Known
 known names kinds name = known_at kinds name (place_of_text name names)
 

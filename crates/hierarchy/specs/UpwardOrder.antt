@@ -1,4 +1,4 @@
--- Classes in an order in which each stands after its direct supertypes (JVMS SE 8 5.3.5).
+-- Classes in an order in which each comes after its direct supertypes (JVMS SE 8 5.3.5).
 use Rattle.std.specs.Prelude.{◌≡◌, ℕ, ◌<◌, List, Some, length, slice_get, take}
 use Rattle.std.specs.List.{IsDistinct}
 use Rattle.hierarchy.specs.declared.class.Class.{Class}
@@ -7,7 +7,7 @@ use Rattle.hierarchy.specs.ClassLists.{Among, same_class}
 use Rattle.hierarchy.specs.Hierarchy.{supers}
 use Rattle.hierarchy.specs.LinkedProgram.{id}
 
--- each class stands after its direct supertypes
+-- each class comes after its direct supertypes
 abbrev pub Rises : List Class → List ClassId → Type 0
 Rises classes order = (k : ℕ) (c : ClassId) → slice_get order k ≡ Some c → (d : ClassId) → Among d (supers classes c) → Among d (take k order)
 

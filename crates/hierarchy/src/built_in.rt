@@ -6,7 +6,7 @@ ghost use Rattle.hierarchy.specs.BuiltIn.{number_of, superclass_of_built_in, bui
 
 /// A class that belongs to no file: it counts as initialized from the start (JVMS SE 8 5.5 has nothing left
 /// to do for it) and gives no event. Each variant is the class of that name in java/lang, but for PrintStream, which is
-/// java/io/PrintStream; they stand in the order of their numbers.
+/// java/io/PrintStream; they come in the order of their numbers.
 #[derive(Clone, Copy, PartialEq, Eq)]
 pub enum BuiltIn {
     Object,
@@ -182,7 +182,7 @@ impl BuiltIn {
         BuiltIn::at(place_built_in(name)?)
     }
 
-    /// Whether a class may name it as its superclass: java/lang/Object and the throwables, which stand behind
+    /// Whether a class may name it as its superclass: java/lang/Object and the throwables, which come after
     /// the first four.
     pub(crate) fn is_extensible(self) -> bool
         ensures { result ≡ may_be_superclass self }

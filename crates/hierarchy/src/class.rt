@@ -8,7 +8,7 @@ use sequence::Sequence;
 /// A number that a program doesn't have is no class of it.
 #[derive(Clone, Copy, PartialEq, Eq, Hash)]
 pub struct ClassId {
-    /// The class's place among the program's classes, from 0, and behind them among the built-in ones.
+    /// The class's place among the program's classes, from 0, and after them among the built-in ones.
     pub number: usize,
 }
 

@@ -9,7 +9,7 @@ use std::fmt;
 /// A kind prints as the code by which the program names it, `H1` to `H9`.
 #[derive(Clone, Copy, Debug)]
 pub enum LinkFaultKind {
-    /// `H1`: two classes have one name. Told of the second of them.
+    /// `H1`: two classes have one name. Reported for the second of them.
     RepeatedName,
     /// `H2`: the superclass, or a superinterface, is unknown. A superclass is a class or interface of the program,
     /// java/lang/Object or a built-in throwable.
@@ -24,10 +24,10 @@ pub enum LinkFaultKind {
     ReservedName,
     /// `H7`: two fields, or two methods, have one name and one descriptor.
     RepeatedMember,
-    /// `H8`: over 1,024 classes, told of the 1,025th; or more quoted texts than the heap holds, told of the first
-    /// class whose texts are too many.
+    /// `H8`: over 1,024 classes, reported for the 1,025th; or more quoted texts than the heap holds, reported
+    /// for the first class whose texts are too many.
     TooMany,
-    /// `H9`: want of memory.
+    /// `H9`: out of memory.
     NoMemory,
 }
 

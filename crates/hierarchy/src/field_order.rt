@@ -99,7 +99,7 @@ fn add_order(
     }
     if id.number < classes.len() {
         if found.len() < 2 {
-            // So short a list is made longer by a copy, in which the class itself stands first.
+            // So short a list is made longer by a copy, in which the class itself comes first.
             add_list(finished, id.number, found)?;
             return Ok(());
         }
@@ -143,7 +143,7 @@ fn order_of(
 }
 
 /// The classes in which a field is looked up, for each class in file order, made in an order in which each class
-/// stands after its direct supertypes.
+/// comes after its direct supertypes.
 pub(crate) fn field_orders(
     alloc: Global,
     classes: &[Class],

@@ -83,7 +83,7 @@ pub fn static_count(fields: &[Field]) -> usize
     count
 }
 
-/// Whether what stands behind a type's dimensions is the class of that internal name.
+/// Whether what follows a type's dimensions is the class of that internal name.
 pub(crate) fn is_class_element(name: &[u8], element: &ElementType) -> bool
     ensures { result ≡ is_class_element_of name.now element.now }
 {

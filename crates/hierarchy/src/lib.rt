@@ -2,11 +2,11 @@
 //!
 //! Enter by [`link`]: it takes the class texts of all files, in order, and answers the [`Program`] that they
 //! make, or the first fault with its class (JVMS SE 8 5.3.5, 5.4). A program numbers its classes in file order
-//! and the built-in ones behind them; a [`ClassId`] is such a number, and everything above speaks of classes
+//! and the built-in ones after them; a [`ClassId`] is such a number, and everything above speaks of classes
 //! by it.
 //!
 //! Contracts see a program as one value, the list of its linked classes. In every program each way up the
-//! hierarchy ends, which [`Program::is_linked`] tells. What linking found out beside the classes, as the
+//! hierarchy ends, which [`Program::is_linked`] says. What linking found out beside the classes, as the
 //! superinterfaces of each and the classes in which its fields are looked up, is kept in the program and is no part
 //! of that value: so no call goes up the hierarchy by more than one way, that of the superclasses, and what is
 //! resolved later can be kept there too.

@@ -43,7 +43,7 @@ struct FaultAt {
 }
 
 impl FaultAt {
-    /// Want of memory, told of the first class.
+    /// Out of memory, reported for the first class.
     const NO_MEMORY: FaultAt = FaultAt {
         kind: LinkFaultKind::NoMemory,
         place: 0,
@@ -112,7 +112,7 @@ fn members_of(alloc: Global, classes: &[Class]) -> Result<Vec<MemberPlaces>, Fau
     }
 }
 
-/// An order in which each class stands after its direct supertypes, where none stands on a cycle.
+/// An order in which each class comes after its direct supertypes, where none is on a cycle.
 fn upward_order_of(alloc: Global, classes: &[Class]) -> Result<Vec<ClassId>, FaultAt>
     requires some { 0 < length classes.now }
     requires few { length classes.now ≤ 1024 }
@@ -296,16 +296,16 @@ fn parts_of(alloc: Global, texts: Vec<ClassText>) -> Result<Vec<ClassParts>, Lin
     Ok(parts)
 }
 
-/// Links the classes of all files, in order, to a program, or tells the first fault and its class
+/// Links the classes of all files, in order, to a program, or reports the first fault and its class
 /// (JVMS SE 8 5.3.5, 5.4). Of no class it makes the program that has the built-in classes alone.
 ///
 /// The passes, each over the classes in file order: over 1,024 classes; a name under java/; a name twice;
 /// then of each class its superclass and its superinterfaces in order, of one name first whether it is known
-/// and then whether it is of the right kind; then cycles, told of the first class that itself stands on one;
+/// and then whether it is of the right kind; then cycles, reported for the first class that itself is on one;
 /// then a member twice; then the heap's share, which is one cell for each of three ready objects and one for
 /// each distinct quoted text of a static field or of `ldc`, of 1,000,000 cells.
 ///
-/// Want of memory is [`LinkFaultKind::NoMemory`], may come before any fault, and leaves its class open.
+/// Being out of memory is [`LinkFaultKind::NoMemory`], may come before any fault, and leaves its class open.
 pub fn link(alloc: Global, texts: Vec<ClassText>) -> Result<Program, LinkFault>
     ensures linked { IfOk result (LinksTo texts.items) }
     ensures fault { IfErr result (λ f. IsMemory f ⊎ IsFirstFault texts.items f) }

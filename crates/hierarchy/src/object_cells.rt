@@ -31,7 +31,7 @@ pub(crate) fn cells_among(all: &[usize], id: ClassId) -> usize
 }
 
 /// Of each class in file order how many cells an object of it has: those of its superclass, none of a built-in one,
-/// and one for each instance field of its own. In the order each class stands after its superclass, so one pass is enough.
+/// and one for each instance field of its own. In the order each class comes after its superclass, so one pass is enough.
 pub(crate) fn all_object_cells(
     alloc: Global,
     classes: &[Class],

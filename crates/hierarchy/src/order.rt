@@ -81,7 +81,7 @@ fn superinterfaces(
     Ok(found)
 }
 
-/// The superinterfaces of each class, in file order, made in an order in which each class stands after its
+/// The superinterfaces of each class, in file order, made in an order in which each class comes after its
 /// direct supertypes.
 pub(crate) fn all_superinterfaces(
     alloc: Global,
@@ -132,7 +132,7 @@ fn inherited(
 }
 
 /// The superinterfaces of each class, direct and indirect, in file order, none where its superclass has none, made in an
-/// order in which each class stands after its direct supertypes.
+/// order in which each class comes after its direct supertypes.
 pub(crate) fn all_inherited(
     alloc: Global,
     classes: &[Class],

@@ -5,7 +5,7 @@ ghost use Rattle.hierarchy.specs.Objects.{objects_at_start};
 
 use crate::program::Program;
 
-/// An object that is there before a program runs, with the reference of its place here from 0 on; behind the first
+/// An object that is there before a program runs, with the reference of its place here from 0 on; after the first
 /// three each quoted text has one.
 #[derive(Clone, Copy)]
 pub enum ReadyObject {

@@ -12,7 +12,7 @@ use sequence::Sequence;
 use std::alloc::Global;
 use texts::Texts;
 
-/// What a name stands for where a class names a supertype.
+/// What a name means where a class names a supertype.
 #[derive(Clone, Copy)]
 pub(crate) enum Known {
     /// A class or interface of the files, by its place.
@@ -23,7 +23,7 @@ pub(crate) enum Known {
     Nothing,
 }
 
-/// What a name stands for among classes of these names and kinds, in file order.
+/// What a name means among classes of these names and kinds, in file order.
 pub(crate) fn known_class(names: &Texts, kinds: &[ClassKind], name: &[u8]) -> Known
     ensures { result ≡ known names.now kinds.now name.now }
 {

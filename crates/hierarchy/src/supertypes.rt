@@ -54,7 +54,7 @@ fn supertypes(alloc: Global, classes: &[Class], id: ClassId) -> Result<ClassSet,
     Ok(found)
 }
 
-/// The first class in file order that stands on a cycle, where some class does. The time is that of the direct
+/// The first class in file order that is on a cycle, where some class is. The time is that of the direct
 /// supertypes of all classes above each class.
 pub(crate) fn first_cyclic(alloc: Global, classes: &[Class]) -> Result<usize, AllocError>
     requires few { length classes.now ≤ 1024 }

@@ -80,7 +80,7 @@ fn orders_of(alloc: Global, classes: &[Class], order: &[ClassId]) -> Result<Orde
     })
 }
 
-/// The tables of classes whose members and quoted texts are found, from an order in which each class stands after its
+/// The tables of classes whose members and quoted texts are found, from an order in which each class comes after its
 /// direct supertypes.
 pub(crate) fn tables_with(
     alloc: Global,

@@ -1,4 +1,4 @@
-//! An order of the classes in which each stands after all that is above it, if there is one.
+//! An order of the classes in which each comes after all that is above it, if there is one.
 
 ghost use Rattle.std.specs.Prelude.{◌≡◌, ◌≤◌, true, false, OnOk, IfOk, length};
 ghost use Rattle.hierarchy.specs.ClassLists.{Among};
@@ -14,7 +14,7 @@ use crate::order::interfaces;
 use crate::supertypes::first_cyclic;
 use std::alloc::{AllocError, Global};
 
-/// Notes a class after all that is above it, or tells that some way up from it takes more than so many steps. No class
+/// Notes a class after all that is above it, or says that some way up from it takes more than so many steps. No class
 /// is gone over again once it is noted, so the time is that of the direct supertypes of the classes that are added.
 fn note_upward(
     classes: &[Class],
@@ -55,20 +55,20 @@ fn note_upward(
 /// What a search for cycles found.
 #[derive(Drop)]
 pub(crate) enum SearchResult {
-    /// The first class that stands on a cycle, by its place.
+    /// The first class that is on a cycle, by its place.
     Cycle(usize),
     /// The classes of the files and all that is above them, each after its direct supertypes.
     Upward(Vec<ClassId>),
 }
 
-/// The first class in file order that stands on a cycle; else an order in which each class stands after its direct
-/// supertypes. Where no class stands on a cycle, the time is that of all direct supertypes.
+/// The first class in file order that is on a cycle; else an order in which each class comes after its direct
+/// supertypes. Where no class is on a cycle, the time is that of all direct supertypes.
 pub(crate) fn search(alloc: Global, classes: &[Class]) -> Result<SearchResult, AllocError>
     requires few { length classes.now ≤ 1024 }
     requires in_range { IsInRange classes.now }
     ensures { IfOk result (SearchOf classes.now) }
 {
-    // Where no class stands on a cycle, no way up has more steps.
+    // Where no class is on a cycle, no way up has more steps.
     let steps = classes.len() + 2 * BUILT_IN_COUNT + 2;
     let mut order = ClassSet::new(alloc);
     for number in 0..classes.len() {

@@ -21,8 +21,8 @@ use Rattle.init_core.specs.Advance.{after_needs, after_word, after_in}
 use Rattle.init_core.proofs.Leading.{has_ended, body_is_ended, body_is_stopped, body_is_given_up, look_is_given_up}
 use Rattle.init_core.specs.LegalSoFar.{EndsItsClass, AreEndings}
 
--- Outer says what may stand before a request from outside of any class, Idle what stands where no class is open, and W
--- what is to hold of the whole.
+-- Outer says what may come before a request from outside of any class, Idle what has been done where no class is open,
+-- and W what is to hold of the whole.
 module _ (p : LinkedProgram) (t : ℕ) (Outer : ClassId → List Event → Type 0) (Idle : Option Completed → List Event → Type 0)
     (goes : (c : ClassId) (xs w : List Event) (r : Outcome) (s z : Unit {0}) → Outer c xs → ProcedureWord p t c w r → Idle (Some (completed c r)) (xs ++ w))
     (W : List Event → Type 0) (stop : (last : Option Completed) (xs : List Event) → Idle last xs → W xs) where

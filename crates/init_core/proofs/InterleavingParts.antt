@@ -34,7 +34,7 @@ one_more h e d q = rw (filter-append, q)
 pub no_more : (h : List Event) (e : Event) (d : ClassId) → is_class d e.class ≡ false → of_class d (h ++ e ∷ []) ≡ of_class d h
 no_more h e d q = rw (filter-append, q) (append-nil _)
 
--- behind the events h the labels of all classes allow the events ys
+-- after the events h the labels of all classes allow the events ys
 abbrev pub Laws : List Event → List Event → Type 0
 Laws h ys = (c : ClassId) → AgreesAfter (of_class c h) (of_class c ys)
 

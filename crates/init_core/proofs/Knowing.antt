@@ -34,7 +34,7 @@ use Rattle.init_core.proofs.Seeing.{AreMine, all_mine, stays_so, waits_others_fr
 
 -- ---- the frames
 
--- what may stand below the innermost class
+-- what may be below the innermost class
 abbrev pub IsOuter : Phase → Type 0
 IsOuter (Needing rest) = Unit {0}
 IsOuter (Running true) = Unit {0}

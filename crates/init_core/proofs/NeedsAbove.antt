@@ -1,4 +1,4 @@
--- What a class needs stands above it in the hierarchy, and in a file.
+-- What a class needs is above it in the hierarchy, and in a file.
 use Rattle.std.proofs.Common.{◌≡◌, ◌⊎◌, ℕ, zero, suc, Bool, true, false, Option, Some, None, List, [], ◌∷◌, refl, sym, ap, ◌∙◌, subst, inl, inr}
 use Rattle.std.specs.Prelude.{◌<◌, ◌++◌, length, filter}
 use Rattle.std.specs.List.{AllByRecursion, flat_map}

@@ -1,4 +1,4 @@
--- What stands of a class, event by event.
+-- The state of a class, event by event.
 use Rattle.std.proofs.Common.{◌≡◌, ◌≢◌, ◌⊎◌, ℕ, ◌<◌, ◌≤◌, inl, inr, Bool, true, false, List, [], ◌∷◌, ◌++◌, Option, Some, None, length, ◌==◌, refl, sym, ap, ◌∙◌, subst, arith}
 use Rattle.std.specs.Prelude.{if◌then◌else◌, slice_index_or, slice_set, slice_get, map, filter, replicate}
 use Rattle.std.specs.List.{find, AllByRecursion}
@@ -59,7 +59,7 @@ waiting_after s h t u k g within below = at (eqb_tells t u)
     at (inl x) = ap (λ n. slice_index_or (slice_set s.waiting t (is_wait k)) n false) (sym x.1) ∙ get_or-set_same s.waiting t (is_wait k) false (rw g.threads within) ∙ sym (waits_more u h (event t s.class k) ∙ rw x.0 refl)
     at (inr x) = get_or-set_other s.waiting t u (is_wait k) false (λ e. x.1 (sym e)) ∙ g.waiting u below ∙ sym (waits_more u h (event t s.class k) ∙ rw x.0 refl)
 
--- what stands after one event more
+-- the state after one event more
 pub state_after : (s : State) (h : List Event) (t : ℕ) (k : Kind) → t < THREADS → Allows s.label t k → IsStateOf s h → IsInRange k → Holds s.fields h k → IsStateOf (stepped s t k) (h ++ event t s.class k ∷ [])
 state_after s h t k within a g range holds =
     let ok : Allows (label_of h) t k = rw (← g.label) a in
@@ -110,7 +110,7 @@ few_static p linked c = at (class_at p c) refl
 pub few_statics : (p : LinkedProgram) → IsLinked p → (c : ClassId) → length (statics_of p c) ≤ FIELD_PLACES
 few_statics p linked c = let few = few_static p linked c in let same : length (statics_of p c) ≡ length (static_fields p c) = length-map (static_fields p c) (static_field p) in omega (arith, few, same)
 
--- what stands of a class that is prepared
+-- the state of a class that is prepared
 pub prepared_state : (s : State) → s.label ≡ Prepared → s.failure ≡ None → s.values ≡ map default_of s.fields → s.waiting ≡ replicate 16 false → IsStateOf s []
 prepared_state s label failure values waiting = record {
   label = label;

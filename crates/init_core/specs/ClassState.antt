@@ -1,4 +1,4 @@
--- What stands of a class after a history of it, without that list.
+-- The state of a class after a history of it, without that list.
 use Rattle.std.specs.Prelude.{◌≡◌, ℕ, ◌<◌, List, Option, Some, Bool, false, length, slice_get, slice_set, slice_index_or}
 use Rattle.std.specs.List.{AllByRecursion}
 use Rattle.hierarchy.specs.declared.class.ClassId.{ClassId}
@@ -35,7 +35,7 @@ AreHeld fields values events = (place : ℕ) → slice_get values place ≡ valu
 abbrev pub is_waiter : State → ℕ → Bool
 is_waiter s t = slice_index_or s.waiting t false
 
--- what stands is that of this history of the class, which is lawful
+-- the state is that of this history of the class, which is lawful
 pub record IsStateOf (s : State) (events : List Event) : Type 0 where
   pub label : s.label ≡ label_of events
   pub failure : s.failure ≡ failure_of events
@@ -65,7 +65,7 @@ next_values fields values kind.Begins = with_constants fields values
 next_values fields values (kind.Puts place value) = slice_set values place value
 next_values fields values _ = values
 
--- what stands after what a thread does
+-- the state after what a thread does
 abbrev pub stepped : State → ℕ → Kind → State
 stepped s t k = record {
   class = s.class;

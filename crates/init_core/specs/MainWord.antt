@@ -10,20 +10,20 @@ use Rattle.init_core.specs.ProcedureWord.{Maker, free, Word, ItemsOf, GoesOn, Is
 use Rattle.init_core.specs.Standing.{Standing}
 use Rattle.init_core.specs.Leads.{Leads}
 
--- Before main's body, from a first state s. What stands where no class is open: nothing, or the procedure for m.
+-- Before main's body, from a first state s. What has been done where no class is open: nothing, or the procedure for m.
 pub data MainDoneOf (p : LinkedProgram) (t : ℕ) (M : Maker) (s : M.State) (m : ClassId) : Option Completed → List Event → M.State → Type 0 where
   nothing : MainDoneOf p t M s m None [] s
   main_done : {z : M.State} {w : List Event} {r : Outcome} → Word p t M s m w r z → MainDoneOf p t M s m (Some (completed m r)) w z
 
--- what may stand before a request from there: it is of m, and the first
+-- what may come before a request from there: it is of m, and the first
 pub data BeforeMainOf (p : LinkedProgram) (t : ℕ) (M : Maker) (s : M.State) (m : ClassId) : ClassId → List Event → M.State → Type 0 where
   before_first : BeforeMainOf p t M s m m [] s
 
--- In main's body. What stands where no class is open: the procedure for m, completed normally, and items.
+-- In main's body. What has been done where no class is open: the procedure for m, completed normally, and items.
 pub data MainItemsOf (p : LinkedProgram) (t : ℕ) (M : Maker) (s : M.State) (m : ClassId) : Option Completed → List Event → M.State → Type 0 where
   main_items : {u v z : M.State} {w items : List Event} {last : Option Completed} → Word p t M s m w Normal u → M.enters u m v → ItemsOf p t M v last items z → MainItemsOf p t M s m last (w ++ items) z
 
--- what may stand before a request from there
+-- what may come before a request from there
 pub data BeforeItemOf (p : LinkedProgram) (t : ℕ) (M : Maker) (s : M.State) (m : ClassId) : ClassId → List Event → M.State → Type 0 where
   before_item : {u v y z : M.State} {w items : List Event} {last : Option Completed} {c : ClassId} → Word p t M s m w Normal u → M.enters u m v → ItemsOf p t M v last items y → GoesOn last → IsOfFiles p c → M.asks y last c z →
       BeforeItemOf p t M s m c (w ++ items) z

@@ -61,8 +61,8 @@ IsStop p Normal = Unit {0}
 IsStop p (Abrupt e) = IsThrowable p e
 IsStop p (Ended e) = IsMachineError p e
 
--- What makes bodies: its states, and its steps from one to the next. A step stands for all that is run up to it without
--- an event. An active use, a print and an end are told the procedure that was completed last, if nothing was done since.
+-- What makes bodies: its states, and its steps from one to the next. A step represents all that is run up to it without
+-- an event. An active use, a print and an end are given the procedure that was completed last, if nothing was done since.
 pub record Maker : Type 1 where
   pub State : Type 0
   -- the initializer of a class begins
@@ -111,7 +111,7 @@ mutual
     need_is_ended : {s u z : M.State} {c next : ClassId} {first : List ClassId} (others : List ClassId) {begun w : List Event} {e : ClassId} →
         needs p c ≡ first ++ next ∷ others → Begun p t M s c first begun u → Word p t M u next w (Ended e) z →
         AfterWait p t M s c (begun ++ (w ++ event t c (kind.SuperFails e) ∷ [])) (Ended e) z
-    -- step 6 and then want of memory before step 9
+    -- step 6, and then memory runs out before step 9
     lacks_memory : {s u : M.State} {c : ClassId} {first : List ClassId} (others : List ClassId) {begun : List Event} →
         needs p c ≡ first ++ others → Begun p t M s c first begun u →
         AfterWait p t M s c (begun ++ event t c (kind.SuperFails (built_in p OutOfMemoryError)) ∷ []) (Ended (built_in p OutOfMemoryError)) u
@@ -122,8 +122,8 @@ mutual
     and_then : {s u z : M.State} {c next : ClassId} {first : List ClassId} {begun w : List Event} → Begun p t M s c first begun u → Word p t M u next w Normal z → Begun p t M s c (first ++ next ∷ []) (begun ++ w) z
 
   -- The items of a body so far: active uses of classes, reads and writes of statics, prints. A read or a write
-  -- stands directly behind the procedure for the field's class. The index is the procedure completed last,
-  -- with nothing behind it.
+  -- comes directly after the procedure for the field's class. The index is the procedure completed last,
+  -- with nothing after it.
   pub data ItemsOf (p : LinkedProgram) (t : ℕ) (M : Maker) : M.State → Option Completed → List Event → M.State → Type 0 where
     no_items : {s : M.State} → ItemsOf p t M s None [] s
     requests : {s u v z : M.State} {last : Option Completed} {items events : List Event} {c : ClassId} {r : Outcome} → ItemsOf p t M s last items u → GoesOn last → IsOfFiles p c → M.asks u last c v → Word p t M v c events r z → ItemsOf p t M s (Some (completed c r)) (items ++ events) z

@@ -28,7 +28,7 @@ abbrev pub begun_classes : List Frame → List ClassId
 begun_classes [] = []
 begun_classes (f ∷ fs) = begun_in f.class f.phase (begun_classes fs)
 
--- no class stands twice
+-- no class is there twice
 abbrev pub AreDifferent : List ClassId → Type 0
 AreDifferent [] = Unit {0}
 AreDifferent (c ∷ cs) = AllByRecursion (λ d. d ≢ c) cs × AreDifferent cs
@@ -51,7 +51,8 @@ abbrev pub ending_error : Standing → Option ClassId
 ending_error s = elim s.frames [ [] ↦ given_up s.last | f ∷ fs ↦ ending_error_in f.phase s.last ]
 
 -- After these events of its own, by what makes its bodies, thread t stands so, where it has seen this history of each
--- class. Outer says what may stand before a request from outside of any class, and Idle what stands where no class is open.
+-- class. Outer says what may come before a request from outside of any class, and Idle what has been done where no class
+-- is open.
 pub record StandsOf (p : LinkedProgram) (t : ℕ) (M : Maker) (Outer : ClassId → List Event → M.State → Type 0) (Idle : Option Completed → List Event → M.State → Type 0) (s : Standing) (own : List Event) (seen : ClassId → List Event) (z : M.State) : Type 0 where
   pub leads : LeadsOf p t M Outer Idle s own z
   pub files : AllByRecursion (λ f. NamesFiles p f) s.frames

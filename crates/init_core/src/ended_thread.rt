@@ -38,7 +38,7 @@ impl Procedure {
         }
     }
 
-    /// The machine ends the thread by this error, at a request before its step 6 or in a body behind step 9. It says what
+    /// The machine ends the thread by this error, at a request before its step 6 or in a body after step 9. It says what
     /// an answer of a request that is given up says, or of a body that the machine ended, without the program. Takes no
     /// memory.
     pub fn end_thread(&mut self, error: ClassId)

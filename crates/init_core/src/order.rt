@@ -91,7 +91,7 @@ fn needs_of_class(
 
 /// The classes whose procedure is done before the initializer of a class runs, in order: none for an
 /// interface; for a class its superclass, if that is in a file, and then the enumeration of its
-/// superinterfaces, of those that declare a non-abstract, non-static method; of repeats the first stands.
+/// superinterfaces, of those that declare a non-abstract, non-static method; of repeats the first is kept.
 #[tactic(auto, using(crate::proofs::NeedsByKind::needs_rules))]
 pub fn needs(alloc: Global, program: &Program, id: ClassId) -> Result<Vec<ClassId>, AllocError>
     ensures { IfOk result (λ found. found.items ≡ needs_of program.now id) }

@@ -1,4 +1,4 @@
-//! What stands of one class, without the list of its events (JLS SE 8 12.4.2, JVMS SE 8 5.5).
+//! The state of one class, without the list of its events (JLS SE 8 12.4.2, JVMS SE 8 5.5).
 
 ghost use Rattle.std.specs.Prelude.{◌≡◌, ℕ, ◌<◌, ◌≤◌, ◌++◌, ◌∷◌, [], Some, IfOk, List, true, false, length, slice_get, slice_index_or};
 ghost use Rattle.hierarchy.specs.LinkedProgram.{id};
@@ -20,7 +20,7 @@ use std::marker::Model;
 /// Label, failure, what the static fields hold, and which threads wait.
 ///
 /// It keeps no events: whoever does adds each to its own list, and each call says of which history of the class this is
-/// what stands. No call's time grows with what came before.
+/// the state. No call's time grows with what came before.
 pub struct ClassState {
     class: ClassId,
     label: Label,
@@ -64,9 +64,9 @@ impl Model for ClassState {
 }
 
 impl ClassState {
-    /// What stands of a class of this program that is prepared.
+    /// The state of a class of this program that is prepared.
     ///
-    /// An `Err` is want of memory.
+    /// An `Err` means out of memory.
     pub fn prepared(alloc: Global, program: &Program, class: ClassId) -> Result<Self, AllocError>
         requires { class.number < CLASS_NUMBERS }
         ensures class { IfOk result (λ made. made.class ≡ class) }
@@ -84,9 +84,9 @@ impl ClassState {
         })
     }
 
-    /// What stands of all classes of the program's files, prepared, by the classes' numbers.
+    /// The states of all classes of the program's files, prepared, by the classes' numbers.
     ///
-    /// An `Err` is want of memory.
+    /// An `Err` means out of memory.
     pub fn all_prepared(alloc: Global, program: &Program) -> Result<Vec<Self>, AllocError>
         ensures count { IfOk result (λ made. length made.items ≡ length program.now.classes) }
         ensures classes { IfOk result (λ made. (n : ℕ) (other : State) → n < length program.now.classes → (slice_index_or made.items n other).class ≡ id n) }
@@ -110,7 +110,7 @@ impl ClassState {
         self.class
     }
 
-    /// What stands of the class.
+    /// The label of the class.
     pub fn label(&self) -> Label
         ensures { result ≡ self.now.label }
     {
@@ -188,7 +188,7 @@ impl ClassState {
     }
 
     /// A thread does this at the class, as the label allows it; a field that is read or written is one of the class's.
-    /// What stood after a history stands then after one event more. Takes no memory.
+    /// The state after a history becomes the state after one event more. Takes no memory.
     pub fn add(&mut self, thread: usize, kind: &Kind)
         requires thread { thread < THREADS }
         requires allowed { Allows self.old.label thread kind.now }

@@ -1,4 +1,4 @@
--- What a list of entries gives when one more stands at its end.
+-- What a list of entries gives when one more comes at its end.
 use Rattle.std.proofs.Common.{◌≡◌, ℕ, suc, ◌+◌, ◌*◌, ◌^◌, ◌<◌, ◌≤◌, ◌⊎◌, inl, inr, List, [], ◌∷◌, ◌++◌, Bool, true, false, eqb, cond, Option, Some, None, length, refl, sym, ap, ◌∙◌, subst, arith, suc-mul, eq-eqb, ne_eqb}
 use mathlib.Core.Logic.{dite}
 use native.Mathlib.Decide.{ℕ_discrete}
@@ -65,7 +65,7 @@ module _ {E : Type 0} where
   others_here may by n e xs m none o true is = ((e.by, (λ same. let f = none same in cc), subst (λ (z : Option ℕ). may e.by z e.event) (is_at_some n e.place is) m), o)
   others_here may by n e xs m none o false is = o
 
-  -- what stands at a place where the pass drew nothing was drawn by others
+  -- what is at a place where the pass drew nothing was drawn by others
   pub by_others : (threads places : ℕ) (may : ℕ → Option ℕ → E → Type 0) (by n : ℕ) (l : List (Entry E)) → AllAllowed threads places may l → NoneBy by n l → ByOthers may by n (events_at n l)
   by_others threads places may by n [] p q = tt
   by_others threads places may by n (e ∷ es) p q = others_here may by n e (events_at n es) p.2 q.0 (by_others threads places may by n es p.3 q.1) (is_at n e.place) refl
@@ -77,7 +77,7 @@ module _ {E : Type 0} where
   within_here false true x i place n ss xs is h = passes_over x (own_events n ss) xs h
   within_here false false x i place n ss xs is h = h
 
-  -- the pass's own events at a place are among all that stand there
+  -- the pass's own events at a place are among all that are there
   pub own_within : (by i n : ℕ) (l : List (Entry E)) → IsWithin (own_events n (journal_of by i l)) (events_at n l)
   own_within by i n [] = ends
   own_within by i n (e ∷ es) = within_here (eqb e.by by) (is_at n e.place) e.event i e.place n (journal_of by (suc i) es) (events_at n es) refl (own_within by (suc i) n es)

@@ -1,4 +1,4 @@
--- The log's last event stands last in the journal of its pass, and in no other.
+-- The log's last event is last in the journal of its pass, and in no other.
 use Rattle.std.proofs.Common.{◌≡◌, ℕ, ◌+◌, ◌-◌, ◌<◌, ◌≤◌, ◌⊎◌, inl, inr, List, [], ◌∷◌, ◌++◌, length, map, reverse, get_or, slice_index_or, slice_set, refl, sym, ap, ◌∙◌, subst, arith, append-nil, append_assoc}
 use Rattle.std.specs.List.{AllByRecursion}
 use Rattle.std.proofs.lemmas.List.{same_from_push, reverse-append, map-append, length-set, get_or-set_same, get_or-set_other, get_or_default}

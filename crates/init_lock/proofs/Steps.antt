@@ -47,7 +47,7 @@ module _ {R E : Type 0} (kept : R → List E) (may : ℕ → Opt ℕ → E → T
   abbrev word : St → ℕ → ℕ
   word s n = get_or s.words (lock_word n) 0
 
-  -- the record that stands at a place is there, and this one follows it
+  -- the record of a place is there, and this one follows it
   abbrev pub Follows : Opt R → R → Type 0
   Follows (Some x) y = follows x y
   Follows None y = ⊥
@@ -314,7 +314,7 @@ module _ {R E : Type 0} (kept : R → List E) (may : ℕ → Opt ℕ → E → T
         λ y' others same. (λ i. (released n (said_is y y' (ap (first_of y) same) i) p ∷ [], rest (same i))),
       )
 
-  -- one more event leaves what is known of a place, where it isn't the pass's own there, and the pass doesn't have the place if it stands there
+  -- one more event leaves what is known of a place, where it isn't the pass's own there, and the pass doesn't have the place if it is there
   drawing : (st : Custody) (wd : ℕ) (home : Option (Option (Opt R))) (log : List (Entry E)) (now : Opt R) (q n : ℕ) (t : PlaceView R E) (e : Entry E)
       → (e.by ≡ q → is_at n e.place ≡ false) → (is_at n e.place ≡ true → wd ≢ suc q) → K st wd home log now q n t → K st wd home (log ++ e ∷ []) now q n t
   drawing Away wd home log now q n t e own_elsewhere away h = let saw = h.1 in

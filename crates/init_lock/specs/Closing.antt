@@ -20,7 +20,7 @@ module _ {R E : Type 0} where
   abbrev pub HasJournals : List (Entry E) → List (PassFacts R E) → Type 0
   HasJournals log passes = AllByRecursion (λ p. p.journal ≡ journal_of p.number 0 log) passes
 
-  -- each look of each pass shows what stood at its place at one moment of the log
+  -- each look of each pass shows what was at its place at one moment of the log
   abbrev pub HasLooks : List (Entry E) → List (PassFacts R E) → Type 0
   HasLooks log passes = AllByRecursion (λ p. AllSeen log p.number p.looks) passes
 

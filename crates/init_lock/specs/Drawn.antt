@@ -6,7 +6,7 @@ use Rattle.init_lock.specs.Steps.{drawn_places}
 
 -- the event was drawn with this stamp, at a place or at none
 pub record Draws {R E : Type 0} (stamp : ℕ) (place : Opt ℕ) (event : E) (before after : PassFacts R E) : Type 0 where
-  -- it stands last in the journal, above all that stood there
+  -- it is last in the journal, above all that was there
   pub journal : after.journal ≡ before.journal ++ stamped stamp place event ∷ []
   pub room : after.room + 1 ≡ before.room
   pub below : stamp < 2 ^ 62

@@ -44,7 +44,7 @@ module _ {E : Type 0} where
   abbrev pub AreBelow : ℕ → List (Stamped E) → Type 0
   AreBelow stamp journal = AllByRecursion (λ s. s.stamp < stamp) journal
 
-  -- no event of the pass stands at the place
+  -- no event of the pass is at the place
   abbrev pub NoneBy : ℕ → ℕ → List (Entry E) → Type 0
   NoneBy by n [] = Unit {0}
   NoneBy by n (e ∷ es) = (e.by ≡ by → is_at n e.place ≡ false) × NoneBy by n es
@@ -70,7 +70,7 @@ module _ {E : Type 0} where
     pub begins : list ≡ seen ++ more
     pub by_others : ByOthers may by n more
 
-  -- the first list stands in the second, in its order
+  -- the first list is within the second, in its order
   pub data IsWithin : List E → List E → Type 0 where
     ends : IsWithin [] []
     passes_over : (x : E) (xs ys : List E) → IsWithin xs ys → IsWithin xs (x ∷ ys)

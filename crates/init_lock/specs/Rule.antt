@@ -31,7 +31,7 @@ element_at Prim.Native.Nat.zero (x ∷ xs) = Some x
 element_at (suc n) (x ∷ xs) = element_at n xs
 
 module _ {E : Type 0} where
-  -- at some moment, when the pass had drawn so many events, the list was all that stood at the place
+  -- at some moment, when the pass had drawn so many events, the list was all there was at the place
   pub record WasSeen (log : List (Entry E)) (by : ℕ) (l : Look E) : Type 0 where
     pub before : List (Entry E)
     pub after : List (Entry E)
@@ -43,7 +43,7 @@ module _ {E : Type 0} where
   AllSeen log by [] = Unit {0}
   AllSeen log by (l ∷ ls) = WasSeen log by l × AllSeen log by ls
 
-  -- the list was all that stood at the place at some moment, and the pass has drawn nothing there since
+  -- the list was all there was at the place at some moment, and the pass has drawn nothing there since
   pub record Saw (log : List (Entry E)) (by n : ℕ) (seen : List E) : Type 0 where
     pub before : List (Entry E)
     pub after : List (Entry E)
@@ -85,7 +85,7 @@ module _ {R E : Type 0} where
   total f (v ∷ vs) = f v + total f vs
 
   module _ (kept : R → List E) (may : ℕ → Opt ℕ → E → Type 0) (follows : R → R → Type 0) where
-    -- the record that stands at a place now is there, and follows this one
+    -- the record that a place has now is there, and follows this one
     abbrev pub FollowedBy : R → Opt R → Type 0
     FollowedBy x (Some y) = follows x y
     FollowedBy x None = ⊥

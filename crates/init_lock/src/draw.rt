@@ -38,7 +38,7 @@ impl<R: Keeps> InitTable<R> {
         stamp
     }
 
-    /// Draws an event that stands at no place: it gets the next stamp, and is written into the pass's journal.
+    /// Draws an event that is at no place: it gets the next stamp, and is written into the pass's journal.
     ///
     /// By [`InitTable::finish`] its stamp is above those of all that the pass has seen. The journal must have room
     /// ([`Pass::reserve`]), and the event must be one that this pass may draw at no place. No waiting and no memory.
@@ -51,7 +51,7 @@ impl<R: Keeps> InitTable<R> {
         self.stamp::<Brand>(pass, None, event)
     }
 
-    /// Draws an event that stands at the place of a record that the pass has, while it has it.
+    /// Draws an event that is at the place of a record that the pass has, while it has it.
     ///
     /// The record must keep the event when it goes back. The journal must have room ([`Pass::reserve`]), and the event
     /// must be one that this pass may draw at that place. No waiting and no memory.

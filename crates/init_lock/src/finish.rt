@@ -31,7 +31,7 @@ impl<R: Keeps> InitTable<R> {
     ///
     /// There was one log of all events, in which the stamp of an event is its index. The journal of each pass has that
     /// pass's entries of the log, each event one that the pass may draw at its place. What a pass had seen when it took
-    /// or gave back a record stood in the log before every event that it drew afterwards. Each record keeps exactly the
+    /// or gave back a record was in the log before every event that it drew afterwards. Each record keeps exactly the
     /// events of its place, in the order of the log, and follows the record that the table began with.
     pub fn finish(self, passes: Vec<Pass<R>>) -> Closed<R>
         requires passes { IsPermutation (numbers 0 self.threads) (map (λ p. p.number) passes.items) }

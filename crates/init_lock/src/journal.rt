@@ -12,7 +12,7 @@ pub type Stamp = u64;
 /// An event with its stamp, and with its place if it has one.
 #[derive(Drop)]
 pub struct Stamped<E> {
-    /// Where it stands in the order of all events.
+    /// Where it comes in the order of all events.
     pub stamp: Stamp,
     /// The place whose record the pass had, if it was drawn there.
     pub place: Option<usize>,

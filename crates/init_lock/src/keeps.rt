@@ -18,7 +18,7 @@ pub trait Keeps: Drop {
     /// Whether an event settles its place for good, so that the place may later be passed without its lock.
     ghost settles: { Self.Event → Bool };
 
-    /// Whether the second record may stand in the first one's place after it.
+    /// Whether the second record may take the first one's place after it.
     /// It says what the kept events don't, as which class a record is of.
     ghost follows: { Self → Self → Type 0 };
 

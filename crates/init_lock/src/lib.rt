@@ -3,8 +3,8 @@
 //! A table holds records, each under a lock of its own. Several threads take records, change them and give them back.
 //! Whatever is done is an *event*, and each event gets a *stamp*: the number that one shared counter had when the event
 //! was drawn. A thread steps with a [`Pass`], which carries its *journal*, the list of the events that it drew. Many events
-//! belong to a record: they are drawn while the thread has it, and stand at its *place*, which is the record's number.
-//! Others stand at no place. The crate knows nothing of what a record or an event is; [`Keeps`] says the little that it
+//! belong to a record: they are drawn while the thread has it, and are at its *place*, which is the record's number.
+//! Others are at no place. The crate knows nothing of what a record or an event is; [`Keeps`] says the little that it
 //! asks.
 //!
 //! # What is promised
@@ -18,7 +18,7 @@
 //! - **When the threads have ended there is one log.** [`InitTable::finish`] shows one list of all events. The stamp of an
 //!   event is its index in the log, so the stamps are 0 to m-1, each once. The journal of a pass is the part of the log
 //!   that the pass drew, so its stamps rise. Each record keeps exactly the events of its place, in the order of the log.
-//!   What a pass had seen at a place at some moment stood in the log before all that the pass drew later.
+//!   What a pass had seen at a place at some moment was in the log before all that the pass drew later.
 //!
 //! # The rule
 //!
@@ -31,17 +31,17 @@
 //!    number p.
 //! 3. While a record is free, it lies in its slot and keeps the events of its place in the log. It follows the record
 //!    that the table began with.
-//! 4. A pass that has a record knows all that stands at its place in the log. The record that it took was the last there.
-//! 5. A pass that doesn't have a record has seen a beginning of what stands at its place, and has drawn nothing there
+//! 4. A pass that has a record knows all that is at its place in the log. The record that it took was the last there.
+//! 5. A pass that doesn't have a record has seen a beginning of what is at its place, and has drawn nothing there
 //!    since.
-//! 6. Each look of a pass, noted when it took or gave back a record, shows all that stood at the place at one moment of
+//! 6. Each look of a pass, noted when it took or gave back a record, shows all that was at the place at one moment of
 //!    the log, and how many events the pass had drawn by then.
 //!
 //! The kinds of atomic step are few, and each keeps the rule by one lemma (`proofs/Steps.antt`):
 //!
 //! | Step | Word | What the pass knows afterwards |
 //! |---|---|---|
-//! | the lock is tried | lock word, 0 to p + 1 by one exchange | if it was 0: it has the record, and all that stands there; else one miss more |
+//! | the lock is tried | lock word, 0 to p + 1 by one exchange | if it was 0: it has the record, and all that is there; else one miss more |
 //! | the lock is seen | lock word, read | if it was taken: one miss more |
 //! | the empty slot of a further record is parked or fetched | lock word, read | the same |
 //! | a stamp is drawn | counter, plus one | its journal and, for an event with a place, the list there are longer by one |

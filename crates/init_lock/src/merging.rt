@@ -10,7 +10,7 @@ use std::alloc::{AllocError, Global};
 /// The events of all journals in the order of their stamps: those of the log, where these are the journals of all
 /// passes, in the order of the passes' numbers.
 ///
-/// There is a step for each event, with a look at each journal. An `Err` is want of memory.
+/// There is a step for each event, with a look at each journal. An `Err` means out of memory.
 pub fn merge<E: Drop>(alloc: Global, mut journals: Vec<Journal<E>>) -> Result<Vec<E>, AllocError>
     ensures { IfOk result (λ merged. (log : List (Entry E)) → AreJournals log journals.items → merged.items ≡ map (λ e. e.event) log) }
 {

@@ -42,7 +42,7 @@ impl<R: Keeps> InitTable<R> {
         ensures passes { IfOk result (λ t. AllByRecursion (IsNewPass t.0.id records.items) t.1.items) }
     {
         let places = records.len();
-        // So many words can't be had, and their number couldn't be told.
+        // The words of so many places fit no memory.
         if places > usize::MAX / 128 {
             return Err(AllocError);
         }

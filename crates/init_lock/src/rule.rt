@@ -1,4 +1,4 @@
-//! The lock's rule as the table is told it, and what each kind of atomic step tells the pass that makes it.
+//! The lock's rule as the table is given it, and what each kind of atomic step tells the pass that makes it.
 ghost use Rattle.std.specs.Prelude.{ℕ, Option};
 
 use crate::block::Block;

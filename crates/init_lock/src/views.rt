@@ -9,19 +9,19 @@ pub enum Custody {
     Away,
     /// The pass has the lock, and carries the slot itself.
     Carried,
-    /// The pass has the record out of its slot, which stands empty.
+    /// The pass has the record out of its slot, which is empty.
     Held,
 }
 
 /// What a pass knows of a place: the list of events that it saw last, its own among them, and the record that it saw last.
-/// While the pass has the record, the list is all that stands at the place.
+/// While the pass has the record, the list is all that is at the place.
 pub struct PlaceView<R, E> {
     pub seen: LinkedList<E>,
     pub last: R,
     pub custody: Custody,
 }
 
-/// A list that was all that stood at the place, at a moment when the pass had drawn so many events.
+/// A list that was all there was at the place, at a moment when the pass had drawn so many events.
 pub struct Look<E> {
     pub place: usize,
     pub after: usize,
@@ -38,7 +38,7 @@ pub struct PassView<R, E> {
     pub places: LinkedList<PlaceView<R, E>>,
 }
 
-/// What the table is told once: the number of passes, and the records.
+/// What the table is given once: the number of passes, and the records.
 #[derive(Drop)]
 pub struct Setup<R> {
     pub threads: usize,

@@ -42,7 +42,7 @@ impl World {
     }
 
     /// The machine ends a thread by this error, an InternalError or OutOfMemoryError: at a request that has no answer of steps
-    /// 3 to 6 yet, or in a body behind step 9. The turns that follow end the classes that the thread has begun, innermost
+    /// 3 to 6 yet, or in a body after step 9. The turns that follow end the classes that the thread has begun, innermost
     /// first, by step 7 or 12 with this error, and then answer [`Turn::Ended`]. Takes no memory.
     pub fn give_up(&mut self, thread: usize, error: ClassId)
         requires thread { thread < length self.old.threads }
@@ -55,7 +55,7 @@ impl World {
         procedure.end_thread(error);
     }
 
-    /// In a body behind step 9: step 12, where the machine ended an active use in it.
+    /// In a body after step 9: step 12, where the machine ended an active use in it.
     pub(crate) fn stay(&mut self, thread: usize, class: ClassId) -> Result<Turn, AllocError>
         requires thread { thread < length self.old.threads }
         requires next { next_of (thread_at self.old thread).frames ≡ nexts.Body class }

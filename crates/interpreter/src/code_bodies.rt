@@ -45,7 +45,7 @@ fn is_error(program: &Program, class: ClassId) -> bool
     program.is_subtype(class, program.built_in(BuiltIn::Error))
 }
 
-/// A new array of no texts, if the heap has room. An `Err` is want of memory, and changes nothing.
+/// A new array of no texts, if the heap has room. An `Err` means out of memory, and changes nothing.
 fn new_texts(heap: &mut Heap, program: &Program) -> Result<Option<u32>, AllocError>
     ensures reference { IfOk result (λ r. r ≡ reference_of_new program.now heap.old (no_texts program.now)) }
     ensures made { OnOk result (heap.new ≡ with_new program.now heap.old (no_texts program.now)) }
@@ -54,7 +54,7 @@ fn new_texts(heap: &mut Heap, program: &Program) -> Result<Option<u32>, AllocErr
     heap.new_array(program, built_in_type(program, BuiltIn::String), 0)
 }
 
-/// Where a body stands whose first frame was just entered.
+/// The phase of a body whose first frame was just entered.
 fn first_phase(takes_monitor: bool, code: &MethodCode, class: ClassId) -> Phase
     ensures { result ≡ first_phase_of takes_monitor code.now class }
 {
@@ -65,7 +65,7 @@ fn first_phase(takes_monitor: bool, code: &MethodCode, class: ClassId) -> Phase
     }
 }
 
-/// Where the body below stands once the innermost one is ended: that one was ended for its steps stays known.
+/// The phase of the body below once the innermost one is ended: that one was ended for its steps stays known.
 fn left_phase(phase: Phase) -> Phase
     ensures { result ≡ left_phase_of phase }
 {
@@ -92,7 +92,7 @@ impl Interpreter {
         }
     }
 
-    /// The body is over, with an object of a built-in throwable that nothing in it can catch. An `Err` is want of memory, and changes
+    /// The body is over, with an object of a built-in throwable that nothing in it can catch. An `Err` means out of memory, and changes
     /// nothing.
     fn fail(&mut self, program: &Program, class: BuiltIn) -> Result<(), AllocError>
         ensures ok { OnOk result (self.new ≡ fails_by program.now class self.old) }
@@ -103,7 +103,7 @@ impl Interpreter {
         Ok(())
     }
 
-    /// Enters the first frame of a body, whose method takes its class's monitor if it is synchronized and may. An `Err` is want of memory,
+    /// Enters the first frame of a body, whose method takes its class's monitor if it is synchronized and may. An `Err` means out of memory,
     /// and changes nothing.
     fn begin(
         &mut self,
@@ -152,7 +152,7 @@ impl Interpreter {
         }
     }
 
-    /// Begins the initializer of a class, if it has one. An `Err` is want of memory, and changes nothing.
+    /// Begins the initializer of a class, if it has one. An `Err` means out of memory, and changes nothing.
     pub(crate) fn try_start(&mut self, program: &Program, class: ClassId) -> Result<(), AllocError>
         ensures ok { OnOk result (Starts program.now self.old class self.new) }
         ensures err { OnErr result (self.new ≡ self.old) }
@@ -169,7 +169,7 @@ impl Interpreter {
         }
     }
 
-    /// Begins the method `main` of a class, if it has one, with a new array of no texts. An `Err` is want of memory.
+    /// Begins the method `main` of a class, if it has one, with a new array of no texts. An `Err` means out of memory.
     pub(crate) fn try_enter(&mut self, program: &Program, class: ClassId) -> Result<(), AllocError>
         ensures ok { OnOk result (Enters program.now self.old class self.new) }
         ensures err { OnErr result ((self.new ≡ self.old) ⊎ (self.new ≡ record self.old { heap = with_new program.now self.old.heap (no_texts program.now) })) }
@@ -192,7 +192,7 @@ impl Interpreter {
         }
     }
 
-    /// Step 11. An `Err` is out of memory, and changes nothing.
+    /// Step 11. An `Err` means out of memory, and changes nothing.
     #[tactic(auto, using(crate::proofs::CodeBodies::wrapped_error))]
     pub(crate) fn replaced(
         &mut self,

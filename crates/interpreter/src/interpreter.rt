@@ -17,7 +17,7 @@ pub struct Interpreter {
     pub(crate) taken: TakenMonitors,
     /// The thread's number.
     pub(crate) thread: u8,
-    /// Where the innermost body stands.
+    /// Where the innermost body is.
     pub(crate) phase: Phase,
     /// The object that left the body that was over last.
     pub(crate) thrown: Option<Thrown>,

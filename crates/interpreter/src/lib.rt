@@ -1,7 +1,7 @@
 //! The code of initializers and of `main`, as a thread runs it.
 //!
 //! Enter by one of three kinds of interpreter, each of them [`Bodies`](bodies::Bodies). [`Interpreter`] is that of a thread alone, which
-//! has its heap to itself. [`SharedInterpreter`] is that of one of several threads of the machine, which share [`SharedObjects`] behind
+//! has its heap to itself. [`SharedInterpreter`] is that of one of several threads of the machine, which share [`SharedObjects`] under
 //! a lock. [`TurnInterpreter`] is that of one of several threads of which one goes on at a time, which has their [`Objects`] then.
 #![tactic(auto)]
 

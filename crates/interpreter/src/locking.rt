@@ -13,7 +13,7 @@ use hierarchy::Program;
 use std::alloc::AllocError;
 
 impl Interpreter {
-    /// Enters the monitor of the innermost frame's method, unless another thread holds it. An `Err` is want of memory, and changes
+    /// Enters the monitor of the innermost frame's method, unless another thread holds it. An `Err` means out of memory, and changes
     /// nothing.
     fn lock_method(&mut self, program: &Program, monitor: Monitor) -> Result<bool, AllocError>
         requires { self.old.phase ≡ phases.Locks monitor true }
@@ -40,7 +40,7 @@ impl Interpreter {
         }
     }
 
-    /// Enters another monitor, unless another thread holds it. An `Err` is want of memory, and changes nothing.
+    /// Enters another monitor, unless another thread holds it. An `Err` means out of memory, and changes nothing.
     fn lock_other(&mut self, program: &Program, monitor: Monitor) -> Result<bool, AllocError>
         requires { self.old.phase ≡ phases.Locks monitor false }
         ensures row { IfOk result (λ entered. entered ≡ true → Row program.now self.old self.new) }
@@ -58,7 +58,7 @@ impl Interpreter {
     }
 
     /// Enters the monitor that is to be entered before the innermost frame goes on (JVMS SE 8 2.11.10, 6.5 monitorenter); `false` where
-    /// another thread holds it, which changes nothing. An `Err` is want of memory, and changes nothing.
+    /// another thread holds it, which changes nothing. An `Err` means out of memory, and changes nothing.
     pub(crate) fn lock(
         &mut self,
         program: &Program,

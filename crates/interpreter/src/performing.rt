@@ -18,7 +18,7 @@ use heap::{Monitor, out_of_memory};
 use hierarchy::{BuiltIn, ClassId, MethodCode, Program, ResolvedType, Value};
 use std::alloc::AllocError;
 
-/// Where a body stands whose innermost frame was just entered: a synchronized method takes its monitor first (JVMS SE 8 2.11.10).
+/// The phase of a body whose innermost frame was just entered: a synchronized method takes its monitor first (JVMS SE 8 2.11.10).
 pub(crate) fn phase_of(code: &MethodCode, monitor: Monitor) -> Phase
     ensures { result ≡ phase_by code.now monitor }
 {
@@ -88,7 +88,7 @@ impl Interpreter {
         Some(last.monitor)
     }
 
-    /// The innermost frame's method returns (JVMS SE 8 2.6.4, 2.11.10). An `Err` is want of memory, and changes nothing.
+    /// The innermost frame's method returns (JVMS SE 8 2.6.4, 2.11.10). An `Err` means out of memory, and changes nothing.
     fn return_from(
         &mut self,
         program: &Program,
@@ -114,7 +114,7 @@ impl Interpreter {
         Ok(())
     }
 
-    /// An array is made in the place of its length. An `Err` is want of memory, and changes nothing.
+    /// An array is made in the place of its length. An `Err` means out of memory, and changes nothing.
     fn make_array(
         &mut self,
         program: &Program,
@@ -134,7 +134,7 @@ impl Interpreter {
         Ok(())
     }
 
-    /// An object is made, whose fields hold their defaults. An `Err` is want of memory, and changes nothing.
+    /// An object is made, whose fields hold their defaults. An `Err` means out of memory, and changes nothing.
     pub(crate) fn make_object(
         &mut self,
         program: &Program,
@@ -153,7 +153,7 @@ impl Interpreter {
         Ok(())
     }
 
-    /// A field is written. An `Err` is want of memory, and changes nothing.
+    /// A field is written. An `Err` means out of memory, and changes nothing.
     #[tactic(auto, using(crate::proofs::NotDone::no_field_put))]
     fn put_field(
         &mut self,
@@ -176,7 +176,7 @@ impl Interpreter {
         Ok(())
     }
 
-    /// An element is written. An `Err` is want of memory, and changes nothing.
+    /// An element is written. An `Err` means out of memory, and changes nothing.
     #[tactic(auto, using(crate::proofs::NotDone::no_element_put))]
     fn put_element(
         &mut self,
@@ -198,8 +198,8 @@ impl Interpreter {
         Ok(())
     }
 
-    /// A method is called with so many operands, and takes this monitor if it is synchronized (JVMS SE 8 2.6.1, 2.11.10). An `Err` is
-    /// want of memory, and changes nothing.
+    /// A method is called with so many operands, and takes this monitor if it is synchronized (JVMS SE 8 2.6.1, 2.11.10). An `Err`
+    /// means out of memory, and changes nothing.
     pub(crate) fn call(
         &mut self,
         program: &Program,
@@ -237,7 +237,7 @@ impl Interpreter {
         Ok(())
     }
 
-    /// A monitor is left. An `Err` is want of memory, and changes nothing.
+    /// A monitor is left. An `Err` means out of memory, and changes nothing.
     #[tactic(auto, using(crate::proofs::NotDone::not_exited))]
     fn exit_monitor(&mut self, program: &Program, reference: u32) -> Result<(), AllocError>
         ensures ok { OnOk result (ExitsMonitor program.now reference self.old self.new) }
@@ -253,7 +253,7 @@ impl Interpreter {
         Ok(())
     }
 
-    /// Does what an instruction comes to that makes no event. An `Err` is want of memory, and changes nothing.
+    /// Does what an instruction comes to that makes no event. An `Err` means out of memory, and changes nothing.
     pub(crate) fn perform(
         &mut self,
         program: &Program,

@@ -1,10 +1,10 @@
-//! Where the innermost body stands.
+//! Where the innermost body is.
 
 use frames::Thrown;
 use heap::Monitor;
 use hierarchy::ClassId;
 
-/// Where the innermost body stands.
+/// Where the innermost body is.
 #[derive(Clone, Copy)]
 pub(crate) enum Phase {
     /// Its innermost frame goes on.

@@ -143,7 +143,7 @@ impl Interpreter {
         }
     }
 
-    /// Calls the method for which its class was made ready. An `Err` is want of memory, and changes nothing.
+    /// Calls the method for which its class was made ready. An `Err` means out of memory, and changes nothing.
     #[tactic(auto, using(crate::proofs::Saying::calls_at))]
     fn call_static(
         &mut self,
@@ -177,7 +177,7 @@ impl Interpreter {
         Ok(())
     }
 
-    /// Makes an object of the class that was made ready for it. An `Err` is want of memory, and changes nothing.
+    /// Makes an object of the class that was made ready for it. An `Err` means out of memory, and changes nothing.
     #[tactic(auto, using(crate::proofs::Saying::makes_at))]
     fn make(&mut self, program: &Program, ready: ClassId, class: u16) -> Result<(), AllocError>
         requires phase { self.old.phase ≡ phases.Ready ready }
@@ -196,7 +196,7 @@ impl Interpreter {
     }
 
     /// Goes on with the instruction for which a class was made ready: what the body does by it, or nothing where it makes no event.
-    /// An `Err` is want of memory, and changes nothing.
+    /// An `Err` means out of memory, and changes nothing.
     pub(crate) fn resume(
         &mut self,
         program: &Program,

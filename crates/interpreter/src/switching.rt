@@ -10,7 +10,7 @@ use frames::{Cell, FramePlace};
 use hierarchy::Program;
 use jasmin_text::Instruction;
 
-/// The target at a place behind the lowest key, if there is one.
+/// The target at a place after the lowest key, if there is one.
 fn target_at(targets: &[u16], offset: i64) -> Option<u16>
     ensures { result ≡ target_behind targets.now offset }
 {

@@ -48,7 +48,7 @@ impl TakenMonitors {
         self.items.as_slice().last().copied()
     }
 
-    /// One more, of the innermost frame. An `Err` is out of memory, and changes nothing.
+    /// One more, of the innermost frame. An `Err` means out of memory, and changes nothing.
     pub(crate) fn push(&mut self, taken: TakenMonitor) -> Result<(), AllocError>
         ensures ok { OnOk result (self.new ≡ taken ∷ self.old) }
         ensures err { OnErr result (self.new ≡ self.old) }

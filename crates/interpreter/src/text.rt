@@ -88,7 +88,7 @@ fn push_text(text: &mut Writer, program: &Program, method: BuiltInMethod, value:
     }
 }
 
-/// What a method of java/io/PrintStream prints. An `Err` is want of memory.
+/// What a method of java/io/PrintStream prints. An `Err` means out of memory.
 pub(crate) fn text(
     alloc: Global,
     program: &Program,

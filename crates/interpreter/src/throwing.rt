@@ -49,7 +49,7 @@ impl Interpreter {
         self.release(phase);
     }
 
-    /// Throws a new object of a built-in throwable in the innermost frame. An `Err` is want of memory, and changes nothing.
+    /// Throws a new object of a built-in throwable in the innermost frame. An `Err` means out of memory, and changes nothing.
     pub(crate) fn throw_new(&mut self, program: &Program, class: BuiltIn) -> Result<(), AllocError>
         ensures ok { OnOk result (Throws program.now class self.old self.new) }
         ensures err { OnErr result (self.new ≡ self.old) }
@@ -59,7 +59,7 @@ impl Interpreter {
         Ok(())
     }
 
-    /// Throws a VerifyError where the innermost frame ran past its last instruction. An `Err` is want of memory, and changes
+    /// Throws a VerifyError where the innermost frame ran past its last instruction. An `Err` means out of memory, and changes
     /// nothing.
     pub(crate) fn run_past(&mut self, program: &Program, at: FramePlace) -> Result<(), AllocError>
         requires { place_of self.old.frames ≡ Some at }

@@ -1,4 +1,4 @@
--- Access words before a name, both ways: what is read stands in lines of the grammar, and what stands there is read.
+-- Access words before a name, both ways: what is read is in lines of the grammar, and what is there is read.
 use Rattle.std.proofs.Common.{◌≡◌, ℕ, Bool, true, false, not, ◌&&◌, cond, inl, inr, List, [], ◌∷◌, ◌++◌, map, Option, Some, None, is_some, Ok, refl, sym, ap, subst, ◌∙◌, codes}
 use Rattle.std.specs.Option.{option_map, ok_or}
 use Rattle.std.proofs.lemmas.Bool.{cases_Bool}
@@ -74,7 +74,7 @@ passed_over p w e = by (head_word_at p w) (says_some p w ∙ e)
     by None h = refl
     by (Some c) h = absurd cc
 
--- only these access words stand before a name there
+-- only these access words come before a name there
 abbrev Knows : Place → (List ℕ → Option AccessWord) → Type 0
 Knows p says = (w : List ℕ) → head_word_at p w ≡ option_map class_word.Access (says w)
 
@@ -82,7 +82,7 @@ pub knows : Knows place.Interface access_of × Knows place.Field member_access_o
 unfolding head_word_at
 knows = (λ w. refl, λ w. refl, λ w. refl)
 
--- behind .class the word interface, or an access word, is known
+-- after .class the word interface, or an access word, is known
 Says : List ℕ → ClassWord → Type 0
 Says w class_word.Interface = w ≡ codes "interface"
 Says w (class_word.Access a) = access_of w ≡ Some a
@@ -134,7 +134,7 @@ simple_access p says known (to_interface {w} is words) =
     let (b, same, _) = says_access (says w) class_word.Interface (sym (known w) ∙ is) in
     absurd (cc same)
 
--- what may not stand together doesn't with one word more
+-- what may not come together doesn't with one word more
 fits_before : (p : Place) (x : AccessWord) (a : Access) → stand_together p (more_access x a) ≡ true → stand_together p a ≡ true
 fits_before place.Method word.Abstract a h = elim a.is_abstract as (λ s. not (s && a.is_static) ≡ true) [ true ↦ h | false ↦ refl ]
 fits_before place.Method word.Static a h = elim a.is_abstract as (λ s. not (s && true) ≡ true → not (s && a.is_static) ≡ true) [ true ↦ λ e. absurd cc | false ↦ λ e. refl ] h
@@ -148,7 +148,7 @@ simple_words p says known k {a = a} (more {w} {k = x} e t is) s =
     let (ws, parts, (words, fits)) = simple_words p says known k is s in
     (w ∷ ws, ap (λ l. Word w ∷ l) parts, (access x (known w ∙ ap (option_map class_word.Access) e) t fits words, fits_before p x a fits))
 
--- ---- names behind them
+-- ---- names after them
 
 abbrev pub Found : Type 0
 Found = HeadWords × (List ℕ × List Item)
@@ -190,7 +190,7 @@ named_ok p h (t ∷ rest) x e =
         let (before, words, parts, fit, free) = others one.0 two.2 in
         rw is (w ∷ before, one_more p h one.0 x.0 w before one.1 words, ap (λ (l : List Item). Word w ∷ l) parts, (λ good. (within_ok w two.0 two.1, fit good)), free)
 
--- a name is read where it is looked for behind the words before it
+-- a name is read where it is looked for after the words before it
 pub named_read : (p : Place) (name : List ℕ) (rest : List Item) → is_access_at p name ≡ false → is_before_name p rest ≡ false → ((ws : List (List ℕ)) → is_before_name p (map Word ws ++ Word name ∷ rest) ≡ true)
     → {h k : HeadWords} {ws : List (List ℕ)} → Words p h ws k → AreWords (map Word ws ++ Word name ∷ rest) → named_from p h (map Word ws ++ Word name ∷ rest) ≡ Ok (k, (name, rest))
 unfolding named_from with_word

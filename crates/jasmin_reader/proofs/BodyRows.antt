@@ -48,7 +48,7 @@ full_fits low (Some high) n u e =
     let same = eqb-true n one.0 (test_passed (eqb n one.0) tt fault.BadOperand u one.2).0 in
     labels_ok low high n (one.1 ∙ ap done (sym same))
 
--- ---- what stands in a method, in the reader and in the grammar
+-- ---- what is in a method, in the reader and in the grammar
 
 abbrev pub caught : ReadCatch → Catch
 caught c = record { class = c.class; from = c.from; to = c.to; handler = c.handler }
@@ -61,12 +61,12 @@ added b = record { stack = b.stack; locals = b.locals; labels = b.labels; catche
 
 -- ---- rows that are taken are those of the grammar
 
--- up to the end of a tableswitch: the labels, the last one, and the rows behind
+-- up to the end of a tableswitch: the labels, the last one, and the rows after it
 abbrev InTable : Added → Table → List Row → Added → Type 0
 InTable g t rows h = (targets : List (List ℕ)) × (to : List ℕ) × (rest : List Row) × (rows ≡ map TargetRow targets ++ DefaultRow to ∷ rest)
     × FitsHigh t.low t.high (length (t.labels ++ targets)) × IsBody (and_instruction g (instruction.TableSwitch t.low (t.labels ++ targets) to)) rest h
 
--- up to the end of a lookupswitch: the cases, the same in order, the last label, and the rows behind
+-- up to the end of a lookupswitch: the cases, the same in order, the last label, and the rows after it
 abbrev InLookup : Added → Cases → List Row → Added → Type 0
 InLookup g acc rows h = (cases : Cases) × (sorted : Cases) × (to : List ℕ) × (rest : List Row) × (rows ≡ map case_row cases ++ DefaultRow to ∷ rest)
     × AreSorted acc cases sorted × IsBody (and_instruction g (instruction.LookupSwitch sorted to)) rest h
@@ -100,7 +100,7 @@ From o b rows last = Runs o (added b) rows (added last) × (sizes last.listing.i
 abbrev Follows : List Row → Body → Body → Type 0
 Follows rows last b = From b.listing.switch b rows last
 
--- a row that stands outside of switches, and what it sets
+-- a row that is outside of switches, and what it sets
 plain_step : (row : Row) (rows : List Row) (b c last : Body) (s t : ℕ) (labels : List (List ℕ × ℕ)) (catches : List ReadCatch)
     → b.listing.switch ≡ None → done {F = FaultKind} (record b { stack = s; locals = t; labels = labels; catches = catches }) ≡ Ok c
     → (IsBody (added (record b { stack = s; locals = t; labels = labels; catches = catches })) rows (added last) → IsBody (added b) (row ∷ rows) (added last)) → Follows rows last c → Follows (row ∷ rows) last b
@@ -213,7 +213,7 @@ rows_taken (row ∷ rows) b last closes good e =
     let one = bind_ok (body_row b row) (λ c. body_rows c rows) last e in
     row_step row rows b one.0 last q.0 one.1 (rows_taken rows one.0 last closes q.1 one.2)
 
--- What stands in a method that is read is what its rows say.
+-- What is in a method that is read is what its rows say.
 pub body_taken : (rows : List Row) (b last : Body) → b.listing.switch ≡ None → last.listing.switch ≡ None → list_all is_good_row rows ≡ true → body_rows b rows ≡ Ok last → From None b rows last
 body_taken rows b last opens closes good e = subst (λ (o : Option Switch). From o b rows last) opens (rows_taken rows b last closes good e)
 

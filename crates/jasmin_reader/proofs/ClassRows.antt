@@ -33,7 +33,7 @@ use Rattle.jasmin_reader.proofs.MethodEnds.{IsGoodBody, all_push, body_good, clo
 use Rattle.jasmin_reader.proofs.ReadFile.{file_tells, rows_said}
 use Rattle.jasmin_reader.proofs.RowSteps.{may_set, body_rows, is_body_row, row_at, rows_at, rows_append, rows_in_method}
 
--- a class in between: its head, what stands in it, and the method that is open
+-- a class in between: its head, what is in it, and the method that is open
 abbrev mid : HeadWords × List ℕ → Members → Option Body → Reader
 mid head m o = record { class = Some head; superclass = m.superclass; interfaces = m.interfaces; fields = m.fields; methods = m.methods; body = o }
 

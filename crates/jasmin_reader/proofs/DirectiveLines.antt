@@ -84,7 +84,7 @@ name_ok w row items name fit e is =
     let a = checked_last is_class_name items name e in
     subst (λ (l : List Item). AreRowsOf (Word w ∷ l) (row name ∷ [])) (sym a.0) (of_words (fit, (a.2, tt)) (is a.1))
 
--- an access word stands before no name
+-- a word that is no access word of a class of this kind is none after .interface
 pub untaken : (k : ClassKind) (name : List ℕ) → not (is_taken k name) ≡ true → is_taken kind.Interface name ≡ false
 untaken kind.Interface name h = not-true (is_taken kind.Interface name) h
 untaken kind.Class name h = (neither (bytes_eq name (codes "interface")) (is_taken kind.Interface name) (not-true _ h)).1
@@ -123,7 +123,7 @@ caught_ok w c e = elim (cases_Bool (bytes_eq w (codes "all"))) [
       rw (← k) (a_class {name = w} y (rw a.1 a.0))
 ]
 
--- a label behind a word
+-- a label after a word
 behind_ok : (keyword : List ℕ) (items : List Item) (x : List ℕ × List Item) → label_behind keyword items ≡ Ok x → (items ≡ Word keyword ∷ Word x.0 ∷ x.1) × (is_label x.0 ≡ true) × (fits x.0 ≡ true)
 behind_ok keyword items x e =
     let one = bind_ok (operand (keyword_in keyword) items) _ x e in

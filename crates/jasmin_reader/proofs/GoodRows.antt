@@ -32,7 +32,7 @@ use Rattle.jasmin_reader.proofs.Words.{integer_int, short_within, descriptor_goo
 
 -- ---- instructions, with labels as targets
 
--- the keys rise behind this one
+-- the keys rise after this one
 abbrev pub keys_rise_from : ℤ → Cases → Bool
 keys_rise_from key [] = true
 keys_rise_from key (c ∷ cs) = int_lt key c.0 && keys_rise_from c.0 cs
@@ -45,7 +45,7 @@ keys_rise (c ∷ cs) = keys_rise_from c.0 cs
 abbrev pub are_keys : Cases → Bool
 are_keys cases = list_all (λ c. is_int c.0) cases && keys_rise cases
 
--- an instruction that a file can spell, wherever its labels stand
+-- an instruction that a file can spell, wherever its labels are
 unfoldable pub is_listed : Instruction (List ℕ) → Bool
 is_listed (instruction.Constant c) = is_constant c
 is_listed (instruction.Local l n) = is_local n

@@ -105,7 +105,7 @@ string_ok : (items : List Item) (x : List ℕ × List Item) → string_from item
 string_ok (Text t ∷ rest) x e = given (λ z. Text t ∷ rest ≡ Text z.0 ∷ z.1) e refl
 string_ok items x e = absurd cc
 
--- a value of its type behind a descriptor
+-- a value of its type after a descriptor
 abbrev IsTypedValue : FieldType → List Item → Option Constant → Type 0
 IsTypedValue type items v = IsValue items v × (is_typed type v ≡ true) × AreWords items
 

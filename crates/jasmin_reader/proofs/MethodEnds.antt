@@ -115,7 +115,7 @@ handler_read labels c h p = rw (p.from, p.to, p.handler) (ap (λ (k : Option (Li
 pub list_empty : {X : Type 0} (xs : List X) → eqb (length xs) 0 ≡ true → xs ≡ []
 list_empty xs e = nil_from_length xs (eqb-true (length xs) 0 e)
 
--- a body is there unless abstract stands there, and then it has instructions
+-- a body is there unless abstract is there, and then it has instructions
 abbrev DemandedBy : Bool → Bool → Option Code → Type 0
 DemandedBy is_abstract is_empty None = is_abstract ≡ true
 DemandedBy is_abstract is_empty (Some c) = (is_abstract ≡ false) × (is_empty ≡ false)
@@ -213,14 +213,14 @@ sorted_good acc cases sorted (more {c} {cs} lacks are) ints rise good =
     let p = and_parts (has_int c) (list_all has_int cs) good in
     sorted_good (with_case c acc) cs sorted are (with_case_all has_int c acc p.0 ints) (with_case_rises c acc lacks rise) p.1
 
--- no label stands behind so many instructions
+-- no label comes after so many instructions
 abbrev Within : ℕ → List (List ℕ × ℕ) → Type 0
 Within count labels = list_all (λ (l : List ℕ × ℕ). nat_le l.1 count) labels ≡ true
 
 labels_stay : (m n : ℕ) (labels : List (List ℕ × ℕ)) → m ≤ n → Within m labels → Within n labels
 labels_stay m n labels less h = all_weaker _ _ labels (λ l within. let place = leb-true l.1 m within in le-leb l.1 n (omega arith)) h
 
--- what stands in a method can be spelled
+-- what is in a method can be spelled
 pub record IsGoodBody (g : Added) : Type 0 where
   pub stack : nat_le g.stack 1024 ≡ true
   pub locals : nat_le g.locals 1024 ≡ true
@@ -234,7 +234,7 @@ instruction_added g i p good =
     let labels = labels_stay (length g.instructions) (length (g.instructions ++ i ∷ [])) g.labels (omega (arith, n)) good.labels in
     record { stack = good.stack; locals = good.locals; labels = labels; catches = good.catches; instructions = all_push is_listed g.instructions i good.instructions p }
 
--- the rows of a switch, and those behind it
+-- the rows of a switch, and those after it
 switch_rows : (xs : List Row) (d : List ℕ) (rest rows : List Row) → rows ≡ xs ++ DefaultRow d ∷ rest → list_all is_good_row rows ≡ true → (list_all is_good_row xs ≡ true) × (list_all is_good_row rest ≡ true)
 unfolding is_good_row
 switch_rows xs d rest rows e h = and_parts (list_all is_good_row xs) (list_all is_good_row rest) (sym (list_all-append is_good_row xs (DefaultRow d ∷ rest)) ∙ ap (list_all is_good_row) (sym e) ∙ h)

@@ -48,7 +48,7 @@ pub ended_ok : (items : List Item) (u : Unit {0}) → ended_at items ≡ Ok u �
 ended_ok [] u e = refl
 ended_ok (t ∷ rest) u e = absurd cc
 
--- the word that was taken, and what it stands for
+-- the word that was taken, and what it represents
 pub record Taken {A : Type 0} (read : List ℕ → Result A FaultKind) (items : List Item) (x : A × List Item) : Type 0 where
   pub word : List ℕ
   pub parts : items ≡ Word word ∷ x.1
@@ -139,7 +139,7 @@ labels_counted low high n e =
     let far : (high +ℤ pos 1) -ℤ low ≡ pos n = omega (arith, ints) in
     rw (far, labels_between) refl
 
--- the row that a line says, and where it may stand
+-- the row that a line says, and where it may come
 pub record Begins (f : Form) (items : List Item) (row : Row) : Type 0 where
   pub words : AreWords items
   pub line : (w : List ℕ) → form_at w ≡ Some f → IsInstructionLine (Word w ∷ items) row

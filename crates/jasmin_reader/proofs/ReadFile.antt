@@ -122,7 +122,7 @@ lines_tell n r (line ∷ lines) c e = by (line_at r (words_of line)) refl (λ s 
           ends = t.ends;
         }
 
--- What is read is told by its lines: each is a line of the grammar, and their rows lead to the class.
+-- What is read is said by its lines: each is a line of the grammar, and their rows lead to the class.
 pub file_tells : (bytes : List ℕ) (c : ClassParts) → class_at bytes ≡ Ok c → Tells empty_reader (lines_of bytes) c
 unfolding class_at
 file_tells bytes c e = lines_tell 0 empty_reader (lines_of bytes) c e

@@ -18,7 +18,7 @@ use Rattle.jasmin_reader.specs.Listing.{has_room, takes_label, is_full, case_of}
 use Rattle.jasmin_reader.specs.Bodies.{new_label, outside_switch, with_setting}
 use Rattle.jasmin_reader.specs.Reading.{may_stand, with_row, ended_by}
 
--- ---- where a row may stand in a method
+-- ---- where a row may come in a method
 
 -- a last key is at least just below the first
 abbrev pub may_reach : ℤ → Option ℤ → Result (Unit {0}) FaultKind
@@ -92,7 +92,7 @@ rows_append r (x ∷ xs) ys = by (row_at r x) (λ s. rows_append s xs ys)
     by (Ok s) h = h s
     by (Err k) h = refl
 
--- a row in a method that stands open
+-- a row in a method that is open
 pub row_in_method : (row : Row) → is_body_row row ≡ true → (r : Reader) (b : Body) → row_at (record r { body = Some b }) row ≡ (may_set b row >>= λ _. done (record r { body = Some (with_setting b row) }))
 row_in_method EndRow h r b = absurd cc
 row_in_method row h r b = cc

@@ -38,14 +38,14 @@ use Rattle.jasmin_reader.proofs.Words.{integer_ok, no_directive_at, form_has_no_
 
 -- ---- lines that are taken
 
--- a row of the listing: where it may stand, and what it adds
+-- a row of the listing: where it may come, and what it adds
 record IsListed (row : Row) : Type 0 where
   are : is_body_row row ≡ true
   may : (b : Body) → may_set b row ≡ may_list b.listing.room b.listing.switch row
   sets : (b : Body) → listed_with b row ≡ with_setting b row
   in_class : (r : Reader) → row_at r row ≡ (may_set_in r.body row >>= λ _. done (record r { body = option_map (λ b. with_setting b row) r.body }))
 
--- the row that a line says, and that it may stand there
+-- the row that a line says, and that it may come there
 record ListedSays (room : ℕ) (o : Option Switch) (items : List Item) (row : Row) : Type 0 where
   is_row : AreRowsOf items (row ∷ [])
   may : may_list room o row ≡ Ok tt
@@ -234,11 +234,11 @@ statement_taken b c w rest e = by b.listing.switch refl e
 
 -- ---- lines of the grammar that are read
 
--- a line that says this row, wherever it may stand
+-- a line that says this row, wherever it may come
 abbrev IsSaid : List ℕ → List Item → Row → Type 0
 IsSaid w rest row = (b : Body) → may_set b row ≡ Ok tt → statement_at b w rest ≡ Ok (with_setting b row)
 
--- what the row does, in a method that stands open
+-- what the row does, in a method that is open
 abbrev Does : Reader → Option Body → Row → Reader → Type 0
 Does r o row s = (may_set_in o row >>= λ _. done (record r { body = option_map (λ b. with_setting b row) o })) ≡ Ok s
 
@@ -265,7 +265,7 @@ operands_no_colon : (f : Form) (items : List Item) (i : Instruction (List ℕ)) 
 operands_no_colon f items i plain = refl
 operands_no_colon f items i is = refl
 
--- such a row stands outside of switches
+-- such a row is outside of switches
 apart : (items : List Item) (row : Row) → IsInstructionLine items row → (room : ℕ) (s : Switch) → may_list room (Some s) row ≡ Ok tt → ⊥
 apart items row (simple e is) room (switch.Table t) k = absurd cc
 apart items row (simple e is) room (switch.Lookup c) k = absurd cc

@@ -1,4 +1,4 @@
--- What single words stand for, both ways: integers, descriptors, members, words of tables.
+-- What single words represent, both ways: integers, descriptors, members, words of tables.
 use Rattle.std.proofs.Common.{◌≡◌, ℕ, inl, inr, ℤ, pos, negsuc, int_le, Bool, true, false, not, eqb, nat_le, List, [], ◌∷◌, length, Option, Some, None, IfSome, Result, Ok, Err, refl, sym, ap, ◌∙◌, arith, codes, eqb-true, lt-ltb, leb-true, le-leb}
 use Rattle.std.specs.List.{list_all, AllByRecursion}
 use Rattle.std.proofs.lemmas.Bool.{and_from, cases_Bool, not-false, false_from_ne_true, and_parts, not-true, cond-false}
@@ -140,7 +140,7 @@ abbrev pub AllRows : {X : Type 0} → (List ℕ → X → Type 0) → List (List
 AllRows P [] = Unit {0}
 AllRows P (r ∷ rows) = P r.0 r.1 × AllRows P rows
 
--- what holds of each row holds of the word that was found and of what stands beside it
+-- what holds of each row holds of the word that was found and of what is beside it
 pub find_ok : {X : Type 0} (P : List ℕ → X → Type 0) (w : List ℕ) (rows : List (List ℕ × X)) (x : X) → AllRows P rows → find_row w rows ≡ Some x → P w x
 find_ok P w [] x all e = absurd cc
 find_ok P w (r ∷ rows) x all e = elim (cases_Bool (bytes_eq w r.0)) [

@@ -38,7 +38,7 @@ setting_row (setting.Stack n) = StackRow n
 setting_row (setting.Locals n) = LocalsRow n
 setting_row (setting.Catch c) = CatchRow c.class c.from c.to c.handler
 
--- The method with what a row says: the last limit counts, and a label stands before the next instruction.
+-- The method with what a row says: the last limit counts, and a label comes before the next instruction.
 abbrev pub with_setting : Body → Row → Body
 with_setting b (StackRow n) = record b { stack = n }
 with_setting b (LocalsRow n) = record b { locals = n }
@@ -52,7 +52,7 @@ abbrev pub new_label : Option ℕ → Result (Unit {0}) FaultKind
 new_label None = Ok tt
 new_label (Some place) = Err fault.RepeatedLabel
 
--- a label that stands nowhere else
+-- a label that is nowhere else
 unfoldable pub label_at : Body → List ℕ → Result Row FaultKind
 label_at b w =
     if is_label w then (new_label (place_of b.labels w) >>= λ _. within_limit w >>= λ _. Ok (LabelRow w))
@@ -63,12 +63,12 @@ label_at b w =
 abbrev pub listed : Body → Result Row FaultKind → Result Body FaultKind
 listed b read = read >>= λ row. Ok (listed_with b row)
 
--- what stands behind .end; whatever else than the word method stands there is left out
+-- what follows .end; anything there but the word method is left out
 unfoldable pub end_from : List Item → Result (List Item) FaultKind
 end_from [] = Err fault.BadOperand
 end_from (t ∷ rest) = first_word fault.LeftOut t >>= λ w. if bytes_eq w (codes "method") then Ok rest else Err fault.LeftOut
 
--- a directive where none may stand; of .end the next word is looked at
+-- a directive where none is allowed; of .end the next word is looked at
 unfoldable pub no_directive : Directive → List Item → FaultKind
 no_directive directive.LeftOut rest = fault.LeftOut
 no_directive directive.End rest = elim (end_from rest) [ Ok x ↦ fault.Misplaced | Err k ↦ k ]
@@ -78,7 +78,7 @@ abbrev pub labelled_by : Body → List ℕ → List Item → Option Directive �
 labelled_by b w rest (Some d) = Err (no_directive d rest)
 labelled_by b w rest None = if begins_with 46 w then Err fault.UnknownDirective else listed b (instruction_at b.listing.room w rest)
 
--- what may stand behind a label on its line
+-- what may follow a label on its line
 unfoldable pub labelled_at : Body → List Item → Result Body FaultKind
 labelled_at b [] = Ok b
 labelled_at b (t ∷ rest) = first_word fault.UnknownInstruction t >>= λ w. labelled_by b w rest (directive_at w)
@@ -97,7 +97,7 @@ statement_at b w rest = statement_by b w rest b.listing.switch
 
 -- ---- limits and handler tables
 
--- no directive stands in a switch
+-- no directive is in a switch
 abbrev pub outside_switch : Body → Result (Unit {0}) FaultKind
 outside_switch b = if is_some b.listing.switch then Err fault.Misplaced else Ok tt
 
@@ -106,7 +106,7 @@ limit_by true is_locals rest = last_operand limit_in rest >>= λ n. Ok (StackRow
 limit_by false true rest = last_operand limit_in rest >>= λ n. Ok (LocalsRow n)
 limit_by false false rest = Err fault.BadOperand
 
--- behind .limit
+-- after .limit
 abbrev pub limit_from : List Item → Result Row FaultKind
 limit_from items = next_word items >>= λ w. limit_by (bytes_eq w.0 (codes "stack")) (bytes_eq w.0 (codes "locals")) w.1
 
@@ -117,11 +117,11 @@ caught_in w = if bytes_eq w (codes "all") then Ok None else class_name_in w >>= 
 abbrev pub keyword_in : List ℕ → List ℕ → Result (Unit {0}) FaultKind
 keyword_in keyword w = if bytes_eq w keyword then Ok tt else Err fault.BadOperand
 
--- a label behind this word
+-- a label after this word
 abbrev pub label_behind : List ℕ → List Item → Result (List ℕ × List Item) FaultKind
 label_behind keyword items = operand (keyword_in keyword) items >>= λ k. operand label_in k.1
 
--- the labels of the place behind a range and of its handler
+-- the labels of the place after a range and of its handler
 abbrev pub last_labels_from : List Item → Result (List ℕ × List ℕ) FaultKind
 last_labels_from items = label_behind (codes "to") items >>= λ to. label_behind (codes "using") to.1 >>= λ handler. ended_at handler.1 >>= λ _. Ok (to.0, handler.0)
 
@@ -129,7 +129,7 @@ last_labels_from items = label_behind (codes "to") items >>= λ to. label_behind
 abbrev pub row_from : Option (List ℕ) → List Item → Result Row FaultKind
 row_from class items = label_behind (codes "from") items >>= λ from. last_labels_from from.1 >>= λ ends. Ok (CatchRow class from.0 ends.0 ends.1)
 
--- behind .catch: a row of the handler table by labels
+-- after .catch: a row of the handler table by labels
 unfoldable pub catch_from : List Item → Result Row FaultKind
 catch_from items = operand caught_in items >>= λ class. row_from class.0 class.1
 
@@ -185,7 +185,7 @@ placed_catches labels cs = each (placed_catch labels) cs
 abbrev pub has_nothing : Body → Bool
 has_nothing b = length b.listing.instructions == 0 && length b.labels == 0 && length b.catches == 0
 
--- a body is demanded unless abstract stands there, and not allowed under it
+-- a body is demanded unless abstract is there, and not allowed under it
 abbrev pub body_of : Body → List (Instruction ℕ) → List Handler → Result (Option Code) FaultKind
 body_of b is hs =
     if b.access.is_abstract then (if has_nothing b then Ok None else Err fault.BadBody)

@@ -19,7 +19,7 @@ abbrev pub fault_of : Refusal FaultKind → ℕ → ReadFault
 fault_of refusal.Memory n = fault_at fault.NoMemory n
 fault_of (refusal.Fault k) n = fault_at k n
 
--- what is told is the first fault, or want of memory
+-- what is reported is the first fault, or being out of memory
 abbrev pub Tells : {Y : Type 0} → ReadFault → Result Y ReadFault → Type 0
 Tells f read = (f.kind ≡ fault.NoMemory) ⊎ (read ≡ Err f)
 
@@ -40,14 +40,14 @@ parts_with r c superclass =
 abbrev pub parts_of : Reader → HeadWords × List ℕ → ClassParts
 parts_of r c = parts_with r c (unwrap_or r.superclass object_name)
 
--- at the file's end, behind so many lines
+-- at the file's end, after so many lines
 unfoldable pub finished : Reader → ℕ → Result ClassParts ReadFault
 finished r last = elim r.class [
   | None ↦ Err (fault_at fault.Misplaced 1)
   | Some c ↦ elim r.body [ Some b ↦ Err (fault_at fault.Unfinished last) | None ↦ Ok (parts_of r c) ]
 ]
 
--- what the next line gives, and the lines behind it
+-- what the next line gives, and the lines after it
 abbrev pub then_lines : ℕ → (Reader → Result ClassParts ReadFault) → Result Reader FaultKind → Result ClassParts ReadFault
 then_lines n next (Ok r) = next r
 then_lines n next (Err k) = Err (fault_at k n)

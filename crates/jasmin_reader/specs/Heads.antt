@@ -39,7 +39,7 @@ start k = record { kind = k; access = no_access }
 abbrev pub with_access : Access → AccessWord → Result Access FaultKind
 with_access a w = if is_taken_in w then Ok (more_access w a) else Err fault.LeftOut
 
--- abstract and static stand on no method together
+-- abstract and static are on no method together
 abbrev pub stand_together : Place → Access → Bool
 stand_together place.Method a = not (a.is_abstract && a.is_static)
 stand_together other a = true
@@ -51,7 +51,7 @@ abbrev pub with_class_word : Place → HeadWords → ClassWord → Result HeadWo
 with_class_word p words class_word.Interface = Ok (record words { kind = Interface })
 with_class_word p words (class_word.Access a) = with_access words.access a >>= λ x. fits_place p x >>= λ y. Ok (record words { access = y })
 
--- what a word says before a name: the word interface is one more access word, but not behind .interface
+-- what a word says before a name: the word interface is one more access word, but not after .interface
 unfoldable pub head_word_at : Place → List ℕ → Option ClassWord
 head_word_at place.Class w = if bytes_eq w (codes "interface") then Some class_word.Interface else option_map class_word.Access (access_of w)
 head_word_at place.Interface w = option_map class_word.Access (access_of w)
@@ -73,7 +73,7 @@ abbrev pub begins_with_word : List Item → Bool
 begins_with_word [] = false
 begins_with_word (t ∷ rest) = is_word t
 
--- what follows the word signature, where it stands next
+-- what follows the word signature, where it comes next
 abbrev pub behind_signature : List Item → Option (List Item)
 behind_signature (Word w ∷ rest) = if bytes_eq w (codes "signature") then Some rest else None
 behind_signature other = None
@@ -94,7 +94,7 @@ abbrev pub behind : List Item → List Item
 behind [] = []
 behind (t ∷ rest) = rest
 
--- whether the name is still to come, behind the word before these: a field's name is the last word but one of
+-- whether the name is still to come, after the word before these: a field's name is the last word but one of
 -- its words, every other name the last word of its line
 abbrev pub is_before_name : Place → List Item → Bool
 is_before_name place.Field items = begins_with_part items && begins_with_part (behind items)
@@ -122,14 +122,14 @@ abbrev pub kind_at : Place → ClassKind
 kind_at place.Interface = Interface
 kind_at other = Class
 
--- behind .class or .interface
+-- after .class or .interface
 unfoldable pub class_from : Place → List Item → Result (HeadWords × List ℕ) FaultKind
 class_from p items = named_from p (start (kind_at p)) items >>= λ n.
     class_name_in n.1.0 >>= λ name. within_limit n.1.0 >>= λ _. ended_at n.1.1 >>= λ _. Ok (n.0, name)
 
 -- ---- fields
 
--- one signature may stand behind the descriptor; it is skipped
+-- one signature may follow the descriptor; it is skipped
 abbrev pub skipped_from : List Item → Option (List Item) → Result (List Item) FaultKind
 skipped_from items None = Ok items
 skipped_from items (Some rest) = string_from rest >>= λ t. Ok t.1
@@ -146,11 +146,11 @@ value_at t [] = Ok None
 value_at t (Equals ∷ rest) = constant_for t rest >>= λ c. ended_at c.1 >>= λ _. Ok (Some c.0)
 value_at t (other ∷ rest) = Err (misplaced other)
 
--- what stands behind a field's descriptor
+-- what follows a field's descriptor
 unfoldable pub value_from : FieldType → List Item → Result (Option Constant) FaultKind
 value_from t items = skipped_from items (behind_signature items) >>= value_at t
 
--- a field's descriptor; it is missing where a signature stands in its place
+-- a field's descriptor; it is missing where a signature is in its place
 abbrev pub described_from : List Item → Result (FieldType × List Item) FaultKind
 described_from items = if is_signature items then Err fault.BadOperand else operand type_in items
 
@@ -158,7 +158,7 @@ described_from items = if is_signature items then Err fault.BadOperand else oper
 abbrev pub field_named : Access → List ℕ → List Item → Result Field FaultKind
 field_named a name items = described_from items >>= λ t. value_from t.0 t.1 >>= λ value. Ok (record { access = a; name = name; field_type = t.0; value = value })
 
--- behind .field
+-- after .field
 unfoldable pub field_from : List Item → Result Field FaultKind
 field_from items = named_from place.Field (start Class) items >>= λ n.
     member_name_in n.1.0 >>= λ name. within_limit n.1.0 >>= λ _.
@@ -177,6 +177,6 @@ method_there a m w rest = within_limit w >>= λ _. fits_initializer a m >>= λ _
 abbrev pub method_named : Access → List ℕ × List Item → Result (Access × (List ℕ × Signature)) FaultKind
 method_named a n = typed_in member_name_in n.0 >>= λ m. method_there a m n.0 n.1
 
--- behind .method: the access words, the name and the type
+-- after .method: the access words, the name and the type
 unfoldable pub method_from : List Item → Result (Access × (List ℕ × Signature)) FaultKind
 method_from items = named_from place.Method (start Class) items >>= λ n. method_named n.0.access n.1

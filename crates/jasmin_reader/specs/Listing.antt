@@ -41,7 +41,7 @@ IsWithinRoom l = length l.instructions + opened l.switch + l.room ≤ 16384
 
 -- ---- what a row adds
 
--- the keys that stand already, rising
+-- the keys that are there already, rising
 abbrev pub Cases : Type 0
 Cases = List (ℤ × List ℕ)
 
@@ -60,7 +60,7 @@ abbrev pub end_of : Switch → List ℕ → Instruction (List ℕ)
 end_of (switch.Table t) label = instruction.TableSwitch t.low t.labels label
 end_of (switch.Lookup cases) label = instruction.LookupSwitch cases label
 
--- with a row, by the switch that is not at its end; whether the row may stand there is asked before
+-- with a row, by the switch that is not at its end; whether the row is allowed there is asked before
 abbrev pub listed_by : Listing → Option Switch → Row → Listing
 listed_by l o (InstructionRow i) = if l.room == 0 then l else record l { instructions = l.instructions ++ i ∷ []; room = l.room - 1 }
 listed_by l o (TableRow low high) = with_switch l (switch.Table (record { low = low; high = high; labels = [] }))
@@ -116,7 +116,7 @@ colon_from (other ∷ rest) = Err (misplaced other)
 abbrev pub is_default : List ℕ → Bool
 is_default w = bytes_eq w (codes "default")
 
--- where a last key is given, each key has one label: one more may come behind so many
+-- where a last key is given, each key has one label: one more may come after so many
 abbrev pub takes_label : ℤ → ℕ → Option ℤ → Result (Unit {0}) FaultKind
 takes_label low count None = Ok tt
 takes_label low count (Some high) = labels_between low high >>= λ n. wanted_or (nat_lt count n) fault.BadOperand
@@ -131,7 +131,7 @@ unfoldable pub target_at : ℕ → Table → List ℕ → List Item → Result R
 target_at room t w rest = label_in w >>= λ label. takes_label t.low (length t.labels) t.high >>= λ _. within_limit w >>= λ _. has_room room >>= λ _.
     ended_at rest >>= λ _. Ok (TargetRow label)
 
--- the last line of a tableswitch, behind default and its colon
+-- the last line of a tableswitch, after default and its colon
 unfoldable pub table_end : Table → List Item → Result Row FaultKind
 table_end t rest = is_full t.low (length t.labels) t.high >>= λ _. last_operand label_in rest >>= λ label. Ok (DefaultRow label)
 
@@ -143,12 +143,12 @@ table_by room t w rest (Some after) = if is_default w then table_end t after els
 abbrev pub key_in : Cases → List ℕ → Result ℤ FaultKind
 key_in cases w = integer_in w >>= λ key. wanted_or (not (is_some (case_of cases key))) fault.BadOperand >>= λ _. Ok key
 
--- one key of a lookupswitch, a colon, and its label; the keys may stand in any order
+-- one key of a lookupswitch, a colon, and its label; the keys may come in any order
 unfoldable pub case_at : ℕ → Cases → List ℕ → List Item → Result Row FaultKind
 case_at room cases w rest = key_in cases w >>= λ key. within_limit w >>= λ _. has_room room >>= λ _.
     colon_from rest >>= λ after. last_operand label_in after >>= λ label. Ok (CaseRow key label)
 
--- the last line of a lookupswitch, behind default
+-- the last line of a lookupswitch, after default
 unfoldable pub lookup_end : List Item → Result Row FaultKind
 lookup_end rest = colon_from rest >>= λ after. last_operand label_in after >>= λ label. Ok (DefaultRow label)
 

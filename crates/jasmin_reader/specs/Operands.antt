@@ -1,4 +1,4 @@
--- What single words stand for, and the operands of instructions.
+-- What single words represent, and the operands of instructions.
 use Rattle.std.specs.Prelude.{ℕ, ◌+◌, Bool, false, not, ◌&&◌, List, [], ◌∷◌, Option, Some, None, Result, Ok, Err, ◌==◌, if◌then◌else◌, nat_le, ℤ, pos, negsuc, ◌+ℤ◌, ◌-ℤ◌, int_le}
 use Rattle.std.specs.Option.{ok_or}
 use Rattle.descriptors.specs.Signature.{Signature}
@@ -66,7 +66,7 @@ abbrev pub descriptor_kind : DescriptorFault → FaultKind
 descriptor_kind descriptor.LeftOut = fault.LeftOut
 descriptor_kind other = fault.BadDescriptor
 
--- want of memory is no fault of the text
+-- being out of memory is no fault of the text
 abbrev pub refusal_of : Refusal DescriptorFault → Refusal FaultKind
 refusal_of refusal.Memory = refusal.Memory
 refusal_of (refusal.Fault fault) = refusal.Fault (descriptor_kind fault)
@@ -81,7 +81,7 @@ type_in w = by_descriptor (field_of_text w)
 unfoldable pub signature_in : List ℕ → Result Signature FaultKind
 signature_in w = by_descriptor (method_of_text w)
 
--- what stands before a method's descriptor, and the descriptor
+-- what comes before a method's descriptor, and the descriptor
 unfoldable pub typed_in : {A : Type 0} → (List ℕ → Result A FaultKind) → List ℕ → Result (A × Signature) FaultKind
 typed_in read w = both (read (before_type w)) (signature_in (type_part w))
 
@@ -126,7 +126,7 @@ abbrev pub count_at : List Item → Result (Unit {0}) FaultKind
 count_at [] = Ok tt
 count_at (t ∷ rest) = last_operand count_in (t ∷ rest) >>= λ _. Ok tt
 
--- how many labels a tableswitch has; its last key may stand just below the first
+-- how many labels a tableswitch has; its last key may be just below the first
 abbrev pub labels_between : ℤ → ℤ → Result ℕ FaultKind
 labels_between low high = elim ((high +ℤ pos 1) -ℤ low) [ pos n ↦ Ok n | negsuc n ↦ Err fault.BadOperand ]
 

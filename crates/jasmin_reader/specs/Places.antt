@@ -1,4 +1,4 @@
--- The places of a line: what may stand there, and which fault is met where something else does.
+-- The places of a line: what may be there, and which fault is met where something else is.
 use Rattle.std.specs.Prelude.{◌≡◌, ℕ, Bool, List, [], ◌∷◌, Result, Ok, Err, if◌then◌else◌, nat_le}
 use Rattle.jasmin_words.specs.declared.fault.FaultKind.{FaultKind}
 use Rattle.jasmin_words.specs.declared.fault.FaultKind.TheVariants as fault
@@ -12,7 +12,7 @@ use Rattle.jasmin_words.specs.Lexing.{Item, Word, BadWord, Text, BadText, fits}
 abbrev pub wanted_or : Bool → FaultKind → Result (Unit {0}) FaultKind
 wanted_or b k = if b then Ok tt else Err k
 
--- the fault of what may not stand in its place; other, where it has none of its own
+-- the fault of what isn't allowed in its place; other, where it has none of its own
 abbrev pub fault_in : FaultKind → Item → FaultKind
 fault_in other BadWord = fault.BadByte
 fault_in other (BadText fault.BadByte) = fault.BadByte
@@ -21,7 +21,7 @@ fault_in other _ = other
 abbrev pub misplaced : Item → FaultKind
 misplaced t = fault_in fault.BadOperand t
 
--- the bytes of a word; other is the fault where no word stands
+-- the bytes of a word; other is the fault where there is no word
 abbrev pub first_word : FaultKind → Item → Result (List ℕ) FaultKind
 first_word other (Word w) = Ok w
 first_word other t = Err (fault_in other t)
@@ -38,7 +38,7 @@ abbrev pub next_word : List Item → Result (List ℕ × List Item) FaultKind
 next_word [] = Err fault.BadOperand
 next_word (t ∷ rest) = word_of t >>= λ w. Ok (w, rest)
 
--- an operand that is one word: what it stands for, and what follows it
+-- an operand that is one word: what it represents, and what follows it
 abbrev pub operand : {A : Type 0} → (List ℕ → Result A FaultKind) → List Item → Result (A × List Item) FaultKind
 operand read items = next_word items >>= λ w. read w.0 >>= λ x. within_limit w.0 >>= λ _. Ok (x, w.1)
 
@@ -49,7 +49,7 @@ string_from (Text t ∷ rest) = Ok (t, rest)
 string_from (BadText k ∷ rest) = Err k
 string_from (other ∷ rest) = Err (misplaced other)
 
--- nothing more stands on the line
+-- nothing more is on the line
 abbrev pub ended_at : List Item → Result (Unit {0}) FaultKind
 ended_at [] = Ok tt
 ended_at (other ∷ rest) = Err (misplaced other)

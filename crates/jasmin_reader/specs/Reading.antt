@@ -27,7 +27,7 @@ use Rattle.jasmin_reader.specs.Bodies.{statement_at, limit_from, catch_from, set
 
 -- ---- outside of methods
 
--- behind .class and outside of methods
+-- after .class and outside of methods
 abbrev pub is_in_class : Reader → Bool
 is_in_class r = not (is_none r.class || is_some r.body)
 
@@ -43,7 +43,7 @@ member_room r = nat_lt (length r.fields + length r.methods) 1024
 abbrev pub empty_body : Access → List ℕ → Signature → Body
 empty_body a name m = record { access = a; name = name; method_type = m; stack = 1024; locals = 1024; labels = []; catches = []; listing = empty_listing }
 
--- a method stands open, and no switch in it
+-- a method is open, and no switch in it
 abbrev pub open_at : Option Body → Result (Unit {0}) FaultKind
 open_at None = Err fault.Misplaced
 open_at (Some b) = outside_switch b
@@ -61,7 +61,7 @@ may_stand r directive.Limit = open_at r.body
 may_stand r directive.Catch = open_at r.body
 may_stand r other = Ok tt
 
--- what stands behind a directive; one that says nothing of a class is left out
+-- what follows a directive; one that says nothing of a class is left out
 unfoldable pub said_in : Directive → List Item → Result Row FaultKind
 said_in directive.Class items = class_from place.Class items >>= λ c. Ok (ClassRow c.0.kind c.0.access c.1)
 said_in directive.Interface items = class_from place.Interface items >>= λ c. Ok (ClassRow c.0.kind c.0.access c.1)

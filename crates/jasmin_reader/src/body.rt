@@ -29,7 +29,7 @@ pub(crate) struct Catch {
     pub class: Option<ClassName>,
     /// The label of the range's beginning.
     pub from: Text,
-    /// The label of the place behind the range.
+    /// The label of the place after the range.
     pub to: Text,
     /// The label of the handler.
     pub handler: Text,
@@ -59,7 +59,7 @@ pub(crate) struct Body {
     pub listing: Listing,
 }
 
-/// What stands behind `.end method`.
+/// What follows `.end method`.
 #[tactic(auto, unfolding(crate::specs::Bodies::end_from))]
 pub(crate) fn behind_end<'a, 't>(tokens: &'t [Token<'a>]) -> Result<&'t [Token<'a>], LineError>
     ensures { Gives (λ x. views x.now) result (end_from (views tokens.now)) }
@@ -75,7 +75,7 @@ pub(crate) fn behind_end<'a, 't>(tokens: &'t [Token<'a>]) -> Result<&'t [Token<'
     }
 }
 
-/// The fault of a directive where none may stand.
+/// The fault of a directive where none is allowed.
 #[tactic(auto, unfolding(crate::specs::Bodies::no_directive))]
 fn stray(directive: Directive, rest: &[Token<'_>]) -> LineError
     ensures { IsFaultOr result (no_directive directive (views rest.now)) }
@@ -103,7 +103,7 @@ impl FromWord for Option<ClassName> {
     }
 }
 
-/// A label behind this word.
+/// A label after this word.
 fn label_after<'a, 't>(
     alloc: Global,
     keyword: &[u8],
@@ -119,7 +119,7 @@ fn label_after<'a, 't>(
     operand::<Text>(alloc, rest)
 }
 
-/// The labels of the place behind a range and of its handler.
+/// The labels of the place after a range and of its handler.
 fn last_labels(alloc: Global, tokens: &[Token<'_>]) -> Result<(Text, Text), LineError>
     ensures { Gives (λ x. x) result (last_labels_from (views tokens.now)) }
 {
@@ -128,7 +128,7 @@ fn last_labels(alloc: Global, tokens: &[Token<'_>]) -> Result<(Text, Text), Line
     ended(rest).and(Ok((to, handler)))
 }
 
-/// The row of the handler table behind `.catch`.
+/// The row of the handler table after `.catch`.
 #[tactic(auto, unfolding(crate::specs::Bodies::catch_from))]
 pub(crate) fn handler_row(alloc: Global, tokens: &[Token<'_>]) -> Result<Setting, LineError>
     ensures { Gives setting_row result (catch_from (views tokens.now)) }
@@ -144,7 +144,7 @@ pub(crate) fn handler_row(alloc: Global, tokens: &[Token<'_>]) -> Result<Setting
     }))
 }
 
-/// The limit behind `.limit`.
+/// The limit after `.limit`.
 pub(crate) fn limit_behind(alloc: Global, tokens: &[Token<'_>]) -> Result<Setting, LineError>
     ensures { Gives setting_row result (limit_from (views tokens.now)) }
 {
@@ -174,7 +174,7 @@ impl Body {
         Ok(())
     }
 
-    /// A label that stands nowhere else.
+    /// A label that is nowhere else.
     #[tactic(auto, unfolding(crate::specs::Bodies::label_at))]
     fn may_label(&self, word: &[u8]) -> Result<(), LineError>
         ensures new { OnOk result (place_of self.now.labels word.now ≡ None) }
@@ -189,7 +189,7 @@ impl Body {
         within(word)
     }
 
-    /// What stands behind a label on its line.
+    /// What follows a label on its line.
     #[tactic(auto, unfolding(crate::specs::Bodies::labelled_at))]
     fn labelled(&mut self, alloc: Global, tokens: &[Token<'_>]) -> Result<(), LineError>
         ensures { Gives (λ _. self.new) result (labelled_at self.old (views tokens.now)) }

@@ -37,7 +37,7 @@ fn line_length(bytes: &[u8]) -> usize
     count
 }
 
-/// The first line and the bytes behind its end.
+/// The first line and the bytes after its end.
 fn cut(bytes: &[u8]) -> (&[u8], &[u8])
     requires { 0 < length bytes.now }
     ensures lines { lines_of bytes.now ≡ result.0.now ∷ lines_of result.1.now }
@@ -160,7 +160,7 @@ fn read_lines(alloc: Global, reader: &mut Reader, bytes: &[u8]) -> Result<ClassT
 /// The class that a Jasmin file spells, or the first fault and its line.
 ///
 /// The bytes may be anything: a file is read from the top, and each line from the left. Of several faults at one
-/// place the lowest kind is told. Out of memory is answered as [`FaultKind::NoMemory`].
+/// place the lowest kind is reported. Being out of memory is answered as [`FaultKind::NoMemory`].
 pub fn read_class(alloc: Global, bytes: &[u8]) -> Result<ClassText, ReadFault>
     // The class, or the first fault, is that of the reading function.
     ensures exact { Reads result (class_at bytes.now) }

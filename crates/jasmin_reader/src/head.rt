@@ -32,7 +32,7 @@ pub(crate) enum Place {
 /// The words before a name, so far.
 #[derive(Clone, Copy)]
 pub(crate) struct HeadWords {
-    /// Whether `.interface` or the word `interface` stands there.
+    /// Whether `.interface` or the word `interface` is there.
     pub kind: ClassKind,
     /// The access words.
     pub access: Access,
@@ -69,7 +69,7 @@ fn add_access(access: Access, word: AccessWord) -> Result<Access, LineError>
     Ok(access)
 }
 
-/// Whether these access words may stand together: `abstract` and `static` on no method.
+/// Whether these access words may come together: `abstract` and `static` on no method.
 fn together(place: Place, access: Access) -> Result<Access, LineError>
     ensures { Gives (λ x. x) result (fits_place place access) }
 {
@@ -142,7 +142,7 @@ fn starts_with_word(tokens: &[Token<'_>]) -> bool
     }
 }
 
-/// What follows `signature`, where it stands next.
+/// What follows `signature`, where it comes next.
 pub(crate) fn behind_signature<'a, 't>(tokens: &'t [Token<'a>]) -> Option<&'t [Token<'a>]>
     ensures { option_map (λ r. views r.now) result ≡ behind_signature_of (views tokens.now) }
 {
@@ -165,14 +165,14 @@ pub(crate) fn is_at_signature(tokens: &[Token<'_>]) -> bool
     }
 }
 
-/// Whether a word of a field's access words, name and descriptor stands next.
+/// Whether a word of a field's access words, name and descriptor comes next.
 fn starts_with_part(tokens: &[Token<'_>]) -> bool
     ensures { result ≡ begins_with_part (views tokens.now) }
 {
     starts_with_word(tokens) && !is_at_signature(tokens)
 }
 
-/// Whether the name is still to come, behind the word before these.
+/// Whether the name is still to come, after the word before these.
 fn name_follows(place: Place, tokens: &[Token<'_>]) -> bool
     ensures { result ≡ is_before_name place (views tokens.now) }
 {
@@ -185,7 +185,7 @@ fn name_follows(place: Place, tokens: &[Token<'_>]) -> bool
     }
 }
 
-/// The fault of an access word in the name's place, if one stands there: it is taken as one, and the name is missing.
+/// The fault of an access word in the name's place, if one is there: it is taken as one, and the name is missing.
 #[tactic(auto, unfolding(crate::specs::Heads::no_access_in))]
 fn no_access_word(place: Place, word: &[u8]) -> Result<(), LineError>
     ensures { Gives (λ x. x) result (no_access_in place word.now) }
@@ -233,7 +233,7 @@ pub(crate) fn read_name<'a, 't>(
     Err(bad_operand())
 }
 
-/// A class's access words and its name, behind `.class` or `.interface`.
+/// A class's access words and its name, after `.class` or `.interface`.
 #[tactic(auto, unfolding(crate::specs::Heads::class_from))]
 pub(crate) fn class_head(
     alloc: Global,

@@ -6,7 +6,7 @@
 //!
 //! To enter: `specs/Reading` says what each line adds to what was read before, and which fault is met first;
 //! `specs/File` goes over the lines. The modules go the same way: `place` and `values` for single words, `operands` for
-//! those behind an instruction, `head` and `member` for lines that name something, `listing`, `switch` and `labels` for what a
+//! those after an instruction, `head` and `member` for lines that name something, `listing`, `switch` and `labels` for what a
 //! method holds, `body` for methods, `said` for what a line says, `closing` for what is looked at where a method ends, `reader`
 //! for lines, `file` for the whole.
 #![tactic(auto)]

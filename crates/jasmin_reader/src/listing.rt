@@ -119,7 +119,7 @@ fn new_key(cases: &Cases, word: &[u8]) -> Result<i32, LineError>
     Ok(key)
 }
 
-/// The last line of a `tableswitch`, behind `default` and its colon.
+/// The last line of a `tableswitch`, after `default` and its colon.
 #[tactic(auto, unfolding(crate::specs::Listing::table_end))]
 fn table_end(alloc: Global, table: &Table, rest: &[Token<'_>]) -> Result<Listed, LineError>
     ensures { Gives listed_row result (table_end_of table.now (views rest.now)) }
@@ -128,7 +128,7 @@ fn table_end(alloc: Global, table: &Table, rest: &[Token<'_>]) -> Result<Listed,
     last_operand::<Text>(alloc, rest).map(Listed::Default)
 }
 
-/// The last line of a `lookupswitch`, behind `default`.
+/// The last line of a `lookupswitch`, after `default`.
 #[tactic(auto, unfolding(crate::specs::Listing::lookup_end))]
 fn lookup_end(alloc: Global, rest: &[Token<'_>]) -> Result<Listed, LineError>
     ensures { Gives listed_row result (lookup_end_of (views rest.now)) }
@@ -137,7 +137,7 @@ fn lookup_end(alloc: Global, rest: &[Token<'_>]) -> Result<Listed, LineError>
     last_operand::<Text>(alloc, after).map(Listed::Default)
 }
 
-/// A key of a `lookupswitch` with the label behind its colon.
+/// A key of a `lookupswitch` with the label after its colon.
 fn key_label(alloc: Global, key: i32, rest: &[Token<'_>]) -> Result<Listed, LineError>
     ensures { Gives listed_row result (followed_by (colon_from (views rest.now))
         (λ after. followed_by (last_operand_of label_in after) (λ label. Ok (CaseRow key label)))) }

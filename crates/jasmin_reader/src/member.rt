@@ -20,7 +20,7 @@ use jasmin_words::{FaultKind, Token};
 use sequence::{Refusal, Text};
 use std::alloc::Global;
 
-/// What stands behind the one signature that a field's line may have, which is skipped.
+/// What follows the one signature that a field's line may have, which is skipped.
 fn skip_signature<'a, 't>(tokens: &'t [Token<'a>]) -> Result<&'t [Token<'a>], LineError>
     ensures { Gives (λ x. views x.now) result (skipped_from (views tokens.now) (behind_signature_of (views tokens.now))) }
 {
@@ -89,7 +89,7 @@ fn constant<'a, 't>(
     }
 }
 
-/// The value behind a field's descriptor and its signature.
+/// The value after a field's descriptor and its signature.
 fn value_behind(
     alloc: Global,
     field_type: &FieldType,
@@ -109,7 +109,7 @@ fn value_behind(
     }
 }
 
-/// The field with these access words and this name, whose descriptor and value follow. A descriptor is missing where a signature stands
+/// The field with these access words and this name, whose descriptor and value follow. A descriptor is missing where a signature is
 /// in its place.
 #[tactic(auto, unfolding(crate::specs::Heads::described_from, crate::specs::Heads::value_from))]
 fn field_behind(
@@ -134,7 +134,7 @@ fn field_behind(
     })
 }
 
-/// The field behind `.field`.
+/// The field after `.field`.
 #[tactic(auto, unfolding(crate::specs::Heads::field_from))]
 pub(crate) fn field(alloc: Global, tokens: &[Token<'_>]) -> Result<Field, LineError>
     ensures { Gives (λ x. x) result (field_from (views tokens.now)) }
@@ -145,7 +145,7 @@ pub(crate) fn field(alloc: Global, tokens: &[Token<'_>]) -> Result<Field, LineEr
     field_behind(alloc, named.words.access, name, named.rest)
 }
 
-/// The access words, the name and the type behind `.method`.
+/// The access words, the name and the type after `.method`.
 #[derive(Drop)]
 pub(crate) struct MethodHead {
     pub access: Access,
@@ -153,7 +153,7 @@ pub(crate) struct MethodHead {
     pub method_type: MethodType,
 }
 
-/// Whether the head may stand so: its word isn't too long, an initializer of a class is static, without parameters and without a result
+/// Whether such a head is allowed: its word isn't too long, an initializer of a class is static, without parameters and without a result
 /// (JVMS SE 8 2.9), and nothing follows.
 #[tactic(auto, unfolding(crate::specs::Heads::method_there))]
 fn may_stand(head: &MethodHead, word: &[u8], rest: &[Token<'_>]) -> Result<(), LineError>
@@ -190,7 +190,7 @@ fn method_behind(
     may_stand(&head, word, rest).and(Ok(head))
 }
 
-/// The access words, the name and the type behind `.method`.
+/// The access words, the name and the type after `.method`.
 #[tactic(auto, unfolding(crate::specs::Heads::method_from))]
 pub(crate) fn method_head(alloc: Global, tokens: &[Token<'_>]) -> Result<MethodHead, LineError>
     ensures { Gives (λ x. (x.access, (x.name, x.method_type))) result (method_from (views tokens.now)) }

@@ -64,7 +64,7 @@ fn count(alloc: Global, tokens: &[Token<'_>]) -> Result<(), LineError>
     last_operand::<u8>(alloc, tokens).and(Ok(()))
 }
 
-/// How many labels stand for the keys from the first to the last; none where the last is just below the first.
+/// How many labels there are for the keys from the first to the last; none where the last is just below the first.
 pub(crate) fn count_up_to(low: i32, high: i32) -> Result<u64, LineError>
     ensures { Gives (λ n. n) result (labels_between low high) }
 {
@@ -171,7 +171,7 @@ fn table_switch(alloc: Global, tokens: &[Token<'_>]) -> Result<Listed, LineError
     Ok(Listed::Table(low, high))
 }
 
-/// What the line of an instruction on a field says: a class, a slash and a name stand on it, and then a descriptor.
+/// What the line of an instruction on a field says: it has a class, a slash and a name, and then a descriptor.
 fn field(alloc: Global, word: FieldAccess, tokens: &[Token<'_>]) -> Result<Listed, LineError>
     ensures { Gives listed_row result (begun_at (forms.Field word) (views tokens.now)) }
 {

@@ -24,7 +24,7 @@ pub(crate) fn bad_operand() -> LineError
     Refusal::Fault(FaultKind::BadOperand)
 }
 
-/// The fault of a word that may not stand in its place.
+/// The fault of a word that isn't allowed in its place.
 pub(crate) fn fault_at(token: &Token<'_>) -> FaultKind
     ensures { result ≡ misplaced (view token.now) }
 {
@@ -83,7 +83,7 @@ pub(crate) fn string<'a, 't>(
     }
 }
 
-/// Nothing more stands on the line.
+/// Nothing more is on the line.
 pub(crate) fn ended(tokens: &[Token<'_>]) -> Result<(), LineError>
     ensures { Gives (λ x. x) result (ended_at (views tokens.now)) }
 {
@@ -93,7 +93,7 @@ pub(crate) fn ended(tokens: &[Token<'_>]) -> Result<(), LineError>
     }
 }
 
-/// A word where one is wanted; `other` is the fault where another thing stands, unless that has a fault of its own.
+/// A word where one is wanted; `other` is the fault where another thing comes, unless that has a fault of its own.
 pub(crate) fn first<'a>(other: FaultKind, token: &Token<'a>) -> Result<&'a [u8], LineError>
     ensures { Gives (λ x. x.now) result (first_word other (view token.now)) }
 {
@@ -106,7 +106,7 @@ pub(crate) fn first<'a>(other: FaultKind, token: &Token<'a>) -> Result<&'a [u8],
     }
 }
 
-/// What one word stands for.
+/// What one word represents.
 pub(crate) trait FromWord: Drop {
     /// The value, or the fault of the word's bytes.
     ghost read: { List ℕ → Result Self FaultKind };
@@ -116,7 +116,7 @@ pub(crate) trait FromWord: Drop {
         ensures { Gives (λ x. x) result (read word.now) };
 }
 
-/// An operand that is one word: what it stands for, and what follows it.
+/// An operand that is one word: what it represents, and what follows it.
 pub(crate) fn operand<'a, 't, T: FromWord>(
     alloc: Global,
     tokens: &'t [Token<'a>],

@@ -95,14 +95,14 @@ impl Reader {
         }
     }
 
-    /// Whether a field or a method may stand here.
+    /// Whether a field or a method may come here.
     fn in_class(&self) -> bool
         ensures { result ≡ is_in_class self.now }
     {
         self.class.is_some() && self.body.is_none()
     }
 
-    /// Whether the line stands behind `.class` and before all fields and methods.
+    /// Whether the line comes after `.class` and before all fields and methods.
     fn in_header(&self) -> bool
         ensures { result ≡ is_in_header self.now }
     {
@@ -180,7 +180,7 @@ impl Reader {
         }
     }
 
-    /// A method stands open, and no switch in it.
+    /// A method is open, and no switch in it.
     fn in_method(&self) -> Result<(), LineError>
         ensures open { OnOk result (is_some self.now.body ≡ true) }
         ensures gives { Gives (λ x. x) result (open_at self.now.body) }

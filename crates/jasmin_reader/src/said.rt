@@ -49,7 +49,7 @@ pub(crate) enum Listed {
     Default(Text),
 }
 
-/// What stands behind a directive. Every directive but these is left out.
+/// What follows a directive. Every directive but these is left out.
 #[tactic(auto, unfolding(crate::specs::Reading::said_in))]
 pub(crate) fn said_behind(
     alloc: Global,

@@ -44,7 +44,7 @@ impl Cases {
         }
     }
 
-    /// Whether the key stands there already. Takes no memory.
+    /// Whether the key is there already. Takes no memory.
     pub(crate) fn has(&self, key: i32) -> bool
         ensures { result ≡ is_some (case_of self.now key) }
     {

@@ -1,4 +1,4 @@
-//! The words that may stand before a class's name, and those of base types.
+//! The words that may come before a class's name, and those of base types.
 
 ghost use Rattle.std.specs.Prelude.{◌≡◌};
 ghost use Rattle.jasmin_reader.specs.Table.{base_at};
@@ -15,7 +15,7 @@ pub(crate) enum ClassWord {
     Access(AccessWord),
 }
 
-/// A word behind `newarray`.
+/// A word after `newarray`.
 #[derive(Clone, Copy)]
 pub(crate) enum BaseWord {
     /// A type that the machine knows.
@@ -36,7 +36,7 @@ pub(crate) const BASE_WORDS: [(&[u8], BaseWord); 8] = [
     (b"double", BaseWord::LeftOut),
 ];
 
-/// What the word says behind `newarray`, if it is the word of a base type.
+/// What the word says after `newarray`, if it is the word of a base type.
 #[tactic(auto, unfolding(crate::specs::Table::base_at, crate::specs::Table::base_words))]
 pub(crate) fn base_word_of(word: &[u8]) -> Option<BaseWord>
     ensures { result ≡ base_at word.now }

@@ -1,4 +1,4 @@
-//! What single words stand for.
+//! What single words represent.
 
 ghost use Rattle.std.specs.Prelude.{◌≡◌, ◌≤◌, ◌<◌, length, IfOk, IfSome};
 ghost use Rattle.sequence.specs.Gives.{Gives};
@@ -221,7 +221,7 @@ fn signature(alloc: Global, word: &[u8]) -> Result<MethodType, LineError>
     }
 }
 
-/// How many bytes stand before the last slash, where there is one.
+/// How many bytes come before the last slash, where there is one.
 fn last_slash(word: &[u8]) -> Option<usize>
     ensures value { result ≡ slash_in word.now }
     ensures within { IfSome result (λ n. n < length word.now) }
@@ -256,7 +256,7 @@ impl FromWord for (ClassName, MemberName) {
     }
 }
 
-/// How many bytes stand before the first `(`.
+/// How many bytes come before the first `(`.
 fn name_length(word: &[u8]) -> usize
     ensures value { result ≡ name_len word.now }
     ensures within { result ≤ length word.now }
@@ -285,7 +285,7 @@ fn fault_with(alloc: Global, kind: FaultKind, descriptor: &[u8]) -> LineError
     }
 }
 
-/// What stands before a method's descriptor, and the type. Of two faults the lowest kind is told.
+/// What comes before a method's descriptor, and the type. Of two faults the lowest kind is reported.
 #[tactic(auto, unfolding(crate::specs::Operands::typed_in))]
 pub(crate) fn typed<T: FromWord>(alloc: Global, word: &[u8]) -> Result<(T, MethodType), LineError>
     ensures { Gives (λ x. x) result (typed_in T.read word.now) }

@@ -1,4 +1,4 @@
--- Words in which the name of a member stands, both ways: what is read of them is what they spell.
+-- Words that have the name of a member in them, both ways: what is read of them is what they spell.
 use Rattle.std.proofs.Common.{◌≡◌, ℕ, suc, ◌+◌, inl, inr, Bool, true, false, not, cond, eqb, List, [], ◌∷◌, ◌++◌, length, take, drop, Option, Some, None, Ok, refl, sym, ap, ◌∙◌, codes, add-one, one-add, eqb-true, take-append-drop, take_at, drop_at}
 use Rattle.std.specs.List.{list_all}
 use Rattle.std.proofs.lemmas.Bool.{and_from, cases_Bool, not_from_false, false_from_ne_true, and_parts, not-true}
@@ -103,7 +103,7 @@ name_len_is (b ∷ bs) m h = let p = and_parts (not (eqb b 40)) (lacks 40 bs) h 
 pub signature_found : (w : List ℕ) (m : Signature) → method_of_text (type_part w) ≡ Ok m → (w ≡ before_type w ++ method_spelling m) × IsMethodType m
 signature_found w m e = let found = method_found (type_part w) m e in (cc (take-append-drop (name_len w) w, found.0), found.1)
 
--- what stands before a method's descriptor, and the descriptor
+-- what comes before a method's descriptor, and the descriptor
 pub signature_only : (front : List ℕ) (m : Signature) → lacks 40 front ≡ true → IsMethodType m → (before_type (front ++ method_spelling m) ≡ front) × (method_of_text (type_part (front ++ method_spelling m)) ≡ Ok m)
 signature_only front m bare k =
     let at = name_len_is front m bare in

@@ -1,5 +1,5 @@
 -- Which lines spell which class: the file form of the Jasmin user guide. "Own choice" marks this project's own
--- choice (docs/JASMIN.md), where the form is told in words.
+-- choice (docs/JASMIN.md), where the form is described in words.
 use Rattle.std.specs.Prelude.{◌≡◌, ℕ, Bool, true, false, ◌&&◌, ◌||◌, ◌==◌, List, [], ◌∷◌, ◌++◌, length, map, Option, Some, None, unwrap_or, Ok, ℤ, pos, ◌+ℤ◌, int_lt, int_le, neg_ℤ, if◌then◌else◌, codes}
 use Rattle.std.specs.Str.{bytes_eq}
 use Rattle.descriptors.specs.ClassName.{IsClassName}
@@ -40,7 +40,7 @@ use Rattle.jasmin_text.specs.declared.instruction.ReferenceType.TheVariants as r
 abbrev pub no_access : Access
 no_access = record { public = false; private = false; protected = false; is_static = false; is_final = false; synchronized = false; volatile = false; transient = false; is_abstract = false }
 
--- a word more; one that stands already counts once
+-- a word more; one that is there already counts once
 abbrev pub with_word : AccessWord → Access → Access
 with_word word.Public a = record a { public = true }
 with_word word.Private a = record a { private = true }
@@ -59,12 +59,12 @@ abbrev pub is_taken_in : AccessWord → Bool
 is_taken_in word.LeftOut = false
 is_taken_in other = true
 
--- access words, in any order, behind those that stand already; own choice: any of them may stand before any name, and some say nothing
+-- access words, in any order, after those that are there already; own choice: any of them may come before any name, and some say nothing
 pub data IsAccessBy (says : List ℕ → Option AccessWord) : Access → List Item → Access → Type 0 where
   none : {a : Access} → IsAccessBy says a [] a
   more : {w : List ℕ} {k : AccessWord} {rest : List Item} {a b : Access} → says w ≡ Some k → is_taken_in k ≡ true → IsAccessBy says (with_word k a) rest b → IsAccessBy says a (Word w ∷ rest) b
 
--- behind .interface, where the word interface is no access word
+-- after .interface, where the word interface is no access word
 abbrev pub IsAccess : List Item → Access → Type 0
 IsAccess = IsAccessBy access_of no_access
 
@@ -72,7 +72,7 @@ IsAccess = IsAccessBy access_of no_access
 abbrev pub IsMemberAccess : List Item → Access → Type 0
 IsMemberAccess = IsAccessBy member_access_of no_access
 
--- behind .class the word interface makes an interface
+-- after .class the word interface makes an interface
 pub data IsClassAccess : ClassKind → Access → List Item → ClassKind → Access → Type 0 where
   none : {k : ClassKind} {a : Access} → IsClassAccess k a [] k a
   more : {w : List ℕ} {word : AccessWord} {rest : List Item} {k l : ClassKind} {a b : Access} → access_of w ≡ Some word → is_taken_in word ≡ true → IsClassAccess k (with_word word a) rest l b → IsClassAccess k a (Word w ∷ rest) l b
@@ -122,7 +122,7 @@ pub data IsOperands : Form → List Item → Instruction (List ℕ) → Type 0 w
   new : {name : List ℕ} → IsClassName name → IsOperands form.New (Word name ∷ []) (instruction.New name)
   new_array : {b : BaseType} → IsOperands form.NewArray (Word (base_word b) ∷ []) (instruction.NewArray b)
   class : {t : _} {name : List ℕ} → IsClassName name → IsOperands (form.TypeUse t) (Word name ∷ []) (instruction.TypeUse t (reference.Class name))
-  -- the descriptor of an array stands for a class here alone
+  -- the descriptor of an array represents a class here alone
   array : {t : _} {w : List ℕ} {type : FieldType} → field_of_text w ≡ Ok type → (type.dimensions == 0) ≡ false → IsOperands (form.TypeUse t) (Word w ∷ []) (instruction.TypeUse t (reference.Array type))
 
 -- ---- lines
@@ -150,14 +150,14 @@ abbrev pub begins_with_word : List Item → Bool
 begins_with_word (Word w ∷ rest) = true
 begins_with_word other = false
 
--- what a field's line has behind its descriptor; one signature is skipped
+-- what a field's line has after its descriptor; one signature is skipped
 pub data IsValue : List Item → Option Constant → Type 0 where
   none : IsValue [] None
   int : {w : List ℕ} {n : ℤ} → integer_of w ≡ Some n → IsValue (Equals ∷ Word w ∷ []) (Some (constant.Int n))
   text : {t : List ℕ} → IsValue (Equals ∷ Text t ∷ []) (Some (constant.Text t))
   signature : {t : List ℕ} {items : List Item} {value : Option Constant} → IsValue items value → begins_with_word items ≡ false → IsValue (Word (codes "signature") ∷ Text t ∷ items) value
 
--- the class that a row of a handler table catches; the word all always stands for every class
+-- the class that a row of a handler table catches; the word all always represents every class
 pub data IsCaught : List ℕ → Option (List ℕ) → Type 0 where
   all : IsCaught (codes "all") None
   class : {name : List ℕ} → bytes_eq name (codes "all") ≡ false → IsClassName name → IsCaught name (Some name)
@@ -172,7 +172,7 @@ pub data IsInstructionLine : List Item → Row → Type 0 where
 -- a line, by its words
 pub data IsRow : List Item → List Row → Type 0 where
   blank : IsRow [] []
-  -- behind .class the word interface is an access word and no name
+  -- after .class the word interface is an access word and no name
   class : {items : List Item} {k : ClassKind} {a : Access} {name : List ℕ} → (access : List Item) → items ≡ access ++ Word name ∷ [] → IsClassAccess kind.Class no_access access k a → IsClassName name
       → bytes_eq name (codes "interface") ≡ false → IsRow (Word (codes ".class") ∷ items) (ClassRow k a name ∷ [])
   interface : {items : List Item} {a : Access} {name : List ℕ} → (access : List Item) → items ≡ access ++ Word name ∷ [] → IsAccess access a → IsClassName name
@@ -197,7 +197,7 @@ pub data IsRow : List Item → List Row → Type 0 where
   default : {l : List ℕ} → is_label l ≡ true → IsRow (Word (codes "default") ∷ Colon ∷ Word l ∷ []) (DefaultRow l ∷ [])
 
 -- The rows of a line, by its words, none of which is wrong or too long. Where a directive is skipped, nothing
--- behind it is looked at.
+-- after it is looked at.
 pub data AreRowsOf : List Item → List Row → Type 0 where
   skipped : {w : List ℕ} {rest : List Item} → directive_at w ≡ Some directive.Skipped → AreRowsOf (Word w ∷ rest) []
   of_words : {items : List Item} {rows : List Row} → AreWords items → IsRow items rows → AreRowsOf items rows
@@ -216,7 +216,7 @@ pub record Catch : Type 0 where
   pub to : List ℕ
   pub handler : List ℕ
 
--- What stands in a method so far, with labels as targets.
+-- What is in a method so far, with labels as targets.
 pub record Body : Type 0 where
   pub stack : ℕ
   pub locals : ℕ
@@ -256,12 +256,12 @@ abbrev pub lacks_key : ℤ → Cases → Bool
 lacks_key key [] = true
 lacks_key key (c ∷ cs) = (int_lt key c.0 || int_lt c.0 key) && lacks_key key cs
 
--- cases, each at its place among those before it: the keys may stand in any order, and none stands twice
+-- cases, each at its place among those before it: the keys may come in any order, and none comes twice
 pub data AreSorted : Cases → Cases → Cases → Type 0 where
   none : {sorted : Cases} → AreSorted sorted [] sorted
   more : {c : ℤ × List ℕ} {cs sorted all : Cases} → lacks_key c.0 sorted ≡ true → AreSorted (with_case c sorted) cs all → AreSorted sorted (c ∷ cs) all
 
--- what rows add to what stands in a method: the last limit counts, and no label stands twice
+-- what rows add to what is in a method: the last limit counts, and no label comes twice
 pub data IsBody : Body → List Row → Body → Type 0 where
   none : {b : Body} → IsBody b [] b
   stack : {n : ℕ} {rows : List Row} {b c : Body} → IsBody (record b { stack = n }) rows c → IsBody b (StackRow n ∷ rows) c
@@ -314,7 +314,7 @@ pub record IsCodeOf (b : Body) (code : Code) : Type 0 where
   pub handlers : Each (IsPlacedRow b.labels) b.catches code.handlers
   pub instructions : Each (IsPlaced b.labels) b.instructions code.instructions
 
--- own choice: under abstract only limits may stand, and they say nothing
+-- own choice: under abstract only limits are allowed, and they say nothing
 pub record IsNoBody (b : Body) : Type 0 where
   pub labels : b.labels ≡ []
   pub catches : b.catches ≡ []
@@ -326,7 +326,7 @@ IsCodeOrNone b (Some code) = IsCodeOf b code
 
 -- ---- the class
 
--- What stands in a class so far, behind the line that names it.
+-- What is in a class so far, after the line that names it.
 pub record Members : Type 0 where
   pub superclass : Option (List ℕ)
   pub interfaces : List (List ℕ)
@@ -340,7 +340,7 @@ no_members = record { superclass = None; interfaces = []; fields = []; methods =
 abbrev pub IsHeader : Members → Type 0
 IsHeader m = (m.fields ≡ []) × (m.methods ≡ [])
 
--- what rows add to what stands in a class: at most one superclass; fields and methods are mixed
+-- what rows add to what is in a class: at most one superclass; fields and methods are mixed
 pub data AreMembers : Members → List Row → Members → Type 0 where
   none : {m : Members} → AreMembers m [] m
   super : {name : List ℕ} {rows : List Row} {m n : Members} → IsHeader m → m.superclass ≡ None → AreMembers (record m { superclass = Some name }) rows n → AreMembers m (SuperRow name ∷ rows) n

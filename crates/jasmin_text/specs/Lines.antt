@@ -2,7 +2,7 @@
 use Rattle.std.specs.Prelude.{ℕ, ◌+◌, List, [], ◌∷◌, ◌==◌, if◌then◌else◌}
 use Rattle.sequence.specs.Parts.{with_byte}
 
--- how many bytes stand before the line's end
+-- how many bytes come before the line's end
 abbrev pub line_len : List ℕ → ℕ
 line_len [] = 0
 line_len (b ∷ bs) = if b == 10 then 0 else 1 + line_len bs

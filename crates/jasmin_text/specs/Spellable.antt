@@ -101,7 +101,7 @@ abbrev pub is_constant : Constant → Bool
 is_constant (constant.Int n) = is_int n
 is_constant (constant.Text text) = is_string text
 
--- the keys rise behind this one
+-- the keys rise after this one
 abbrev pub rises_from : ℤ → List (ℤ × ℕ) → Bool
 rises_from key [] = true
 rises_from key (c ∷ cs) = int_lt key c.0 && rises_from c.0 cs
@@ -167,7 +167,7 @@ is_method m =
     && not (m.access.is_abstract && m.access.is_static) && (if bytes_eq m.name (codes "<clinit>") then may_initialize m.access m.method_type else true)
     && is_optional_code m.access.is_abstract m.code
 
--- behind .class the word interface is an access word
+-- after .class the word interface is an access word
 abbrev pub is_taken : ClassKind → List ℕ → Bool
 is_taken kind.Class name = if bytes_eq name (codes "interface") then true else is_access_word name
 is_taken kind.Interface name = is_access_word name

@@ -1,7 +1,7 @@
 //! Access words.
 
 /// The access words of a class, a field or a method (JVMS SE 8 tables 4.1-A, 4.5-A, 4.6-A): a set, which is
-/// written in the order of these fields. Any of them may stand in all three places, but `abstract` and
+/// written in the order of these fields. Any of them may come in all three places, but `abstract` and
 /// `static` not on one method.
 #[derive(Clone, Copy)]
 pub struct Access {

@@ -1,6 +1,6 @@
 //! Values in memory of their own.
 //!
-//! A large operand of an instruction stands in memory of its own, so that an instruction without it stays small.
+//! A large operand of an instruction is kept in memory of its own, so that an instruction without it stays small.
 
 ghost use Rattle.std.specs.Prelude.{◌≡◌, IfOk};
 
@@ -20,7 +20,7 @@ impl<T> Model for Boxed<T> {
 }
 
 impl<T: Drop> Boxed<T> {
-    /// The value in memory of its own. An `Err` is out of memory, and the value is dropped.
+    /// The value in memory of its own. An `Err` means out of memory, and the value is dropped.
     pub fn new(alloc: Global, value: T) -> Result<Self, AllocError>
         ensures { IfOk result (λ boxed. boxed ≡ value) }
     {

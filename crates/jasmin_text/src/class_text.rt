@@ -48,14 +48,14 @@ impl Drop for Field {
     }
 }
 
-/// A row of a handler table (JVMS SE 8 4.7.3). Rows stand in file order, and an empty range holds nothing.
+/// A row of a handler table (JVMS SE 8 4.7.3). Rows are in file order, and an empty range holds nothing.
 #[derive(Drop)]
 pub struct Handler {
     /// The class that is caught, `None` for all.
     pub class: Option<ClassName>,
     /// The first place of the range.
     pub from: u16,
-    /// The place behind the range.
+    /// The place after the range.
     pub to: u16,
     /// The place of the handler.
     pub handler: u16,
@@ -71,7 +71,7 @@ pub struct Code {
     /// The handler table.
     pub handlers: Sequence<Handler>,
     /// The instructions, one at least and 16,384 at most, where a switch counts one more for each label or key. Their
-    /// places count from 0; a target may also be the place behind the last.
+    /// places count from 0; a target may also be the place after the last.
     pub instructions: Sequence<Instruction<u16>>,
 }
 

@@ -6,7 +6,7 @@ ghost use Rattle.jasmin_text.specs.Forms.{form_at, directive_at, is_left_out};
 use crate::instruction::{Call, FieldAccess, Jump, Local, Plain, TypeUse};
 use crate::table::{find, stands_in};
 
-/// What an instruction's word asks for behind it.
+/// What an instruction's word asks for after it.
 #[derive(Clone, Copy, PartialEq, Eq)]
 pub enum Form {
     /// No operand.
@@ -46,7 +46,7 @@ pub enum Form {
 }
 
 /// The words of instructions that are common in code, with what each asks for. A word is compared with one row after the other, here
-/// and then in [`OTHER_FORMS`], so the commonest stand first. Of several words that ask for the same, the canonical spelling has the first.
+/// and then in [`OTHER_FORMS`], so the commonest come first. Of several words that ask for the same, the canonical spelling has the first.
 pub const COMMON_FORMS: [(&[u8], Form); 56] = [
     (b"iload_1", Form::LocalAt(Local::ILoad, 1)),
     (b"aload_0", Form::LocalAt(Local::ALoad, 0)),

@@ -238,7 +238,7 @@ impl Drop for MethodReference {
 }
 
 /// An instruction whose targets are of type `L`: places, which are numbers of instructions, in a class text,
-/// and names of labels while a method is read. Operands that are large stand in memory of their own, so that an
+/// and names of labels while a method is read. Operands that are large are kept in memory of their own, so that an
 /// instruction of a class text takes 24 bytes.
 #[derive(Drop)]
 pub enum Instruction<L> {

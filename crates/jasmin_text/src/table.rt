@@ -55,7 +55,7 @@ pub const ACCESS_WORDS: [(&[u8], AccessWord); 19] = [
     (b"native", AccessWord::LeftOut),
 ];
 
-/// What stands beside the word in the table's first row of it.
+/// What is beside the word in the table's first row of it.
 pub fn find<T: Copy>(word: &[u8], table: &[(&[u8], T)]) -> Option<T>
     ensures { result ≡ find_row word.now (rows table.now) }
 {

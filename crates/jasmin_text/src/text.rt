@@ -11,7 +11,7 @@ use std::marker::Model;
 /// It leaves out what no file spells: a class or a field with an access word for its name, a class named `all`
 /// in a handler table, a method with `abstract` and `static`, a body under `abstract` or none without it, a
 /// `<clinit>` that isn't static and void without parameters, a value that doesn't fit its field's type, keys
-/// of a `lookupswitch` that don't rise, a target behind the end, and what is beyond a limit: 255 direct
+/// of a `lookupswitch` that don't rise, a target after the end, and what is beyond a limit: 255 direct
 /// superinterfaces, 1,024 members, 16,384 instructions with the labels and keys of switches, 1,024 operands
 /// and locals, words and strings of 65,535 bytes. Contracts see a class text as its parts.
 pub struct ClassText {

@@ -57,7 +57,7 @@ starts b w h =
     let q = and_parts (is_plain b) (not (is_parting b)) p.0 in
     not-true (is_parting b) q.1
 
--- a byte that parts no word is none of those that do
+-- a byte that separates no words is none of those that do
 parts_none : (b : ℕ) → is_parting b ≡ false → (is_blank b ≡ false) × (eqb b 34 ≡ false) × (eqb b 58 ≡ false) × (eqb b 61 ≡ false)
 parts_none b e =
     let go : (p q r s : Bool) → (p || q || r || s) ≡ false → (p ≡ false) × (q ≡ false) × (r ≡ false) × (s ≡ false) = λ p q r s. elim p as (λ p. (p || q || r || s) ≡ false → (p ≡ false) × (q ≡ false) × (r ≡ false) × (s ≡ false)) [

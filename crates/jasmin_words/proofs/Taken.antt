@@ -27,7 +27,7 @@ open_text e (b ∷ s) =
     ] in
     go (not e && eqb b 34) refl
 
--- where the text ends, a quote stands
+-- what is left begins with a quote, or nothing is left
 abbrev EndsQuoted : List ℕ → Type 0
 EndsQuoted [] = Unit {0}
 EndsQuoted (b ∷ s) = b ≡ 34
@@ -104,7 +104,7 @@ ends_after (b ∷ bs) =
     ] in
     go (is_parting b) refl
 
--- what stands before the first byte that parts words has none that does
+-- what comes before the first byte that separates words has none that does
 pub none_part : (s : List ℕ) → list_all is_plain (take (word_len s) s) ≡ true → list_all (λ x. is_plain x && not (is_parting x)) (take (word_len s) s) ≡ true
 none_part [] h = refl
 none_part (b ∷ bs) h =

@@ -12,7 +12,7 @@ use Rattle.sequence.proofs.Results.{HoldsIn, cond_in, in_at}
 use Rattle.jasmin_words.specs.Escapes.{is_hex, escape}
 use Rattle.jasmin_words.specs.Spelling.{IsUnit, IsQuoted, nothing, plain, escaped, unicode, pair}
 
--- a text may be cut before and behind an ASCII byte
+-- a text may be cut before and after an ASCII byte
 pub cut : (p : List ℕ) (b : ℕ) (t : List ℕ) → b < 128 → IsUtf8 (p ++ b ∷ t) → IsUtf8 p × IsUtf8 t
 cut p b t less u =
     let seam : get_or (p ++ b ∷ t) (length p) 0 ≡ b = get_or-append_seam p b t 0 in
@@ -62,7 +62,7 @@ unit_small a b c d unit u =
     let t = ltb-true (digit_value d) 16 u.3 in
     omega (arith, u.4)
 
--- behind four hexadecimal digits
+-- after four hexadecimal digits
 behind : (a b c d unit : ℕ) (t : List ℕ) → IsUnit a b c d unit → IsUtf8 (a ∷ b ∷ c ∷ d ∷ t) → IsUtf8 t
 behind a b c d unit t u h =
     let p = (cut [] a (b ∷ c ∷ d ∷ t) (hex_ascii a u.0) h).1 in

@@ -50,7 +50,7 @@ unicode_at bytes = unit_at bytes >>= λ unit.
     else if is_high_surrogate unit.0 then low_at unit.0 unit.1
     else Ok (Char unit.0, unit.1)
 
--- what a letter behind a backslash means
+-- what a letter after a backslash means
 abbrev pub escape : ℕ → Option ℕ
 escape e =
     if e == 110 then Some 10

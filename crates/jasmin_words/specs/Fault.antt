@@ -1,4 +1,4 @@
--- The numbers of the kinds of fault. The lower number is told first.
+-- The numbers of the kinds of fault. The lower number is reported first.
 use Rattle.std.specs.Prelude.{ℕ}
 use Rattle.jasmin_words.specs.declared.fault.FaultKind.{FaultKind}
 use Rattle.jasmin_words.specs.declared.fault.FaultKind.TheVariants.{BadByte, UnknownDirective, UnknownInstruction, LeftOut, BadOperand, UnknownLabel, RepeatedLabel, Unfinished, Misplaced, BadDescriptor, LimitExceeded, BadInitializer, BadBody, NoMemory}

@@ -50,7 +50,7 @@ most_bytes = 65535
 abbrev pub fits : List ℕ → Bool
 fits bytes = nat_le (length bytes) most_bytes
 
--- how many bytes stand before the first that parts words
+-- how many bytes come before the first that separates words
 abbrev pub word_len : List ℕ → ℕ
 word_len [] = 0
 word_len (b ∷ bs) = if is_parting b then 0 else 1 + word_len bs
@@ -62,8 +62,8 @@ word_item word = if list_all is_plain word then Word word else BadWord
 unfoldable pub word_at : List ℕ → Item × List ℕ
 word_at bytes = (word_item (take (word_len bytes) bytes), drop (word_len bytes) bytes)
 
--- how many bytes stand before the closing quote, or before the line's end; escaped says whether a backslash
--- stands before them that is none itself
+-- how many bytes come before the closing quote, or before the line's end; escaped says whether a backslash
+-- comes before them that is none itself
 abbrev pub raw_len : Bool → List ℕ → ℕ
 raw_len escaped [] = 0
 raw_len escaped (b ∷ bs) = if not escaped && b == 34 then 0 else 1 + raw_len (not escaped && b == 92) bs
@@ -84,7 +84,7 @@ abbrev pub closed_at : List ℕ → List ℕ → Item × List ℕ
 closed_at raw [] = (string_item false raw, [])
 closed_at raw (quote ∷ after) = (string_item true raw, after)
 
--- the string behind its opening quote, and what follows its closing one
+-- the string after its opening quote, and what follows its closing one
 unfoldable pub string_at : List ℕ → Item × List ℕ
 string_at bytes = closed_at (take (raw_len false bytes) bytes) (drop (raw_len false bytes) bytes)
 
@@ -99,7 +99,7 @@ token_at fresh (b ∷ bs) =
     else if b == 34 then Some (string_at bs)
     else Some (word_at (b ∷ bs))
 
--- what comes behind the next word
+-- what comes after the next word
 abbrev pub after_token : (List ℕ → List Item) → Option (Item × List ℕ) → List Item
 after_token next None = []
 after_token next (Some x) = x.0 ∷ next x.1

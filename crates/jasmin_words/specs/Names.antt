@@ -9,7 +9,7 @@ use Rattle.jasmin_words.specs.Spelling.{is_word_byte}
 abbrev pub is_name_byte : ℕ → Bool
 is_name_byte b = is_word_byte b && not (b == 46) && not (b == 59) && not (b == 91) && not (b == 47) && not (b == 40) && not (b == 41) && not (b == 60) && not (b == 62)
 
--- JVMS SE 8 4.2.2: <init>, <clinit>, or one byte or more that may stand in a name
+-- JVMS SE 8 4.2.2: <init>, <clinit>, or one byte or more that may be in a name
 unfoldable pub is_member_name : List ℕ → Bool
 is_member_name name = bytes_eq name (codes "<init>") || bytes_eq name (codes "<clinit>") || (is_some_byte name && list_all is_name_byte name)
 

@@ -4,7 +4,7 @@ use Rattle.std.specs.List.{flat_map}
 use Rattle.std.specs.Char.{digit_char}
 
 -- A quote, a backslash, LF, TAB and CR have a letter; other bytes below 32 and 127 have \u and four lower case
--- hexadecimal digits; every other byte stands for itself.
+-- hexadecimal digits; every other byte represents itself.
 abbrev pub quoted_byte : ℕ → List ℕ
 quoted_byte b =
     if b == 34 then 92 ∷ 34 ∷ []

@@ -14,7 +14,7 @@ IsUnit a b c d unit =
     × (unit ≡ ((digit_value a * 16 + digit_value b) * 16 + digit_value c) * 16 + digit_value d)
 
 -- The bytes between the quotes, as they are written, and the bytes that they mean. The document for users has
--- the escapes; a high and a low surrogate side by side are one character, and no single one may stand.
+-- the escapes; a high and a low surrogate side by side are one character, and no single one is allowed.
 pub data IsQuoted : List ℕ → List ℕ → Type 0 where
   nothing : IsQuoted [] []
   plain : {b : ℕ} {text bytes : List ℕ} → (b == 34) ≡ false → (b == 92) ≡ false → IsQuoted text bytes → IsQuoted (b ∷ text) (b ∷ bytes)
@@ -24,7 +24,7 @@ pub data IsQuoted : List ℕ → List ℕ → Type 0 where
   pair : {high low : ℕ} {text all bytes : List ℕ} → (a b c d e f g h : ℕ) → IsUnit a b c d high → is_high_surrogate high ≡ true → IsUnit e f g h low → is_low_surrogate low ≡ true
       → all ≡ encode_utf8 (surrogate_pair_char high low) ++ bytes → IsQuoted text bytes → IsQuoted (92 ∷ 117 ∷ a ∷ b ∷ c ∷ d ∷ 92 ∷ 117 ∷ e ∷ f ∷ g ∷ h ∷ text) all
 
--- a word ends at the line's end or where a byte parts words
+-- a word ends at the line's end or where a byte separates words
 abbrev pub Ends : List ℕ → Type 0
 Ends [] = Unit {0}
 Ends (b ∷ bs) = is_parting b ≡ true
@@ -33,12 +33,12 @@ Ends (b ∷ bs) = is_parting b ≡ true
 abbrev pub is_word_byte : ℕ → Bool
 is_word_byte b = is_plain b && not (is_parting b)
 
--- bytes that stand for themselves, none of them parting; where whitespace stands before them, not a comment
+-- bytes that represent themselves, none of them separating words; where whitespace comes before them, not a comment
 abbrev pub IsWord : Bool → List ℕ → Type 0
 IsWord fresh [] = ⊥
 IsWord fresh (b ∷ bs) = ((b == 59 && fresh) ≡ false) × (list_all is_word_byte (b ∷ bs) ≡ true)
 
--- The line is spelled by these words. fresh says whether whitespace or the line's start stands before it.
+-- The line is spelled by these words. fresh says whether whitespace or the line's start comes before it.
 -- A comment begins at a semicolon there. Words and strings have at most 65,535 bytes.
 pub data IsSpelled : Bool → List ℕ → List Item → Type 0 where
   ends : {fresh : Bool} → IsSpelled fresh [] []

@@ -71,7 +71,7 @@ fn is_low(unit: u32) -> bool
     0xDC00 <= unit && unit < 0xE000
 }
 
-/// The character of a high surrogate and of the escaped low one behind it.
+/// The character of a high surrogate and of the escaped low one after it.
 #[tactic(auto, unfolding(crate::specs::Escapes::low_at))]
 fn low_of(high: u32, bytes: &[u8]) -> Read<'_, Part>
     requires low { 55296 ≤ high }
@@ -112,7 +112,7 @@ fn unicode_of(bytes: &[u8]) -> Read<'_, Part>
     }
 }
 
-/// What an escape means, behind its backslash.
+/// What an escape means, after its backslash.
 #[tactic(auto, unfolding(crate::specs::Escapes::escape_at))]
 fn escape_of(bytes: &[u8]) -> Read<'_, Part>
     ensures { Gives (λ x. (x.0, x.1.now)) result (escape_at bytes.now) }
@@ -161,7 +161,7 @@ fn push_part(text: &mut Vec<u8>, part: Part) -> Result<(), AllocError>
 
 /// The bytes that the inside of a written string means.
 ///
-/// An error is the first wrong escape from the left, one that the text's end cuts, or want of memory.
+/// An error is the first wrong escape from the left, one that the text's end cuts, or being out of memory.
 pub(crate) fn unescape(alloc: Global, bytes: &[u8]) -> Result<Vec<u8>, Refusal<EscapeFault>>
     ensures { Gives (λ text. text.items) result (unescaped bytes.now) }
 {

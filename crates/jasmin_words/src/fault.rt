@@ -6,7 +6,7 @@ ghost use Rattle.jasmin_words.specs.Fault.{number_of};
 use std::error::Error;
 use std::fmt;
 
-/// What is wrong with a Jasmin file. Of several faults at one place the lowest kind is told, in the order of
+/// What is wrong with a Jasmin file. Of several faults at one place the lowest kind is reported, in the order of
 /// this list. A kind prints as its code, `J1` to `J14`.
 #[derive(Clone, Copy, Debug)]
 pub enum FaultKind {
@@ -27,7 +27,7 @@ pub enum FaultKind {
     RepeatedLabel,
     /// `J8`: a string without its closing quote, or a method without its end, met at the last line.
     Unfinished,
-    /// `J9`: a directive where it may not stand, an instruction outside a method, a second `.class` or
+    /// `J9`: a directive where it isn't allowed, an instruction outside a method, a second `.class` or
     /// `.super`, no `.class` at all (met at line 1).
     Misplaced,
     /// `J10`: a descriptor that is none.

@@ -8,7 +8,7 @@ ghost use Rattle.jasmin_words.specs.Integers.{number_after, magnitude_of, positi
 use itoa::Buffer;
 use sequence::Writer;
 
-/// The number that the digits go on from `value`, if it is below 2 to the 32nd.
+/// The number that the digits spell in this base, if it is below 2 to the 32nd.
 fn number(base: u32, digits: &[u8]) -> Option<u32>
     requires low { 2 ≤ base }
     requires up { base ≤ 16 }
@@ -72,7 +72,7 @@ fn by_pattern(magnitude: Option<u32>) -> Option<i32>
     }
 }
 
-/// The integer that a word stands for, if it stands for one.
+/// The integer that a word represents, if it represents one.
 #[tactic(auto, unfolding(crate::specs::Integers::integer_of))]
 fn integer_in(word: &[u8]) -> Option<i32>
     ensures { result ≡ integer_of word.now }
@@ -91,7 +91,7 @@ fn integer_in(word: &[u8]) -> Option<i32>
     }
 }
 
-/// The integer that a word stands for: decimal digits, or a minus and decimal digits, in the 32 bits of an
+/// The integer that a word represents: decimal digits, or a minus and decimal digits, in the 32 bits of an
 /// int, or `0x` and one to eight hexadecimal digits, the pattern of 32 bits. Zeros may lead.
 ///
 /// `None` is for every other word. Takes no memory.

@@ -4,7 +4,7 @@
 //! word's place, so that a reader meets it only if it looks there. A line of which no word is wrong is
 //! spelled by its words, and a line that words spell is cut into them (`IsSpelled`).
 //!
-//! Beside it, what stands in words is read and written: integers, member names, labels, and the strings of
+//! Beside it, what is in words is read and written: integers, member names, labels, and the strings of
 //! files and of traces, whose one canonical spelling [`quote::push_quoted`] writes.
 #![tactic(auto)]
 

@@ -92,7 +92,7 @@ fn word_token(word: &[u8]) -> Token<'_>
     }
 }
 
-/// The word that the bytes begin with, and the bytes behind it.
+/// The word that the bytes begin with, and the bytes after it.
 #[tactic(auto, unfolding(crate::specs::Lexing::word_at))]
 fn word_of(bytes: &[u8]) -> (Token<'_>, &[u8])
     ensures { (view result.0, result.1.now) ≡ word_at bytes.now }
@@ -101,7 +101,7 @@ fn word_of(bytes: &[u8]) -> (Token<'_>, &[u8])
     (word_token(word), rest)
 }
 
-/// How many bytes stand before the closing quote, or before the line's end.
+/// How many bytes come before the closing quote, or before the line's end.
 fn raw_length(bytes: &[u8]) -> usize
     ensures value { result ≡ raw_len false bytes.now }
     ensures within { result ≤ length bytes.now }
@@ -161,7 +161,7 @@ fn string_token(alloc: Global, raw: &[u8], closed: bool) -> Result<Token<'static
     }
 }
 
-/// The string behind its opening quote, and the bytes behind its closing one.
+/// The string after its opening quote, and the bytes after its closing one.
 #[tactic(auto, unfolding(crate::specs::Lexing::string_at))]
 fn string_of(alloc: Global, bytes: &[u8]) -> Result<(Token<'_>, &[u8]), AllocError>
     ensures { IfOk result (λ x. (view x.0, x.1.now) ≡ string_at bytes.now) }
@@ -173,7 +173,7 @@ fn string_of(alloc: Global, bytes: &[u8]) -> Result<(Token<'_>, &[u8]), AllocErr
     }
 }
 
-/// The next word and the bytes behind it; `fresh` says whether a comment may begin here.
+/// The next word and the bytes after it; `fresh` says whether a comment may begin here.
 #[tactic(auto, unfolding(crate::specs::Lexing::token_at))]
 fn token_of(
     alloc: Global,
@@ -218,9 +218,9 @@ fn all_words(alloc: Global, line: &[u8]) -> Result<Vec<Token<'_>>, AllocError>
 
 /// The words of a line, from the left.
 ///
-/// Spaces, tabs and CR part words. A `;` at the line's start or behind whitespace begins a comment, to the
+/// Spaces, tabs and CR separate words. A `;` at the line's start or after whitespace begins a comment, to the
 /// line's end. Outside strings `=` and `:` are words by themselves, and a `"` begins a string wherever it
-/// stands. Every line has words; only memory can run out.
+/// is. Every line has words; only memory can run out.
 pub fn words(alloc: Global, line: &[u8]) -> Result<Vec<Token<'_>>, AllocError>
     // The words are those of the reading function.
     ensures exact { IfOk result (λ tokens. views tokens.items ≡ words_of line.now) }

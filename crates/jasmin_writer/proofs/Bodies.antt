@@ -1,4 +1,4 @@
--- The canonical lines of a body say rows that stand in a body for its code.
+-- The canonical lines of a body say rows that represent its code in a body.
 use Rattle.std.proofs.Common.{◌≡◌, ℕ, ◌+◌, ◌<◌, ◌≤◌, Bool, true, false, eqb, List, [], ◌∷◌, ◌++◌, map, length, length-append, Some, inl, inr, refl, sym, ap, ◌∙◌, subst, append_assoc, arith}
 use Rattle.std.specs.Prelude.{ℤ, nat_le}
 use Rattle.std.specs.List.{list_all, flat_map}

@@ -1,4 +1,4 @@
--- Canonical lines of instructions say their rows, which stand in a body for the instruction.
+-- Canonical lines of instructions say their rows, which represent the instruction in a body.
 use Rattle.std.proofs.Common.{◌≡◌, ℕ, ◌<◌, Bool, true, false, not, ◌&&◌, eqb, List, [], ◌∷◌, ◌++◌, map, None, refl, sym, subst, ap, append_assoc, arith}
 use Rattle.std.specs.Prelude.{ℤ, nat_le, int_lt}
 use Rattle.std.specs.List.{list_all}
@@ -129,11 +129,11 @@ still_below c key (d ∷ ds) h less =
     let p = and_parts (int_lt d.0 c.0) (are_below c.0 ds) h in
     and_from (int_lt d.0 key) (are_below key (ds ++ c ∷ [])) (lt_trans d.0 c.0 key p.0 less) (still_below c key ds p.1 less)
 
--- one case more, behind all that stand
+-- one case more, after all that are there
 put_behind : (before : Cases) (c : ℤ × List ℕ) (cs all : Cases) → are_below c.0 before ≡ true → AreSorted (before ++ c ∷ []) cs all → AreSorted before (c ∷ cs) all
 put_behind before c cs all below h = let last = put_last c before below in more last.0 (subst (λ (s : Cases). AreSorted s cs all) (sym last.1) h)
 
--- rising keys stand in their order
+-- rising keys are in their order
 sorted_from : (before : Cases) (c : ℤ × ℕ) (cs : List (ℤ × ℕ)) → are_below c.0 before ≡ true → rises_from c.0 cs ≡ true → AreSorted before (map case_by_label (c ∷ cs)) (before ++ map case_by_label (c ∷ cs))
 sorted_from before c [] below h = put_behind before (case_by_label c) [] _ below none
 sorted_from before c (d ∷ ds) below h =

@@ -55,7 +55,7 @@ found places place (i ∷ is) p n low high fit = elim (cases_eq p place) as (λ 
       passed (is_named places place) place p (labels_from places (place + 1) is) (omega arith) (omega arith) other ∙ found places (place + 1) is p n low_then (omega arith) (omega arith)
 ]
 
--- the labels of places from this one on don't stand there yet
+-- the labels of places from this one on aren't there yet
 abbrev pub IsNewFrom : ℕ → List (List ℕ × ℕ) → Type 0
 IsNewFrom place labels = (p : ℕ) → place ≤ p → p < 65536 → place_of labels (label_text p) ≡ None
 

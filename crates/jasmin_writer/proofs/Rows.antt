@@ -36,7 +36,7 @@ pub label_word : (n : ℕ) → n < 2 ^ 64 → IsWordText (label_text n)
 unfolding label_text
 label_word n h = byte_word 76 (decimal n) refl (decimal_word n h)
 
--- a word that begins with no semicolon is one wherever it stands
+-- a word that begins with no semicolon is one wherever it is
 abbrev pub IsFixed : List ℕ → Type 0
 IsFixed w = IsWord true w × (fits w ≡ true)
 

@@ -34,7 +34,7 @@ ended line = line ++ 10 ∷ []
 abbrev pub ended_all : List (List ℕ) → List ℕ
 ended_all lines = flat_map ended lines
 
--- a word behind a space, where it stands
+-- a word after a space, where it is written
 abbrev pub word_if : Bool → Keyword → List ℕ
 word_if true w = spelled w
 word_if false w = []
@@ -48,7 +48,7 @@ binding_text a = word_if a.is_static word.Static ++ word_if a.is_final word.Fina
 unfoldable pub storage_text : Access → List ℕ
 storage_text a = word_if a.volatile word.Volatile ++ word_if a.transient word.Transient ++ word_if a.is_abstract word.Abstract
 
--- the access words, each behind a space
+-- the access words, each after a space
 unfoldable pub access_text : Access → List ℕ
 access_text a = visibility_text a ++ binding_text a ++ storage_text a
 
@@ -166,7 +166,7 @@ lines_if false line = []
 abbrev pub place_lines : List ℕ → ℕ → List (List ℕ)
 place_lines places place = lines_if (is_named places place) (label_line place)
 
--- the instructions from a place on, each behind its label
+-- the instructions from a place on, each after its label
 unfoldable pub body_lines : List ℕ → ℕ → List (Instruction ℕ) → List (List ℕ)
 body_lines places place [] = place_lines places place
 body_lines places place (i ∷ is) = place_lines places place ++ instruction_lines i ++ body_lines places (place + 1) is

@@ -1,4 +1,4 @@
--- The fixed words of the canonical spelling but those of instructions, with the spaces that stand round them.
+-- The fixed words of the canonical spelling but those of instructions, with the spaces round them.
 use Rattle.std.specs.Prelude.{ℕ, List, codes}
 use Rattle.jasmin_writer.specs.declared.keyword.Keyword.{Keyword}
 use Rattle.jasmin_writer.specs.declared.keyword.Keyword.TheVariants as word

@@ -6,7 +6,7 @@ ghost use Rattle.jasmin_writer.specs.Keywords.{spelled};
 
 use sequence::Writer;
 
-/// The fixed words of the canonical spelling but those of instructions, with the spaces that stand round them.
+/// The fixed words of the canonical spelling but those of instructions, with the spaces round them.
 #[derive(Clone, Copy)]
 pub(crate) enum Keyword {
     Class,

@@ -42,7 +42,7 @@ pub fn strings_are_read_again()
         → IsSpelled false rest words → IsSpelled fresh (quoted bytes ++ rest) (Text bytes ∷ words) }
 {}
 
-/// Names, descriptors, numbers and labels as they are written have only bytes of words, so that each stands
+/// Names, descriptors, numbers and labels as they are written have only bytes of words, so that each is
 /// in one word of its line.
 pub fn parts_are_words()
     ensures class { (name : List ℕ) → is_class_name name ≡ true → list_all is_word_byte name ≡ true }

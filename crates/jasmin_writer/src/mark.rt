@@ -8,7 +8,7 @@ ghost use Rattle.jasmin_writer.specs.Marks.{IsMarked};
 use jasmin_text::{Code, Handler, Instruction};
 use std::alloc::{AllocError, Global};
 
-/// Marks a place. One behind the list isn't marked.
+/// Marks a place. One after the list isn't marked.
 fn mark(marks: &mut Vec<bool>, place: u16)
     ensures { (n : ℕ) (places : List ℕ) → IsMarked n marks.old.items places → IsMarked n marks.new.items (places ++ place ∷ []) }
 {
@@ -75,7 +75,7 @@ fn mark_instructions(marks: &mut Vec<bool>, instructions: &[Instruction<u16>])
     }
 }
 
-/// For each place of the body, and the one behind the last, whether the body names it.
+/// For each place of the body, and the one after the last, whether the body names it.
 pub(crate) fn marks(alloc: Global, code: &Code) -> Result<Vec<bool>, AllocError>
     ensures { IfOk result (λ marks. IsMarked (length code.now.instructions + 1) marks.items (code_places code.now)) }
 {

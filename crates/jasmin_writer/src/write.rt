@@ -219,7 +219,7 @@ fn push_place(text: &mut Writer, stands: bool, place: usize)
     }
 }
 
-/// The instructions, each behind its label.
+/// The instructions, each after its label.
 fn push_body(alloc: Global, text: &mut Writer, code: &Code, marks: &[bool])
     requires { IsMarked (length code.now.instructions + 1) marks.now (code_places code.now) }
     ensures { Adds text.old (ended_all (body_lines (code_places code.now) 0 code.now.instructions)) text.new }
@@ -287,11 +287,11 @@ fn write_parts(alloc: Global, class: &ClassParts) -> Result<Vec<u8>, AllocError>
     text.into_text()
 }
 
-/// The one canonical spelling of a class: one space between words, no indentation, LF at each line's end.
+/// The one canonical spelling of a class: one space between words but before a label's colon, no indentation, LF at each line's end.
 ///
-/// `.class` or `.interface` stands first, then `.super`, `.implements` lines, fields, methods. A method's
-/// limits stand before its handler table, that before its instructions. Each place that is named has the
-/// label `L` with its number on a line of its own. An `Err` is want of memory.
+/// `.class` or `.interface` comes first, then `.super`, `.implements` lines, fields, methods. A method's
+/// limits come before its handler table, that before its instructions. Each place that is named has the
+/// label `L` with its number on a line of its own. An `Err` means out of memory.
 pub fn write_class(alloc: Global, class: &ClassText) -> Result<Vec<u8>, AllocError>
     ensures { IfOk result (λ text. text.items ≡ canonical_text class.now) }
 {

@@ -12,7 +12,7 @@ use std::sync::Wait;
 use std::thread::Threads;
 use std::{env, io};
 
-/// Tells why the words of the command line can't be had, and answers the exit status: want of memory, or a
+/// Reports why the words of the command line can't be had, and answers the exit status: being out of memory, or a
 /// word that isn't text.
 fn tell_no_words<E: Write>(error: &io::Error, err: &mut E) -> u8
     ensures { result ≤ 3 }
@@ -56,7 +56,7 @@ fn serve_with<R: Threads + Wait + Sync, N: Named, O: Write, E: Write>(
     serve(rt, alloc, words, files, out, err)
 }
 
-/// Does what the words of the command line ask for, and answers the exit status. An `Err` is want of memory.
+/// Does what the words of the command line ask for, and answers the exit status. An `Err` means out of memory.
 fn answer<R: Files + Threads + Wait + Sync, O: Write, E: Write>(
     rt: &R,
     alloc: Global,

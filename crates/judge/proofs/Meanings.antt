@@ -87,7 +87,7 @@ module _ (p : LinkedProgram) (t : ℕ) (Outer : ClassId → List Event → Type 
   within_leads (is_ended x) h = is_ended_by x h
   within_leads (super_fails {m = m} {e = e}) h = ends (ending.SuperFails e) m h
 
-  -- W holds of what stands where no class is open
+  -- W holds of what comes where no class is open
   module _ (W : List Event → Type 0) (stop : (last : Option Completed) (xs : List Event) → Idle last xs → W xs) where
     stopped : {last : Option Completed} {xs : List Event} → At (standing [] last) xs → W xs
     stopped (idle i) = stop _ _ i

@@ -1,4 +1,4 @@
--- What the tests of an event tell of `Reads`.
+-- What the tests of an event say of `Reads`.
 use Rattle.std.proofs.Common.{◌≡◌, ℕ, Option, Bool, true, false, IfOk, Result, Ok, Err, sym, subst}
 use Rattle.std.specs.declared.alloc.AllocError.{AllocError}
 use Rattle.hierarchy.specs.declared.class.ClassId.{ClassId}

@@ -115,7 +115,7 @@ impl Classes {
 
     /// A thread does this at a class, where it breaks no rule.
     ///
-    /// An `Err` is being out of memory.
+    /// An `Err` means out of memory.
     pub(crate) fn take(
         &mut self,
         alloc: Global,

@@ -133,7 +133,7 @@ impl Words<'_> {
 /// JLS SE 8 12.4.2 that says so. Where the list ends too early: the same of each thread that hasn't ended what it began, and whom it
 /// waits for.
 ///
-/// An `Err` is being out of memory.
+/// An `Err` means out of memory.
 pub fn explain(
     alloc: Global,
     program: &Program,

@@ -23,7 +23,7 @@ pub(crate) struct Judge {
 impl Judge {
     /// Before the first event.
     ///
-    /// An `Err` is being out of memory.
+    /// An `Err` means out of memory.
     pub(crate) fn new(alloc: Global, mains: &[ClassId]) -> Result<Self, AllocError>
         ensures { IfOk result (λ made. (p : LinkedProgram) → HasJudged p mains.now made []) }
     {
@@ -35,7 +35,7 @@ impl Judge {
 
     /// Takes the next event: the rule that it breaks, if it does; then nothing is said of the state.
     ///
-    /// An `Err` is being out of memory.
+    /// An `Err` means out of memory.
     pub(crate) fn take(
         &mut self,
         alloc: Global,

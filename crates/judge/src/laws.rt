@@ -15,8 +15,8 @@ ghost use Rattle.judge.specs.declared.verdict.Verdict.{Verdict as VerdictFacts};
 ghost use Rattle.judge.specs.declared.verdict.Verdict.TheVariants as verdicts;
 
 /// The reading of one thread's events is exact: they are read as a beginning exactly where they are the beginning of a
-/// word of the thread's main class, and as a whole exactly where they are one. An event leads from where the procedures
-/// stand to one place only, so one standing a thread is enough.
+/// word of the thread's main class, and as a whole exactly where they are one. An event leads from one standing of the
+/// procedures to one only, so one standing a thread is enough.
 pub fn reading_is_exact()
     ensures fronts { (p : LinkedProgram) (t : ℕ) (m : ClassId) (xs ys : List Event) → ThreadWord p t m (xs ++ ys) → IsReadAsBeginning p t m xs }
     ensures wholes { (p : LinkedProgram) (t : ℕ) (m : ClassId) (xs : List Event) → ThreadWord p t m xs → IsReadAsWhole p t m xs }

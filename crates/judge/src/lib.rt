@@ -42,7 +42,7 @@ pub use verdict::{Rule, Verdict};
 /// event breaks: what its thread does, else the label of its class, else the value of the static field; or, where
 /// they are the beginning of one, their count and [`Rule::End`].
 ///
-/// An `Err` is being out of memory, and nothing else.
+/// An `Err` means out of memory, and nothing else.
 pub fn check(
     alloc: Global,
     program: &Program,

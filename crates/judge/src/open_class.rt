@@ -90,7 +90,7 @@ impl Model for Procedures {
 impl Procedures {
     /// Main's class is requested, and nothing was done.
     ///
-    /// An `Err` is being out of memory, here and in all that follows; nothing is said of the procedures then.
+    /// An `Err` means out of memory, here and in all that follows; nothing is said of the procedures then.
     pub(crate) fn opening(alloc: Global, main: ClassId) -> Result<Self, AllocError>
         ensures { IfOk result (λ made. made ≡ opening main) }
     {

@@ -21,7 +21,7 @@ pub(crate) struct Reader {
 impl Reader {
     /// A thread of this main class, before its first event.
     ///
-    /// An `Err` is being out of memory.
+    /// An `Err` means out of memory.
     pub(crate) fn new(alloc: Global, main: ClassId) -> Result<Self, AllocError>
         ensures begun { IfOk result (λ made. made.begun ≡ false) }
         ensures procedures { IfOk result (λ made. made.procedures ≡ opening main) }
@@ -35,7 +35,7 @@ impl Reader {
     /// Reads the thread's next event, of this class and kind: whether it may come. Where it may not, nothing is
     /// said of the reader.
     ///
-    /// An `Err` is being out of memory.
+    /// An `Err` means out of memory.
     pub(crate) fn read(
         &mut self,
         alloc: Global,
@@ -53,7 +53,7 @@ impl Reader {
 
     /// Reads a print: whether it may come, whatever its text. Where it may not, nothing is said of the reader.
     ///
-    /// An `Err` is being out of memory.
+    /// An `Err` means out of memory.
     pub(crate) fn read_print(
         &mut self,
         alloc: Global,

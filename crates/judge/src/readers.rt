@@ -19,7 +19,7 @@ pub(crate) struct Readers {
 impl Readers {
     /// Threads of these main classes, before their first events.
     ///
-    /// An `Err` is being out of memory.
+    /// An `Err` means out of memory.
     pub(crate) fn new(alloc: Global, mains: &[ClassId]) -> Result<Self, AllocError>
         ensures { IfOk result (λ made. made.of_threads.items ≡ map opened mains.now) }
     {
@@ -33,7 +33,7 @@ impl Readers {
     /// Reads an event of a thread: whether it may come next. Where it may not, nothing is said of
     /// the readers.
     ///
-    /// An `Err` is being out of memory.
+    /// An `Err` means out of memory.
     pub(crate) fn read(
         &mut self,
         alloc: Global,
@@ -54,7 +54,7 @@ impl Readers {
 
     /// Reads a print of a thread, whatever its text: whether it may come next. Where it may not, nothing is said of the readers.
     ///
-    /// An `Err` is being out of memory.
+    /// An `Err` means out of memory.
     pub(crate) fn read_print(
         &mut self,
         alloc: Global,

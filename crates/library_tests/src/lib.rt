@@ -3,8 +3,8 @@
 //! order and of several threads; of what words ask for, and of `serve` over files and writers whose bytes are known. The cases of
 //! files are those of the crate `cases`.
 //!
-//! They stand apart, since a crate that has tests is proved a second time with them, and in one crate, since each crate of tests is a
-//! program of its own when its tests are built, with its own drops of all that it stands on.
+//! They are kept apart, since a crate that has tests is proved a second time with them, and in one crate, since each crate of tests is a
+//! program of its own when its tests are built, with its own drops of all that it depends on.
 #![tactic(auto)]
 
 #[cfg(test)]

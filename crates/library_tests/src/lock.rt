@@ -203,7 +203,7 @@ fn are_merged(alloc: Global) -> Result<bool, AllocError> {
     Ok(are_drawn && merged.as_slice() == [5, 7, 6, 8].as_slice())
 }
 
-// Takes the second record, and tells whether it was free. Where it was, it goes back.
+// Takes the second record, and says whether it was free. Where it was, it goes back.
 fn takes<W: Wait>(
     rt: &W,
     table: &InitTable<Numbers>,

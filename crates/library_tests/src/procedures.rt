@@ -34,7 +34,7 @@ fn refuses(alloc: Global, program: &Program, procedure: &mut Procedure) -> Resul
     Ok(idle == Next::Idle && next == Next::Look(CLASS) && was_completed && is_forgotten)
 }
 
-/// Memory runs out behind step 6.
+/// Memory runs out after step 6.
 fn gives_up(alloc: Global, program: &Program, procedure: &mut Procedure) -> Result<bool, AllocError>
     requires { procedure.old ≡ standing [] None }
 {

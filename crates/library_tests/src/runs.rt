@@ -161,7 +161,7 @@ fn is_waited_for<R: Threads + Wait + Sync>(rt: &R, alloc: Global, program: &Prog
     ran.is_whole && ran.events == 5 && are_made
 }
 
-/// How often steps 6, 9 and 10 of the class of its own number, and anything else, were told of each of two threads.
+/// How often steps 6, 9 and 10 of the class of its own number, and anything else, were reported for each of two threads.
 #[derive(Drop)]
 struct Tally {
     counts: [AtomicU64; 8],
@@ -186,7 +186,7 @@ impl Tally {
         }
     }
 
-    /// Whether each thread made steps 6, 9 and 10 of the class of its own number once, and nothing else was told.
+    /// Whether each thread made steps 6, 9 and 10 of the class of its own number once, and nothing else was reported.
     fn is_each_once(&self) -> bool {
         for (place, wanted) in EACH_ONCE.iter().enumerate() {
             match self.counts.as_slice().get(place) {

@@ -100,7 +100,7 @@ fn is_word(run: &Run, mains: &[usize; 2], thread: usize, class: usize) -> bool
     }
 }
 
-/// Does what comes before the turn of a choice, and tells whether the thread can do it.
+/// Does what comes before the turn of a choice, and says whether the thread can do it.
 fn prepares(
     program: &Program,
     run: &mut Run,

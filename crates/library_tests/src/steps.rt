@@ -2,7 +2,7 @@
 
 use init_core::{Event, Kind};
 
-/// What an event does, of what is told apart here.
+/// What an event does, of what is distinguished here.
 #[derive(Clone, Copy)]
 pub(crate) enum Step {
     Waits,

@@ -1,7 +1,7 @@
 //! A plain, slow judge of interleavings, straight from the definitions: the words of one thread are found by
 //! following the forms of the procedure from each place of its list, the labels by a search of each class's history.
 //!
-//! The first event of a word names its class, and each event tells which form goes on. So at most one word begins at a place.
+//! The first event of a word names its class, and each event says which form goes on. So at most one word begins at a place.
 //!
 //! It judges lists without reads, writes and prints in which no thread is ended by the machine, of programs
 //! that are handed in as what each class needs, in order.
@@ -62,7 +62,7 @@ fn word_at(list: &[Made], words: &[Word], at: usize, class: usize) -> Word {
     }
 }
 
-/// The place behind the words of any classes, one after the other, from here.
+/// The place after the words of any classes, one after the other, from here.
 fn behind_items(words: &[Word], start: usize) -> usize {
     let mut at = start;
     for _ in start..words.len() {
@@ -81,7 +81,7 @@ fn is_open_at(words: &[Word], at: usize) -> bool {
     }
 }
 
-/// Behind what is needed: the end of the list, or step 9, a body's items, and step 10 or step 12.
+/// After what is needed: the end of the list, or step 9, a body's items, and step 10 or step 12.
 fn body_at(list: &[Made], words: &[Word], start: usize, class: usize) -> Word {
     if start >= list.len() {
         return Word::Begun;
@@ -100,7 +100,7 @@ fn body_at(list: &[Made], words: &[Word], start: usize, class: usize) -> Word {
     }
 }
 
-/// Behind an abrupt word of a needed class: the end of the list, or step 7.
+/// After an abrupt word of a needed class: the end of the list, or step 7.
 fn failure_at(list: &[Made], at: usize, class: usize, thrown: BuiltIn) -> Word {
     if at >= list.len() {
         return Word::Begun;
@@ -112,7 +112,7 @@ fn failure_at(list: &[Made], at: usize, class: usize, thrown: BuiltIn) -> Word {
     }
 }
 
-/// Behind step 6: the words of the needed classes, in order, then step 9.
+/// After step 6: the words of the needed classes, in order, then step 9.
 fn begun_at(needs: &[usize], list: &[Made], words: &[Word], start: usize, class: usize) -> Word {
     let mut at = start;
     for need in needs {
@@ -125,7 +125,7 @@ fn begun_at(needs: &[usize], list: &[Made], words: &[Word], start: usize, class:
     body_at(list, words, at, class)
 }
 
-/// The word of a class from a place on: behind its step 2, if there is one, its step 3, 4, 5 or 6.
+/// The word of a class from a place on: after its step 2, if there is one, its step 3, 4, 5 or 6.
 fn found_at(
     all_needs: &[&[usize]],
     list: &[Made],
@@ -152,7 +152,7 @@ fn found_at(
     }
 }
 
-/// Finds the word from each place on, from the list's end, by the words behind it.
+/// Finds the word from each place on, from the list's end, by the words after it.
 fn find_all(all_needs: &[&[usize]], list: &[Made], words: &mut [Word]) {
     for from in (0..list.len()).rev() {
         let word = found_at(all_needs, list, words, from, list[from].class);

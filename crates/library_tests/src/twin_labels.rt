@@ -4,7 +4,7 @@ use crate::twin::{Act, Made};
 use init_core::Label;
 use std::alloc::{AllocError, Global};
 
-/// What stands of a class after these events.
+/// The label of a class after these events.
 fn label_of(list: &[Made], class: usize) -> Label {
     let mut label = Label::Prepared;
     for made in list {
@@ -20,7 +20,7 @@ fn label_of(list: &[Made], class: usize) -> Label {
     label
 }
 
-/// Whether an event may be the next of its class behind these events.
+/// Whether an event may be the next of its class after these events.
 pub(crate) fn may_follow(list: &[Made], made: &Made) -> bool {
     let label = label_of(list, made.class);
     match made.act {

@@ -82,7 +82,7 @@ pub(crate) const AGREEING: &[Row] = &[
     },
 ];
 
-/// B needs A, which the first case leaves out; in the second it needs nothing, and A is told. The comparison finds both.
+/// B needs A, which the first case leaves out; in the second it needs nothing, and A is listed. The comparison finds both.
 pub(crate) const DIFFERING: &[Row] = &[
     Row {
         files: &[b".class A", b".class B\n.super A"],
@@ -112,13 +112,13 @@ pub(crate) struct Scene {
     choices: &'static [Choice],
     /// The events, as a trace.
     trace: &'static [u8],
-    /// What stands of each class.
+    /// The label of each class.
     labels: &'static [Label],
     /// Whether the next turn of thread 0 answers that the machine has ended it.
     ended: bool,
 }
 
-/// Whether this stands of each class.
+/// Whether these are the labels of the classes.
 fn has_labels(program: &Program, world: &World, labels: &[Label]) -> bool
     requires { program.now ≡ world.now.program }
 {

@@ -191,7 +191,7 @@ module _ {S : Type 0} (p : LinkedProgram) (M : Making S) where
 
   -- ---- the end of a body
 
-  -- in a body no wait stands last while the machine doesn't end it
+  -- in a body no wait is last while the machine doesn't end it
   body_calm : (l : EventLog) (w : Thread S) (fs : List Frame) → IsInBody w → Going p M l w → w.gave_up ≡ false → (c : ClassId) → waits w.number (histories l.events.items c) ≡ true → is_waiting c fs ≡ true
   body_calm l w fs body g n c q = not_both (request_calm c w.procedure.frames body.requests) (g.calm n c q)
 
@@ -347,11 +347,11 @@ module _ {S : Type 0} (p : LinkedProgram) (M : Making S) where
   pub hasnt_given_up : (l : EventLog) (w : Thread S) (d : Does) → IsDoing p M l d w → w.gave_up ≡ false
   hasnt_given_up l w d x = not_gone w.gave_up (λ y. x.going.gone y (goes_so w x.body x.goes_on))
 
-  -- nor one that stands at something that another thread holds
+  -- nor one that is at something that another thread holds
   pub kept_calm : {W : Bool → S → Type 0} (l : EventLog) (w : Thread S) → WaitsInside p M W l w → w.gave_up ≡ false
   kept_calm l w x = ⊎_elim (λ g. not_gone w.gave_up (λ y. g.gone y (goes_so w x.body x.goes_on))) (λ d. hasnt_given_up l w does.Waits d) x.resting
 
-  -- where a body stands so
+  -- where a body is at such a thing
   pub is_kept : {W : Bool → S → Type 0} (l : EventLog) (w : Thread S) → IsInBody w → ending_error w.procedure ≡ None → Resting p M l w → W true w.bodies → IsPaused p M W l w
   is_kept l w body q resting waits = in_body (record { resting = resting; body = body; goes_on = goes_on_in w body q; waits = waits })
 

@@ -10,7 +10,7 @@ use Rattle.replayer.specs.declared.log.EventLog.{EventLog}
 use Rattle.replayer.specs.declared.thread.Thread.{Thread}
 use Rattle.replayer.specs.Going.{Going}
 
--- a thread that has just begun, whose bodies B tells of
+-- a thread that has just begun, of whose bodies B holds
 pub record IsFresh {S : Type 0} (p : LinkedProgram) (M : Making S) (B : S → Type 0) (l : EventLog) (t : ℕ) (w : Thread S) : Type 0 where
   pub bodies : B w.bodies
   pub going : Going p M l w

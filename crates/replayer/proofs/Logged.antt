@@ -156,7 +156,7 @@ in_range p c kind.Runs linked few h = tt
 in_range p c kind.Completes linked few h = tt
 
 module _ (p : LinkedProgram) where
-  -- what stands of a class
+  -- the state of a class
   pub state_of : (l : EventLog) (c : ClassId) (r : State) → IsLog p l → IsOfFiles p c → r ≡ slice_index_or l.states.items c.number r → IsStateAfter p l.events.items c r
   state_of l c r log within at = subst (λ (x : State). IsStateAfter p l.events.items c x) (sym at) (log.states c.number r within)
 

@@ -1,4 +1,4 @@
--- What stands of all threads where one of them is replaced.
+-- What holds of all threads where one of them is replaced.
 use Rattle.std.proofs.Common.{◌≡◌, ◌≢◌, ◌⊎◌, inl, inr, ℕ, ◌<◌, ◌==◌, List, Option, Some, None, Bool, true, false, map, length, refl, sym, ap, subst, ◌∙◌, arith}
 use Rattle.std.specs.Prelude.{slice_index_or, slice_set}
 use Rattle.std.proofs.Math.Seq.{map-set_same}

@@ -182,7 +182,7 @@ module _ {S : Type 0} (p : LinkedProgram) (M : Making S) where
   pub look_goes_on : (l : EventLog) (w : Thread S) (c : ClassId) → next_of w.procedure.frames ≡ next.Look c → Going p M l w → ending_error w.procedure ≡ None
   look_goes_on l w c q g = let x = looks_at w.procedure c q in ap (λ (fs : List Frame). ending_error (standing fs w.procedure.last)) x.1.frames ∙ ap given_up (look_last x.1 g.stands.leads)
 
-  -- what stands of the class tells whether the thread waits for it
+  -- the state of the class says whether the thread waits for it
   pub waiter : (l : EventLog) (w : Thread S) (c : ClassId) (r : State) → next_of w.procedure.frames ≡ next.Look c → IsStateAfter p l.events.items c r → Going p M l w → is_waiter r w.number ≡ is_waiting c w.procedure.frames
   waiter l w c r q st g = st.state.waiting w.number (let few = g.log.few in let low = g.number in omega arith) ∙ g.stands.waiting (look_goes_on l w c q g) c
 

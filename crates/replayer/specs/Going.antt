@@ -76,7 +76,7 @@ pub record IsSameThread {S : Type 0} (before after : Thread S) : Type 0 where
   pub gave_up : after.gave_up ≡ before.gave_up
   pub done : after.done ≡ before.done
 
--- it is in a body: of an initializer behind step 9, or of main
+-- it is in a body: of an initializer after step 9, or of main
 pub record IsInBody {S : Type 0} (w : Thread S) : Type 0 where
   pub requests : MayRequest w.procedure.frames
   pub main : w.procedure.frames ≡ [] → w.in_main ≡ true

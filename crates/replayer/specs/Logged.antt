@@ -1,4 +1,4 @@
--- The events of a run, and what stands of each class after them.
+-- The events of a run, and the state of each class after them.
 use Rattle.std.specs.Prelude.{◌≡◌, ℕ, ◌<◌, ◌≤◌, length, List, [], ◌∷◌, ◌++◌, slice_index_or}
 use Rattle.std.specs.List.{AllByRecursion}
 use Rattle.hierarchy.specs.declared.class.ClassId.{ClassId}
@@ -12,13 +12,13 @@ use Rattle.init_core.specs.ProgramEvents.{IsProgramEvent}
 use Rattle.init_core.specs.Stands.{SeesMore}
 use Rattle.replayer.specs.declared.log.EventLog.{EventLog}
 
--- this is what stands of c after these events
+-- this is the state of c after these events
 pub record IsStateAfter (p : LinkedProgram) (events : List Event) (c : ClassId) (s : State) : Type 0 where
   pub class : s.class ≡ c
   pub fields : s.fields ≡ statics_of p c
   pub state : IsStateOf s (of_class c events)
 
--- each event is one of the program and its threads, and what stands of each class of the files is that after all
+-- each event is one of the program and its threads, and the state of each class of the files is that after all
 pub record IsLog (p : LinkedProgram) (l : EventLog) : Type 0 where
   pub few : l.threads.value ≤ THREADS
   pub count : length l.states.items ≡ length p.classes

@@ -54,7 +54,7 @@ pub record IsAt {S : Type 0} (p : LinkedProgram) (M : Making S) (Such : Standing
   pub such : Such standing
   pub used : U state
 
--- after the events h of all threads, t stands so in a body: of an initializer behind step 9, or of main
+-- after the events h of all threads, t stands so in a body: of an initializer after step 9, or of main
 pub record IsInBodyAt {S : Type 0} (p : LinkedProgram) (M : Making S) (starts : List S) (mains : List ClassId) (t : ℕ) (h : List Event) (s : S) : Type 0 where
   pub start : S
   pub main : ClassId
@@ -156,8 +156,8 @@ AreTurnsOf {S} {H} p M first turns starts mains limits events outcomes = (t : �
 
 -- The run of these main classes in this order, each on a thread of its own whose bodies are made from the start of its number: a
 -- legal interleaving with its outcomes, labels and output, as within each limits that let a thread give up. What the threads share is
--- one, which is `first` at first, and which each meets as the turn before left it. The run keeps the order, and no thread is ended for want
--- of memory.
+-- one, which is `first` at first, and which each meets as the turn before left it. The run keeps the order, and no thread is ended
+-- since memory ran out.
 pub record IsOrderedRunOf {S H : Type 0} (p : LinkedProgram) (L : Lending S H) (M : Making S) (first : H) (starts : List S) (mains : List ClassId) (order : List ℕ) (r : Report) : Type 0 where
   pub run : (limits : Limits) → MayGiveUp (lent_bodies L M) (length mains) limits → IsRunOf p (lent_bodies L M) (map lent_at_start starts) mains limits r
   pub memory : (t : ℕ) → slice_get r.outcomes t ≢ Some (outcome.Ended Memory)

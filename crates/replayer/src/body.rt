@@ -1,4 +1,4 @@
-//! What a body does, of an initializer behind step 9 or of `main`.
+//! What a body does: an initializer, from step 9 on, or `main`.
 
 ghost use Rattle.std.specs.Prelude.{◌≡◌, ◌⊎◌, IfOk, OnOk, false};
 ghost use Rattle.init_core.specs.declared.frames.Outcome.TheVariants.{Ended};
@@ -48,7 +48,7 @@ impl<H, B: Lends<H>> Thread<Lent<B, H>> {
         Some(Outcome::Ended(error))
     }
 
-    /// An active use of a class. An `Err` is out of memory.
+    /// An active use of a class. An `Err` means out of memory.
     fn use_class(
         &mut self,
         program: &Program,
@@ -65,7 +65,7 @@ impl<H, B: Lends<H>> Thread<Lent<B, H>> {
         Ok(())
     }
 
-    /// A read of a static field. An `Err` is out of memory.
+    /// A read of a static field. An `Err` means out of memory.
     fn read(
         &mut self,
         program: &Program,
@@ -86,7 +86,7 @@ impl<H, B: Lends<H>> Thread<Lent<B, H>> {
         Ok(())
     }
 
-    /// A write of a static field. An `Err` is out of memory.
+    /// A write of a static field. An `Err` means out of memory.
     fn write(
         &mut self,
         program: &Program,
@@ -106,7 +106,7 @@ impl<H, B: Lends<H>> Thread<Lent<B, H>> {
         Ok(())
     }
 
-    /// A print. An `Err` is out of memory.
+    /// A print. An `Err` means out of memory.
     fn print(
         &mut self,
         alloc: Global,
@@ -124,7 +124,7 @@ impl<H, B: Lends<H>> Thread<Lent<B, H>> {
         Ok(())
     }
 
-    /// The body is over: it returned, or it threw, and then step 11 comes. In `main` that is how the thread ends. An `Err` is
+    /// The body is over: it returned, or it threw, and then step 11 comes. In `main` that is how the thread ends. An `Err` means
     /// out of memory.
     fn end_body(
         &mut self,
@@ -177,7 +177,7 @@ impl<H, B: Lends<H>> Thread<Lent<B, H>> {
         self.bodies.next(alloc, program, self.number, shared, last)
     }
 
-    /// What the innermost body does next. An `Err` is out of memory, of the machine or of what runs the bodies.
+    /// What the innermost body does next. An `Err` means out of memory, of the machine or of what runs the bodies.
     pub(crate) fn go_on(
         &mut self,
         alloc: Global,

@@ -121,7 +121,7 @@ impl<H, B: Lends<H>> Lent<B, H> {
         does
     }
 
-    /// Whether the innermost body stands at something that another thread holds, and so can't go on.
+    /// Whether the innermost body is at something that another thread holds, and so can't go on.
     pub(crate) fn waits(&self, program: &Program, shared: &Shared<H>) -> bool
         ensures { IsTrue result ↔ (B.making program.now).waits (B.lending.with_shared self.now.state shared.now.state) }
     {
@@ -152,7 +152,7 @@ impl<H, B: Lends<H>> Lent<B, H> {
         self.give_back(number, met, shared);
     }
 
-    /// An `Err` is out of memory.
+    /// An `Err` means out of memory.
     pub(crate) fn replace(
         &mut self,
         alloc: Global,

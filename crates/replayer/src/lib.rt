@@ -2,8 +2,8 @@
 //!
 //! Enter by [`run_ordered`]: it requests each main class by a thread of its own and lets the threads go on in the order that is
 //! asked for. A thread does what its procedure asks for next, one step after the other (JLS SE 8 12.4.2), and asks what runs
-//! its bodies ([`bodies::Bodies`]) what they do; it goes on from one event to the next, or up to a wait. The definition of
-//! what such a run is stands in `specs/OrderedRun.antt`.
+//! its bodies ([`bodies::Bodies`]) what they do; it goes on from one event to the next, or up to a wait. The definition of such a run
+//! is in `specs/OrderedRun.antt`.
 #![tactic(auto)]
 
 mod body;

@@ -1,4 +1,4 @@
-//! The events of a run, and what stands of each class after them.
+//! The events of a run, and the state of each class after them.
 
 ghost use Rattle.std.specs.Prelude.{◌≡◌, ◌<◌, ◌≤◌, ◌++◌, ◌∷◌, [], IfOk, OnOk, length};
 ghost use Rattle.hierarchy.specs.LinkedProgram.{LinkedProgram};
@@ -17,7 +17,7 @@ use sequence::{Sequence, Text};
 use std::alloc::{AllocError, Global};
 use std::snapshot::Snapshot;
 
-/// The events of all threads so far, and what stands of each class of the files after them, by the classes' numbers.
+/// The events of all threads so far, and the state of each class of the files after them, by the classes' numbers.
 #[derive(Drop)]
 pub(crate) struct EventLog {
     /// How many threads there are.
@@ -27,7 +27,7 @@ pub(crate) struct EventLog {
 }
 
 impl EventLog {
-    /// No events: each class is prepared. An `Err` is out of memory.
+    /// No events: each class is prepared. An `Err` means out of memory.
     pub(crate) fn new(alloc: Global, program: &Program, threads: usize) -> Result<Self, AllocError>
         requires { threads ≤ THREADS }
         ensures threads { IfOk result (λ log. log.threads.value ≡ threads) }
@@ -41,7 +41,7 @@ impl EventLog {
         })
     }
 
-    /// What stands of a class.
+    /// The state of a class.
     pub(crate) fn state(&self, class: ClassId) -> &ClassState
         requires { class.number < length self.now.states.items }
         ensures { (p : LinkedProgram) → IsLog p self.now → IsStateAfter p self.now.events.items class result.now }
@@ -49,7 +49,7 @@ impl EventLog {
         &self.states[class.number]
     }
 
-    /// A thread does this at a class. An `Err` is out of memory.
+    /// A thread does this at a class. An `Err` means out of memory.
     pub(crate) fn add(
         &mut self,
         program: &Program,
@@ -75,7 +75,7 @@ impl EventLog {
         Ok(())
     }
 
-    /// A thread prints a text. An `Err` is out of memory.
+    /// A thread prints a text. An `Err` means out of memory.
     pub(crate) fn print(
         &mut self,
         alloc: Global,
@@ -92,7 +92,7 @@ impl EventLog {
         Ok(())
     }
 
-    /// The label of each class of the files, by its number. An `Err` is out of memory.
+    /// The label of each class of the files, by its number. An `Err` means out of memory.
     pub(crate) fn labels(
         &self,
         alloc: Global,

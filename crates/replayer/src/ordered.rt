@@ -34,7 +34,7 @@ fn outcome_of(done: Outcome, gave_up: bool) -> ThreadOutcome
     }
 }
 
-/// How each thread ended. An `Err` is out of memory.
+/// How each thread ended. An `Err` means out of memory.
 fn outcomes<B, H>(alloc: Global, run: &Run<B, H>) -> Result<Sequence<ThreadOutcome>, AllocError>
     requires { AllThreads (λ t w. HasDone w) run.now }
     ensures { IfOk result (λ outcomes. outcomes ≡ outcomes_of run.now) }
@@ -48,7 +48,7 @@ fn outcomes<B, H>(alloc: Global, run: &Run<B, H>) -> Result<Sequence<ThreadOutco
     Ok(outcomes)
 }
 
-/// The report of a run that is over. An `Err` is out of memory.
+/// The report of a run that is over. An `Err` means out of memory.
 fn report<H: Drop, B: Lends<H>>(
     alloc: Global,
     program: &Program,
@@ -84,7 +84,7 @@ fn report<H: Drop, B: Lends<H>>(
 /// ended by InternalError, at the limit of its patience, and ends the classes that it has begun, the innermost first. At other
 /// limits of its bodies a thread is ended so too.
 ///
-/// An `Err` is out of memory: that of the run, or where the bodies end for want of theirs ([`Limit::Memory`]).
+/// An `Err` means out of memory: that of the run ran out, or the bodies end since theirs did ([`Limit::Memory`]).
 pub fn run_ordered<H: Drop, B: Lends<H>>(
     alloc: Global,
     program: &Program,

@@ -35,7 +35,7 @@ pub(crate) enum Found {
 }
 
 impl<H: Drop, B: Lends<H>> Run<Lent<B, H>, H> {
-    /// Each main class is requested, by a thread of its own. An `Err` is out of memory.
+    /// Each main class is requested, by a thread of its own. An `Err` means out of memory.
     pub(crate) fn begin(
         alloc: Global,
         program: &Program,
@@ -85,7 +85,7 @@ impl<H: Drop, B: Lends<H>> Run<Lent<B, H>, H> {
         }
     }
 
-    /// The threads go on in this order; the number of one that can't is used up. An `Err` is out of memory.
+    /// The threads go on in this order; the number of one that can't is used up. An `Err` means out of memory.
     pub(crate) fn follow(
         &mut self,
         alloc: Global,
@@ -104,7 +104,7 @@ impl<H: Drop, B: Lends<H>> Run<Lent<B, H>, H> {
         Ok(())
     }
 
-    /// The lowest thread that can goes on: each lower one had ended or waits, and stays so. An `Err` is out of memory.
+    /// The lowest thread that can goes on: each lower one had ended or waits, and stays so. An `Err` means out of memory.
     fn go_lowest(&mut self, alloc: Global, program: &Program) -> Result<Found, AllocError>
         requires going { AreGoing program.now (lent_bodies B.lending (B.making program.now)) self.old }
         requires in_turn { AreInTurn self.old }

@@ -28,7 +28,7 @@ pub(crate) enum Turn {
     Silent,
     /// It went on so, up to something that another thread holds or initializes.
     Comes,
-    /// It waits for a class that another thread initializes, or stands in a body at something that another thread holds.
+    /// It waits for a class that another thread initializes, or is in a body at something that another thread holds.
     Waits,
     /// It has ended, with this result.
     Ended(Outcome),
@@ -72,7 +72,7 @@ pub(crate) struct Thread<B> {
 }
 
 impl<H, B: Lends<H>> Thread<Lent<B, H>> {
-    /// Its main class is requested. An `Err` is out of memory.
+    /// Its main class is requested. An `Err` means out of memory.
     pub(crate) fn begin(
         alloc: Global,
         program: &Program,
@@ -103,7 +103,7 @@ impl<H, B: Lends<H>> Thread<Lent<B, H>> {
         })
     }
 
-    /// Steps 1 to 6: a look at a class, which another thread may be initializing. An `Err` is out of memory.
+    /// Steps 1 to 6: a look at a class, which another thread may be initializing. An `Err` means out of memory.
     fn look(
         &mut self,
         alloc: Global,
@@ -129,7 +129,7 @@ impl<H, B: Lends<H>> Thread<Lent<B, H>> {
         Ok(Turn::Event)
     }
 
-    /// Step 9: the initializer begins. An `Err` is out of memory.
+    /// Step 9: the initializer begins. An `Err` means out of memory.
     fn run_body(
         &mut self,
         alloc: Global,
@@ -152,7 +152,7 @@ impl<H, B: Lends<H>> Thread<Lent<B, H>> {
         Ok(())
     }
 
-    /// Step 7, 10 or 12. An `Err` is out of memory.
+    /// Step 7, 10 or 12. An `Err` means out of memory.
     fn end_class(
         &mut self,
         program: &Program,
@@ -201,7 +201,7 @@ impl<H, B: Lends<H>> Thread<Lent<B, H>> {
         None
     }
 
-    /// Does what comes next. An `Err` is out of memory.
+    /// Does what comes next. An `Err` means out of memory.
     fn turn(
         &mut self,
         alloc: Global,
@@ -233,7 +233,7 @@ impl<H, B: Lends<H>> Thread<Lent<B, H>> {
         }
     }
 
-    /// Goes on until it has made one event, has ended or can't go on. An `Err` is out of memory; so are more turns than there
+    /// Goes on until it has made one event, has ended or can't go on. An `Err` means out of memory, or more turns than there
     /// are numbers.
     pub(crate) fn advance(
         &mut self,

@@ -90,7 +90,7 @@ impl<T> Sequence<T> {
 }
 
 impl<T: Drop> Sequence<T> {
-    /// Adds an element at the end. An `Err` is out of memory, drops the element and changes nothing.
+    /// Adds an element at the end. An `Err` means out of memory, drops the element and changes nothing.
     pub fn push(&mut self, item: T) -> Result<(), AllocError>
         ensures ok { OnOk result (self.new ≡ self.old ++ item ∷ []) }
         ensures err { OnErr result (self.new ≡ self.old) }

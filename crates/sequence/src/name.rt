@@ -40,7 +40,7 @@ impl<K: NameKind> Model for Name<K> {
 }
 
 impl<K: NameKind> Name<K> {
-    /// The name with these bytes, or `None` where they are no name. An `Err` is want of memory.
+    /// The name with these bytes, or `None` where they are no name. An `Err` means out of memory.
     pub fn parse(alloc: Global, bytes: &[u8]) -> Result<Option<Self>, AllocError>
         ensures { IfOk result (λ name. SomeIff name (K.is_name bytes.now ≡ true) bytes.now) }
     {

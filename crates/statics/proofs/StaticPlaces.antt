@@ -1,4 +1,4 @@
--- Where a static field stands among the static ones.
+-- The place of a static field among the static ones.
 use Rattle.std.proofs.Common.{◌≡◌, ℕ, true, Option, Some, None, slice_get}
 use Rattle.std.specs.Prelude.{filter, length, take}
 use Rattle.jasmin_text.specs.declared.class_text.Field.{Field}

@@ -86,7 +86,7 @@ impl Bank {
     /// The static fields of a class with their defaults (JVMS SE 8 5.4.2): none of a class that isn't one of the
     /// files'.
     ///
-    /// An `Err` is want of memory.
+    /// An `Err` means out of memory.
     pub fn prepared(alloc: Global, program: &Program, class: ClassId) -> Result<Self, AllocError>
         ensures fields { IfOk result (λ bank. bank.fields ≡ statics_of program.now class) }
         ensures values { IfOk result (λ bank. bank.values ≡ map default_of (statics_of program.now class)) }

@@ -70,7 +70,7 @@ pub fn narrowed(base: Option<BaseType>, value: Value) -> Value
 }
 
 impl StaticField {
-    /// What the field holds behind step 6 where it held this value before.
+    /// What the field holds after step 6 where it held this value before.
     pub(crate) fn with_constant(self, value: Value) -> Value
         ensures { result ≡ with_constant self value }
     {

@@ -1,4 +1,4 @@
--- The text of a trace: a line an event, numbered from 0, words parted by one space.
+-- The text of a trace: a line an event, numbered from 0, words separated by one space.
 use Rattle.std.specs.Prelude.{ℕ, ◌+◌, List, [], ◌∷◌, ◌++◌, Option, Some, None, codes, decimal, unwrap_or, slice_get}
 use Rattle.std.specs.Fmt.{signed_decimal}
 use Rattle.descriptors.specs.Spelling.{field_spelling}
@@ -28,7 +28,7 @@ throwable_text p (Some e) = codes " " ++ class_text p e
 abbrev pub head : ℕ → ℕ → List ℕ
 head n t = decimal n ++ codes " t" ++ decimal t
 
--- step<k> <class>, for a step of JLS SE 8 12.4.2; with the throwable behind it where there is one
+-- step<k> <class>, for a step of JLS SE 8 12.4.2; with the throwable after it where there is one
 abbrev pub step_text : LinkedProgram → ℕ → Option ClassId → Option ClassId → List ℕ
 step_text p k c e = codes " step" ++ decimal k ++ codes " " ++ event_class_text p c ++ throwable_text p e
 
@@ -51,7 +51,7 @@ value_text (value.Reference number) = codes "#" ++ decimal number
 abbrev pub use_text : LinkedProgram → List ℕ → Option ClassId → ℕ → Value → List ℕ
 use_text p word c place v = word ++ event_class_text p c ++ codes " " ++ field_text p c place ++ codes " " ++ value_text v
 
--- what stands behind the number and the thread
+-- what follows the number and the thread
 abbrev pub kind_text : LinkedProgram → Option ClassId → Kind → List ℕ
 kind_text p c kind.Waits = step_text p 2 c None
 kind_text p c kind.Recurs = step_text p 3 c None

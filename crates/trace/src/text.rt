@@ -135,7 +135,7 @@ fn write_print(out: &mut Writer, text: &[u8])
     push_quoted(out, text);
 }
 
-/// What stands behind the number and the thread.
+/// What follows the number and the thread.
 fn write_kind(
     out: &mut Writer,
     alloc: Global,
@@ -181,7 +181,7 @@ fn write_line(out: &mut Writer, alloc: Global, program: &Program, number: usize,
 
 /// The trace of these events: a line each, numbered from 0, as docs/TRACES.md says.
 ///
-/// An `Err` is want of memory.
+/// An `Err` means out of memory.
 pub fn write_trace(
     alloc: Global,
     program: &Program,

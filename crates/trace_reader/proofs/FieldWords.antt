@@ -70,14 +70,14 @@ from_some before (g ∷ fs) word (suc place) f e is = elim (cases_Bool (bytes_eq
 
 -- ---- one field has one word
 
-parted : (a b s t : List ℕ) → list_all is_word_byte a ≡ true → list_all is_word_byte b ≡ true → a ++ 58 ∷ s ≡ b ++ 58 ∷ t → (a ≡ b) × (s ≡ t)
-parted [] [] s t p q e = (refl, cc)
-parted [] (y ∷ b) s t p q e = absurd (let same : y ≡ 58 = cc in let r = and_parts (is_word_byte y) (list_all is_word_byte b) q in let wrong = rw same at r.0 in cc)
-parted (x ∷ a) [] s t p q e = absurd (let same : x ≡ 58 = cc in let r = and_parts (is_word_byte x) (list_all is_word_byte a) p in let wrong = rw same at r.0 in cc)
-parted (x ∷ a) (y ∷ b) s t p q e =
+separated : (a b s t : List ℕ) → list_all is_word_byte a ≡ true → list_all is_word_byte b ≡ true → a ++ 58 ∷ s ≡ b ++ 58 ∷ t → (a ≡ b) × (s ≡ t)
+separated [] [] s t p q e = (refl, cc)
+separated [] (y ∷ b) s t p q e = absurd (let same : y ≡ 58 = cc in let r = and_parts (is_word_byte y) (list_all is_word_byte b) q in let wrong = rw same at r.0 in cc)
+separated (x ∷ a) [] s t p q e = absurd (let same : x ≡ 58 = cc in let r = and_parts (is_word_byte x) (list_all is_word_byte a) p in let wrong = rw same at r.0 in cc)
+separated (x ∷ a) (y ∷ b) s t p q e =
     let same : x ≡ y = cc in
     let rest : a ++ 58 ∷ s ≡ b ++ 58 ∷ t = cc in
-    let r = parted a b s t (and_parts (is_word_byte x) (list_all is_word_byte a) p).1 (and_parts (is_word_byte y) (list_all is_word_byte b) q).1 rest in
+    let r = separated a b s t (and_parts (is_word_byte x) (list_all is_word_byte a) p).1 (and_parts (is_word_byte y) (list_all is_word_byte b) q).1 rest in
     (let front : a ≡ b = r.0 in cc, r.1)
 
 pub record IsGoodField (f : Field) : Type 0 where
@@ -113,7 +113,7 @@ one_type t u h k e = let a = field_only t h in let b = field_only u k in let c =
 
 one_field : (f g : Field) → IsGoodField f → IsGoodField g → field_in_trace (Some f) ≡ field_in_trace (Some g) → (f.name ≡ g.name) × (f.field_type ≡ g.field_type)
 one_field f g h k e =
-    let r = parted f.name g.name (field_spelling f.field_type) (field_spelling g.field_type) h.name k.name (sym (append_assoc f.name (58 ∷ []) (field_spelling f.field_type)) ∙ e ∙ append_assoc g.name (58 ∷ []) (field_spelling g.field_type)) in
+    let r = separated f.name g.name (field_spelling f.field_type) (field_spelling g.field_type) h.name k.name (sym (append_assoc f.name (58 ∷ []) (field_spelling f.field_type)) ∙ e ∙ append_assoc g.name (58 ∷ []) (field_spelling g.field_type)) in
     (r.0, one_type f.field_type g.field_type h.type k.type r.1)
 
 -- ---- static fields among all

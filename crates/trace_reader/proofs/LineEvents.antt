@@ -28,9 +28,9 @@ use Rattle.trace_reader.proofs.LineWords.{IsLineWord, word_found, space_found, n
 use Rattle.trace_reader.proofs.OneLine.{deed_word, verb_word, verb_found, verb_again, verb_line, deed_of, rest_text, deed_text, IsDeed, kind_found, kind_again, rest_begins}
 use Rattle.trace_reader.proofs.QuotedTexts.{IsTextOf, text_found, text_again}
 
--- ---- behind the third word
+-- ---- after the third word
 
--- the event of a thread, with what its line has behind the head
+-- the event of a thread, with what its line has after the head
 record IsDone (p : LinkedProgram) (threads t : ℕ) (v : Verb) (s : List ℕ) (x : Event × List ℕ) : Type 0 where
   spelled : 32 ∷ (verb_word v ++ s) ≡ kind_text p x.0.class x.0.kind ++ 10 ∷ x.1
   thread : x.0.thread ≡ t

@@ -8,7 +8,7 @@ use Rattle.jasmin_words.specs.Spelling.{is_word_byte}
 use Rattle.sequence.proofs.Results.{Holds, bind_holds, guard_holds, refuse_holds, weaker}
 use Rattle.trace_reader.specs.Words.{ends_word, word_len, word_at, space_at, next_at, end_at}
 
--- ---- what is read stands there
+-- ---- what is read is there
 
 pub word_found : (s : List ℕ) → Holds (λ x. s ≡ x.0 ++ x.1) (word_at s)
 unfolding word_at

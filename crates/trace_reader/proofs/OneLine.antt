@@ -90,7 +90,7 @@ verb_line verb.Prints = record { some = omega arith; whole = refl }
 
 -- ---- what is done at a class
 
--- the deed of a kind, and what its line has behind the class's name
+-- the deed of a kind, and what its line has after the class's name
 abbrev pub deed_of : Kind → Deed
 deed_of kind.Waits = deed.Waits
 deed_of kind.Recurs = deed.Recurs
@@ -127,7 +127,7 @@ step_line : (p : LinkedProgram) (n : ℕ) (digits : List ℕ) (c : ClassId) (e :
 step_line p n digits c e rest d =
     subst (λ (ds : List ℕ). step_text p n (Some c) e ++ rest ≡ codes " step" ++ (ds ++ 32 ∷ (class_text p c ++ (throwable_text p e ++ rest)))) d (simp append_assoc)
 
--- a line behind its head: the word of the deed, the class, and the rest
+-- a line after its head: the word of the deed, the class, and the rest
 pub deed_text : (p : LinkedProgram) (c : ClassId) (k : Kind) (rest : List ℕ) → IsSaidAt p c k
     → kind_text p (Some c) k ++ rest ≡ 32 ∷ (deed_word (deed_of k) ++ 32 ∷ (class_text p c ++ (rest_text p c k ++ rest)))
 deed_text p c kind.Waits rest h = step_line p 2 (codes "2") c None rest (decimal_digit 2 (omega arith))
@@ -143,7 +143,7 @@ deed_text p c (kind.Gets place v) rest h = simp append_assoc
 deed_text p c (kind.Puts place v) rest h = simp append_assoc
 deed_text p c (kind.Prints text) rest h = absurd h
 
--- what is read behind the class's name
+-- what is read after the class's name
 pub record IsDeed (p : LinkedProgram) (c : ClassId) (d : Deed) (s : List ℕ) (x : Kind × List ℕ) : Type 0 where
   pub spelled : s ≡ rest_text p c x.0 ++ x.1
   pub said : IsSaidAt p c x.0
@@ -171,7 +171,7 @@ kind_found p h c deed.Fails s = thrown p h c deed.Fails kind.Fails s (λ e r q. 
 kind_found p h c deed.Gets s = used p c deed.Gets kind.Gets s (λ place v r q. record { spelled = q.spelled ∙ use_text p c place v r; said = (q.value, q.in_trace); deed = refl })
 kind_found p h c deed.Puts s = used p c deed.Puts kind.Puts s (λ place v r q. record { spelled = q.spelled ∙ use_text p c place v r; said = (q.value, q.in_trace); deed = refl })
 
--- behind the class's name comes a space or the line's end
+-- after the class's name comes a space or the line's end
 pub record Begins (s : List ℕ) : Type 0 where
   pub first : ℕ
   pub after : List ℕ

@@ -67,7 +67,7 @@ in_trace p h threads e (program_events.prints_text text less utf8) v = prints_te
 
 -- ---- the first fault
 
--- the same behind some lines
+-- the same after some lines
 record IsFaultFrom (p : LinkedProgram) (threads total lines n : ℕ) (s : List ℕ) (f : TraceFault) : Type 0 where
   events : List Event
   rest : List ℕ

@@ -78,7 +78,7 @@ value_line (value.Reference n) h = let d = decimal_line n (omega (arith, h)) in 
 
 -- ---- a static field with its value
 
--- what a get or a put of the class has behind the class's name
+-- what a get or a put of the class has after the class's name
 pub record IsUsed (p : LinkedProgram) (c : ClassId) (s : List ℕ) (x : (ℕ × Value) × List ℕ) : Type 0 where
   pub spelled : s ≡ 32 ∷ (field_text p (Some c) x.0.0 ++ 32 ∷ (value_text x.0.1 ++ x.1))
   pub value : IsValueOf (slice_get (statics_of p c) x.0.0) x.0.1

@@ -23,7 +23,7 @@ abbrev pub told : Refusal TraceFaultKind → ℕ → TraceFault
 told refusal.Memory line = fault_at OutOfMemory line
 told (refusal.Fault k) line = fault_at k line
 
--- what reading the line gives, told with its number from 1
+-- what reading the line gives, reported with its number from 1
 abbrev pub on_line : {X : Type 0} → ℕ → Result X TraceFaultKind → Result X TraceFault
 on_line line (Ok x) = Ok x
 on_line line (Err k) = Err (fault_at k line)

@@ -1,7 +1,7 @@
 -- Bytes at the front of others.
 use Rattle.std.specs.Prelude.{ℕ, List, [], ◌∷◌, ◌==◌, Option, Some, None, if◌then◌else◌}
 
--- what follows these bytes, if they stand at the front
+-- what follows these bytes, if they are at the front
 abbrev pub behind : List ℕ → List ℕ → Option (List ℕ)
 behind [] bytes = Some bytes
 behind (x ∷ xs) [] = None

@@ -1,4 +1,4 @@
--- The first fault of a line, from the left, or its event and the bytes behind it.
+-- The first fault of a line, from the left, or its event and the bytes after it.
 use Rattle.std.specs.Prelude.{ℕ, List, length, nat_lt, Option, Some, None, Result, Ok, Err, if◌then◌else◌}
 use Rattle.sequence.specs.Gives.{◌>>=◌}
 use Rattle.hierarchy.specs.declared.class.ClassId.{ClassId}

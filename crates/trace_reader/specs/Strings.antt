@@ -18,7 +18,7 @@ abbrev pub coded : Option ℕ → Option ℕ → Option ℕ
 coded (Some high) (Some low) = if has_code (high * 16 + low) then Some (high * 16 + low) else None
 coded _ _ = None
 
--- what a letter behind a backslash means
+-- what a letter after a backslash means
 abbrev pub letter : ℕ → Option ℕ
 letter e = if e == 34 then Some 34 else if e == 92 then Some 92 else if e == 110 then Some 10 else if e == 116 then Some 9 else if e == 114 then Some 13 else None
 
@@ -26,12 +26,12 @@ abbrev pub byte_or_bad : Option ℕ → List ℕ → Result (ℕ × List ℕ) Tr
 byte_or_bad (Some b) rest = Ok (b, rest)
 byte_or_bad None rest = Err BadValue
 
--- behind \u: 00 and two digits
+-- after \u: 00 and two digits
 unfoldable pub code_at : List ℕ → Result (ℕ × List ℕ) TraceFaultKind
 code_at (z ∷ y ∷ high ∷ low ∷ rest) = if z == 48 && y == 48 then byte_or_bad (coded (low_hex high) (low_hex low)) rest else Err BadValue
 code_at _ = Err BadValue
 
--- behind a backslash
+-- after a backslash
 unfoldable pub escape_at : List ℕ → Result (ℕ × List ℕ) TraceFaultKind
 escape_at [] = Err BadValue
 escape_at (e ∷ rest) = if e == 117 then code_at rest else byte_or_bad (letter e) rest
@@ -58,7 +58,7 @@ byte_at (b ∷ rest) = if b == 92 then escape_at rest else if is_plain b then Ok
 abbrev pub before : List ℕ → Result (List ℕ × List ℕ) TraceFaultKind → Result (List ℕ × List ℕ) TraceFaultKind
 before front read = read >>= λ x. Ok (front ++ x.0, x.1)
 
--- behind the closing quote, where it stands here
+-- after the closing quote, where it is here
 abbrev pub closing : List ℕ → Option (List ℕ)
 closing [] = None
 closing (b ∷ bs) = if b == 34 then Some bs else None
@@ -72,12 +72,12 @@ bytes_in (suc n) (b ∷ bs) = if b == 34 then Ok ([], bs) else byte_at (b ∷ bs
 unfoldable pub bytes_at : List ℕ → Result (List ℕ × List ℕ) TraceFaultKind
 bytes_at bytes = bytes_in (length bytes) bytes
 
--- behind the opening quote
+-- after the opening quote
 unfoldable pub quote_at : List ℕ → Result (List ℕ) TraceFaultKind
 quote_at [] = Err BadLine
 quote_at (b ∷ bs) = if b == 34 then Ok bs else if ends_word b then Err BadLine else Err BadValue
 
--- behind the closing quote the line ends
+-- after the closing quote the line ends
 unfoldable pub closed_at : List ℕ → Result (List ℕ) TraceFaultKind
 closed_at [] = Err BadLine
 closed_at (b ∷ bs) = if b == 10 then Ok bs else if b == 32 then Err BadLine else Err BadValue

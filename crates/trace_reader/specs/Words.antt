@@ -1,4 +1,4 @@
--- The words of a line: one space parts two of them, and LF ends the line.
+-- The words of a line: one space separates two of them, and LF ends the line.
 use Rattle.std.specs.Prelude.{ℕ, ◌+◌, List, [], ◌∷◌, take, drop, Bool, ◌||◌, ◌==◌, Result, Ok, Err, if◌then◌else◌}
 use Rattle.sequence.specs.Gives.{◌>>=◌}
 use Rattle.trace_reader.specs.declared.fault.TraceFaultKind.{TraceFaultKind}
@@ -16,16 +16,16 @@ word_len (b ∷ bs) = if ends_word b then 0 else 1 + word_len bs
 unfoldable pub word_at : List ℕ → Result (List ℕ × List ℕ) TraceFaultKind
 word_at bytes = if word_len bytes == 0 then Err BadLine else Ok (take (word_len bytes) bytes, drop (word_len bytes) bytes)
 
--- behind the space
+-- after the space
 unfoldable pub space_at : List ℕ → Result (List ℕ) TraceFaultKind
 space_at [] = Err BadLine
 space_at (b ∷ bs) = if b == 32 then Ok bs else Err BadLine
 
--- the next word, behind its space
+-- the next word, after its space
 unfoldable pub next_at : List ℕ → Result (List ℕ × List ℕ) TraceFaultKind
 next_at bytes = space_at bytes >>= word_at
 
--- behind the line's end
+-- after the line's end
 unfoldable pub end_at : List ℕ → Result (List ℕ) TraceFaultKind
 end_at [] = Err BadLine
 end_at (b ∷ bs) = if b == 10 then Ok bs else Err BadLine

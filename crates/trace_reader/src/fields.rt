@@ -23,7 +23,7 @@ use statics::{base_of, narrowed_int};
 /// The numbers of references in a trace are below this.
 const MOST_REFERENCES: u32 = 1_000_000;
 
-/// What follows these bytes at the front, if they stand there.
+/// What follows these bytes at the front, if they are there.
 fn behind_bytes<'a>(front: &[u8], bytes: &'a [u8]) -> Option<&'a [u8]>
     ensures { option_copied result ≡ behind front.now bytes.now }
 {

@@ -5,11 +5,11 @@
 //! `laws` has this and more.
 //!
 //! A word is read by what is written: a number is taken where its decimal is the word, a field where its spelling is. Each
-//! word has a function, and what they make of a line stands in `lines`; none takes memory but for a text. The bytes are gone over
+//! word has a function, and what they make of a line is in `lines`; none takes memory but for a text. The bytes are gone over
 //! once: a line has no end that is looked for before it is read, since every word stops at one.
 //!
 //! In `specs/`, `TraceEvents` says which lists are read, and `TraceReading` which fault a text has, over `Reading` for one line
-//! and `Words`, `Numbers`, `Verbs`, `Fields` and `Strings` for what stands in it.
+//! and `Words`, `Numbers`, `Verbs`, `Fields` and `Strings` for what is in it.
 #![tactic(auto)]
 
 mod fault;

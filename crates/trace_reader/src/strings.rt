@@ -41,7 +41,7 @@ fn coded_byte(high: u8, low: u8) -> Option<u8>
     if needs_code(byte) { Some(byte) } else { None }
 }
 
-/// The byte behind `\u`.
+/// The byte after `\u`.
 #[tactic(auto, unfolding(crate::specs::Strings::code_at))]
 fn code(bytes: &[u8]) -> Read<(u8, &[u8])>
     ensures { Gives (λ x. (x.0, x.1.now)) result (code_at bytes.now) }
@@ -55,7 +55,7 @@ fn code(bytes: &[u8]) -> Read<(u8, &[u8])>
     }
 }
 
-/// The byte behind a backslash.
+/// The byte after a backslash.
 #[tactic(auto, unfolding(crate::specs::Strings::escape_at))]
 fn escape(bytes: &[u8]) -> Read<(u8, &[u8])>
     ensures { Gives (λ x. (x.0, x.1.now)) result (escape_at bytes.now) }
@@ -159,7 +159,7 @@ fn bytes_of(alloc: Global, bytes: &[u8]) -> Read<(Vec<u8>, &[u8])>
     }
 }
 
-// Goes on behind a byte that isn't, so that several bytes can be looked at at once.
+// Goes on after a byte that isn't, so that several bytes can be looked at at once.
 fn is_ascii(bytes: &[u8]) -> bool
     ensures { result ≡ list_all (λ b. nat_lt b 128) bytes.now }
 {

@@ -62,7 +62,7 @@ pub(crate) fn word(bytes: &[u8]) -> Read<(&[u8], &[u8])>
     Ok(bytes.split_at(length))
 }
 
-/// The bytes behind a space.
+/// The bytes after a space.
 #[tactic(auto, unfolding(crate::specs::Words::space_at))]
 pub(crate) fn behind_space(bytes: &[u8]) -> Read<&[u8]>
     ensures { Gives (λ x. x.now) result (space_at bytes.now) }
@@ -73,7 +73,7 @@ pub(crate) fn behind_space(bytes: &[u8]) -> Read<&[u8]>
     }
 }
 
-/// The next word, behind its space, and what follows it.
+/// The next word, after its space, and what follows it.
 #[tactic(auto, unfolding(crate::specs::Words::next_at))]
 pub(crate) fn next_word(bytes: &[u8]) -> Read<(&[u8], &[u8])>
     ensures { Gives (λ x. (x.0.now, x.1.now)) result (next_at bytes.now) }
@@ -82,7 +82,7 @@ pub(crate) fn next_word(bytes: &[u8]) -> Read<(&[u8], &[u8])>
     word(after)
 }
 
-/// The bytes behind the line's end.
+/// The bytes after the line's end.
 #[tactic(auto, unfolding(crate::specs::Words::end_at))]
 pub(crate) fn line_end(bytes: &[u8]) -> Read<&[u8]>
     ensures { Gives (λ x. x.now) result (end_at bytes.now) }

@@ -10,7 +10,7 @@ use std::sync::atomic::{AtomicU64, Ordering};
 use std::thread;
 use std::thread::Threads;
 
-// The words of four locks behind a counter, laid as a table lays them: eight words fill a cache line.
+// The words of four locks after a counter, laid as a table lays them: eight words fill a cache line.
 fn four_locks(alloc: Global) -> Result<Vec<AtomicU64>, AllocError> {
     let mut words = Vec::new(alloc);
     for _ in 0..40 {

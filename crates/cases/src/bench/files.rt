@@ -10,7 +10,7 @@ use std::alloc::Global;
 use std::mem::replace;
 use std::rt::Clock;
 
-/// Files, one after the other. What went wrong last is told where the files are taken.
+/// Files, one after the other. What went wrong last is reported where the files are taken.
 #[derive(Drop)]
 pub(crate) struct Files {
     alloc: Global,
@@ -39,7 +39,7 @@ impl Files {
         }
     }
 
-    /// Adds a template to the last file: `#` stands for the first number and `@` for the second.
+    /// Adds a template to the last file: `#` is for the first number and `@` for the second.
     pub(crate) fn add(&mut self, template: &[u8], first: usize, second: usize) {
         for byte in template {
             push_byte(&mut self.last, *byte, first, second);

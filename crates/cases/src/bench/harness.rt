@@ -1,6 +1,6 @@
 //! What all benchmarks measure with: rows, the least of many times or the middle of many ratios, lines of figures.
 //!
-//! A line is measured in rounds. In each of them its sample is taken once, then what stands beside it, then some `fetch_add`s, so
+//! A line is measured in rounds. In each of them its sample is taken once, then what is beside it, then some `fetch_add`s, so
 //! that a busy minute of the machine meets all three. The rounds are spread over several sweeps through all lines, so that such
 //! a minute doesn't meet all rounds of a line. The first round of each sweep warms up and doesn't count.
 //!

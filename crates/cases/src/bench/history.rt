@@ -38,7 +38,7 @@ fn blank_history(alloc: Global, room: usize) -> Result<History, AllocError>
     })
 }
 
-/// So many records that keep nothing. The first and each eighth behind it have room for so many events.
+/// So many records that keep nothing. The first and each eighth after it have room for so many events.
 pub fn histories(alloc: Global, count: usize, room: usize) -> Result<Vec<History>, AllocError>
     ensures count { IfOk result (λ records. vec_len records ≡ count) }
     ensures blank { IfOk result (λ records. AllByRecursion (λ r. r.events.items ≡ []) records.items) }

@@ -112,7 +112,7 @@ fn first_events(alloc: Global, program: &Program, story: &Story) -> Result<Vec<E
     }
 }
 
-// Adds so many events: copies of those behind the front, from the first on, so that what both threads do comes again and again.
+// Adds so many events: copies of those after the front, from the first on, so that what both threads do comes again and again.
 fn repeat(events: &mut Vec<Event>, count: usize) -> Result<(), AllocError> {
     for place in FRONT_EVENTS..count.saturating_add(FRONT_EVENTS) {
         if let Some(event) = events.get(place) {

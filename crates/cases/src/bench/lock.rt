@@ -1,7 +1,7 @@
 //! Times of the lock, a round, beside the bare steps of a lock.
 //!
 //! Each thread draws so many events, each under a lock: it takes a record, adds to its history, draws, and gives the
-//! record back. Beside it stands the same contest by bare steps (`bare`): as many threads make as many rounds on as many
+//! record back. Beside it is the same contest by bare steps (`bare`): as many threads make as many rounds on as many
 //! locks. Both are taken one after the other, so that the price of a cache line that goes from one processor to another is
 //! in both. A time is that of all threads, divided by the rounds of one.
 
@@ -72,7 +72,7 @@ pub(crate) const ROWS: &[Row] = &[
     },
 ];
 
-// A table of 32 records, the first and each eighth behind it with room for so many events, and a pass for each thread.
+// A table of 32 records, the first and each eighth after it with room for so many events, and a pass for each thread.
 fn opened(
     alloc: Global,
     threads: usize,

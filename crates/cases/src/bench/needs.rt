@@ -1,6 +1,6 @@
 //! Times of `needs` on ladders of diamonds, a rung, beside a short ladder.
 //!
-//! On each rung of a ladder stand two interfaces with a default method, and each extends both of the rung below. So the
+//! On each rung of a ladder are two interfaces with a default method, and each extends both of the rung below. So the
 //! ways down from the top double with each rung, while the interfaces are only two a rung.
 
 use crate::bench::files::Files;

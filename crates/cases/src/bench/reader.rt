@@ -9,7 +9,7 @@ use jasmin_reader::read_class;
 use std::alloc::Global;
 use std::rt::Clock;
 
-/// What a file has many of: its parts stand between a front and a back.
+/// What a file has many of: its parts are between a front and a back.
 pub(crate) struct Part {
     pub front: &'static [u8],
     /// `#` is the number of the part, and `@` how many parts are left.

@@ -17,7 +17,7 @@ use std::thread::Threads;
 // Of how many times a mean is taken, where one is.
 const MEAN_OF: usize = 20;
 
-/// What is timed. Each has a size. Rows hold samples as they stand in the tables, so none is ever copied.
+/// What is timed. Each has a size. Rows hold samples as they are in the tables, so none is ever copied.
 pub(crate) enum Sample {
     /// Pushes of 24 bytes on a list.
     Pushes,
@@ -94,7 +94,7 @@ impl Sample {
     }
 
     // The same; for what several threads contend for, of which each time is another, the mean of some times, taken one after another
-    // behind one that doesn't count: the least of single times is that of a lucky one.
+    // after one that doesn't count: the least of single times is that of a lucky one.
     fn mean_time<R: Clock + Threads + Wait + Sync>(
         &self,
         rt: &R,

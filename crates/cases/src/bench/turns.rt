@@ -63,7 +63,7 @@ pub(crate) fn add_files(files: &mut Files, length: usize) {
     }
 }
 
-// Ends the initializer that the thread is in, or requests the main class where it has no class open: else its turn would tell
+// Ends the initializer that the thread is in, or requests the main class where it has no class open: else its turn would say
 // the same again.
 fn go_on(world: &mut World, thread: usize, main: ClassId) -> Result<(), AllocError>
     requires thread { thread < length world.old.threads }

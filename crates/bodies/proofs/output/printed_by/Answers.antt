@@ -4,7 +4,7 @@ use Rattle.init_core.specs.declared.event.Event.{Event}
 use Rattle.bodies.specs.Output.{output_in, output_of}
 use Rattle.bodies.proofs.output.printed_by.Goals as goal
 
--- one event's output added, where that of the events before it stands
+-- one event's output added to that of the events before it
 one_more : (out new : List ℕ) (e : Event) (es : List Event) (i : ℕ) → i < length es → e ≡ get_or es i e
     → out ++ output_of (drop i es) ≡ output_of es → new ≡ out ++ output_in e.kind → new ++ output_of (drop (i + 1) es) ≡ output_of es
 one_more out new e es i within is before written =

@@ -1,6 +1,6 @@
 use Rattle.std.proofs.Common.{arith}
 use Rattle.std.proofs.lemmas.Grind.{common_steps}
-use Rattle.guest_threads.proofs.report.parted.Goals as goal
+use Rattle.guest_threads.proofs.report.separated.Goals as goal
 
 pub loop-worked-preserved : goal.loop-worked-preserved
 loop-worked-preserved c = grind (arith, common_steps)
