@@ -29,7 +29,7 @@ pub enum ThreadOutcome {
 /// How far a thread may go.
 #[derive(Clone, Copy)]
 pub struct Limits {
-    /// The instructions that a thread may begin: 1 to 100,000,000.
+    /// The instructions that a thread may begin: 1 to 100,000,000. What runs its bodies counts them.
     pub steps: u32,
     /// The looks that it may take at one lock, one class in progress or one monitor: up to 1,000,000,000;
     /// 0 is without limit.

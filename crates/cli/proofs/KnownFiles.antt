@@ -1,7 +1,7 @@
 -- Files that are known by their names.
 use Rattle.std.proofs.Common.{◌≡◌, ◌≢◌, ◌∙◌, ◌+◌, ◌<◌, ◌≤◌, ℕ, sym, subst, ap, refl, arith, length, take, drop, append_assoc, List, [], ◌∷◌, ◌++◌, Option, Some, None, is_none, true≢false, IsSomeAnd, Bor, slice_index_or}
 use Rattle.std.specs.List.{AllZip}
-use Rattle.std.proofs.lemmas.List.{length-take, map-append, take-append-drop, take_all, take_more}
+use Rattle.std.proofs.lemmas.List.{length-map, length-take, map-append, take-append-drop, take_all, take_more}
 use Rattle.jasmin_text.specs.Grammar.{Spells}
 use Rattle.jasmin_text.specs.Lines.{lines_of}
 use Rattle.jasmin_text.specs.declared.class_text.ClassParts.{ClassParts}
@@ -9,9 +9,9 @@ use Rattle.clap.specs.Walk.{texts}
 use Rattle.std.specs.Prelude.{Err}
 use Rattle.jasmin_reader.specs.File.{class_at}
 use Rattle.cli.specs.declared.fault.Fault.{Fault}
-use Rattle.cli.specs.declared.files.TheConstants.{MOST_BYTES}
+use Rattle.cli.specs.declared.files.TheConstants.{MOST_BYTES, MOST_FILES}
 use Rattle.cli.specs.ReadRefusals.{AreRefused, IsReadRefusal, at_file, faulty, no_memory, too_large, unread}
-use Rattle.cli.specs.Files.{AreSpelled, FileHolds, Files, KeepsAllBut, SpellsClass}
+use Rattle.cli.specs.Files.{AreClassesOf, AreSpelled, FileHolds, Files, KeepsAllBut, SpellsClass}
 
 no_name : (name : List ℕ) → None ≢ Some name
 no_name name e = true≢false (ap is_none e)
@@ -64,7 +64,7 @@ large_file most (Some files) name bytes front long = go (files name) front
 pub refused_before : (before after : Option Files) (file : List ℕ) (f : Fault) → KeepsAllBut None before after → IsReadRefusal after file f → IsReadRefusal before file f
 refused_before before after file _ kept (unread is) = unread is
 refused_before before after file _ kept (too_large large) = too_large (held_before before after file (λ all. MOST_BYTES < length all) kept large)
-refused_before before after file _ kept (faulty {f = g} is found) = faulty is (held_before before after file (λ all. class_at all ≡ Err g) kept found)
+refused_before before after file _ kept (faulty {f = g} is found) = faulty is (held_before before after file (λ all. (length all ≤ MOST_BYTES) × (class_at all ≡ Err g)) kept found)
 refused_before before after file _ kept no_memory = no_memory
 
 -- the files before one, that one, and those after it
@@ -78,11 +78,24 @@ split_at files i d lt =
     ∙ (ap (λ front. front ++ texts (drop (i + 1) files)) (map-append (λ s. s.now) (take i files) (slice_index_or files i d ∷ []))
     ∙ append_assoc (texts (take i files)) ((slice_index_or files i d).now ∷ []) (texts (drop (i + 1) files))))
 
+-- as many names as files
+few_names : (files : List (Bor (List ℕ))) → length files ≤ MOST_FILES → length (texts files) ≤ MOST_FILES
+few_names files few = subst (λ n. n ≤ MOST_FILES) (sym (length-map files (λ s. s.now))) few
+
+-- all files were read
+pub all_spelled : (known : Option Files) (files : List (Bor (List ℕ))) (i : ℕ) (classes : List ClassParts) → length files ≤ MOST_FILES → length files ≤ i
+    → AreSpelled known (texts (take i files)) classes → AreClassesOf known (texts files) classes
+all_spelled known files i classes few over all =
+    record {
+      few = few_names files few;
+      spelled = subst (λ fs. AreSpelled known (texts fs) classes) (take_all i files over) all;
+    }
+
 -- a file isn't had, while those before it are
-pub refused_at : (before now : Option Files) (files : List (Bor (List ℕ))) (i : ℕ) (d : Bor (List ℕ)) (classes : List ClassParts) (f : Fault) → i < length files
+pub refused_at : (before now : Option Files) (files : List (Bor (List ℕ))) (i : ℕ) (d : Bor (List ℕ)) (classes : List ClassParts) (f : Fault) → length files ≤ MOST_FILES → i < length files
     → AreSpelled before (texts (take i files)) classes → KeepsAllBut None before now → IsReadRefusal now (slice_index_or files i d).now f → AreRefused before (texts files) f
-refused_at before now files i d classes f lt all kept refused =
-    at_file (texts (take i files)) (slice_index_or files i d).now (texts (drop (i + 1) files)) classes (split_at files i d lt) all (refused_before before now (slice_index_or files i d).now f kept refused)
+refused_at before now files i d classes f few lt all kept refused =
+    at_file (texts (take i files)) (slice_index_or files i d).now (texts (drop (i + 1) files)) classes (few_names files few) (split_at files i d lt) all (refused_before before now (slice_index_or files i d).now f kept refused)
 
 -- one more place
 all_zip_push : {A B : Type 0} (R : A → B → Type 0) (xs : List A) (ys : List B) (x : A) (y : B) → AllZip R xs ys → R x y → AllZip R (xs ++ x ∷ []) (ys ++ y ∷ [])
@@ -100,4 +113,4 @@ more_spelled before now files i d classes c lt all kept one =
     = ap texts (take_more files i d lt) ∙ map-append (λ s. s.now) (take i files) (slice_index_or files i d ∷ []) in
     subst (λ ns. AreSpelled before ns (classes ++ c ∷ [])) (sym names)
     (all_zip_push (SpellsClass before) (texts (take i files)) classes (slice_index_or files i d).now c all
-    (held_before before now (slice_index_or files i d).now (λ bytes. Spells (lines_of bytes) c) kept one))
+    (held_before before now (slice_index_or files i d).now (λ bytes. (length bytes ≤ MOST_BYTES) × Spells (lines_of bytes) c) kept one))

@@ -1,11 +1,12 @@
 -- Files by name, where what they hold is known: of each name the bytes, or nothing where there is no such file.
-use Rattle.std.specs.Prelude.{◌≡◌, ◌≢◌, ⊤, ℕ, List, Option, Some, None, IsSomeAnd}
+use Rattle.std.specs.Prelude.{◌≡◌, ◌≢◌, ◌≤◌, ⊤, ℕ, List, Option, Some, None, IsSomeAnd, length}
 use Rattle.std.specs.List.{AllZip}
 use Rattle.jasmin_text.specs.Grammar.{Spells}
 use Rattle.jasmin_text.specs.declared.class_text.ClassParts.{ClassParts}
 use Rattle.jasmin_text.specs.Lines.{lines_of}
 use Rattle.hierarchy.specs.FirstFault.{LinksTo}
 use Rattle.hierarchy.specs.LinkedProgram.{LinkedProgram}
+use Rattle.cli.specs.declared.files.TheConstants.{MOST_BYTES, MOST_FILES}
 
 abbrev pub Files : Type 0
 Files = List ℕ → Option (List ℕ)
@@ -21,16 +22,21 @@ abbrev pub FileHolds : Option Files → List ℕ → (List ℕ → Type 0) → T
 FileHolds None name P = ⊤
 FileHolds (Some files) name P = IsSomeAnd (files name) P
 
--- the file of that name spells the class
+-- the file of that name has at most 1 MiB, and spells the class
 abbrev pub SpellsClass : Option Files → List ℕ → ClassParts → Type 0
-SpellsClass known name c = FileHolds known name (λ bytes. Spells (lines_of bytes) c)
+SpellsClass known name c = FileHolds known name (λ bytes. (length bytes ≤ MOST_BYTES) × Spells (lines_of bytes) c)
 
 -- each file spells the class at its place
 abbrev pub AreSpelled : Option Files → List (List ℕ) → List ClassParts → Type 0
 AreSpelled known = AllZip (SpellsClass known)
 
--- the program is linked from the classes that the files spell
+-- there are at most 256 files, and they spell the classes
+pub record AreClassesOf (known : Option Files) (files : List (List ℕ)) (texts : List ClassParts) : Type 0 where
+  pub few : length files ≤ MOST_FILES
+  pub spelled : AreSpelled known files texts
+
+-- the program is linked from the classes of the files
 pub record IsLinkedFrom (known : Option Files) (files : List (List ℕ)) (program : LinkedProgram) : Type 0 where
   pub texts : List ClassParts
-  pub spelled : AreSpelled known files texts
+  pub classes : AreClassesOf known files texts
   pub linked : LinksTo texts program

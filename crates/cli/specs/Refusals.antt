@@ -11,7 +11,7 @@ use Rattle.cli.specs.declared.fault.Fault.TheVariants.{Words}
 use Rattle.cli.specs.Checking.{IsCheckRefusal}
 use Rattle.command_line.specs.CommandLine.{Request, RunWords, check, faults_in, needs, request_in, run, unfit}
 use Rattle.cli.specs.FaultText.{fault_line}
-use Rattle.cli.specs.Files.{AreSpelled, Files}
+use Rattle.cli.specs.Files.{AreClassesOf, Files}
 use Rattle.cli.specs.Limits.{AreLimits, IsLimitRefusal}
 use Rattle.cli.specs.Orders.{IsOrderRefusal, order_in}
 use Rattle.cli.specs.ReadRefusals.{AreRefused, AreUnlinked}
@@ -21,7 +21,7 @@ use Rattle.cli.specs.Status.{status_of}
 -- of files whose main classes are to be run, in an order where there is one: that of the files, or else of linking and running
 pub data IsFilesRefusal (known : Option Files) (files : List Text) (mains : Option Text) (order : Option (List ℕ)) : Fault → Type 0 where
   unread : {f : Fault} → AreRefused known files f → IsFilesRefusal known files mains order f
-  not_run : {f : Fault} (texts : List ClassParts) → AreSpelled known files texts → IsRefusal texts mains order f → IsFilesRefusal known files mains order f
+  not_run : {f : Fault} (texts : List ClassParts) → AreClassesOf known files texts → IsRefusal texts mains order f → IsFilesRefusal known files mains order f
 
 -- of `run`: that of the order, or else of the limits, or else of the files
 pub data IsRunFault (known : Option Files) (words : RunWords) : Fault → Type 0 where

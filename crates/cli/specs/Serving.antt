@@ -14,7 +14,7 @@ use Rattle.init_core.specs.declared.event.Event.{Event}
 use Rattle.judge.specs.declared.verdict.Verdict.{Verdict}
 use Rattle.cli.specs.Checking.{IsJudged, TellsVerdict, status_by}
 use Rattle.command_line.specs.CommandLine.{CheckWords, Request, RunWords, check, faults_in, needs, request_in, run, unfit}
-use Rattle.cli.specs.Files.{AreSpelled, FileHolds, Files, KeepsAllBut}
+use Rattle.cli.specs.Files.{AreClassesOf, FileHolds, Files, KeepsAllBut}
 use Rattle.cli.specs.Limits.{AreLimits}
 use Rattle.cli.specs.NeedsText.{needs_text}
 use Rattle.cli.specs.Orders.{order_in}
@@ -43,7 +43,7 @@ pub record HasRun (before after : Surroundings) (errors errors_after : Option (L
   pub order : Option (List ℕ)
   pub limits : Limits
   pub report : Report
-  pub spelled : AreSpelled before.files words.files texts
+  pub classes : AreClassesOf before.files words.files texts
   pub linked : LinksTo texts program
   pub ordered : order_in words.mains words.order ≡ Some order
   pub said : AreLimits words.steps words.patience limits
@@ -56,7 +56,7 @@ pub record HasRun (before after : Surroundings) (errors errors_after : Option (L
 pub record HasToldNeeds (before after : Surroundings) (files : List Text) : Type 0 where
   pub texts : List ClassParts
   pub program : LinkedProgram
-  pub spelled : AreSpelled before.files files texts
+  pub classes : AreClassesOf before.files files texts
   pub linked : LinksTo texts program
   pub output : Appends before.output after.output (needs_text program)
 

@@ -1,10 +1,9 @@
 //! Files by name.
 
-ghost use Rattle.std.specs.Prelude.{◌≡◌, ◌≤◌, ℕ, List, Option, Some, None, length, vec_len, take, IfErr, IfOk, OnOk};
+ghost use Rattle.std.specs.Prelude.{◌≡◌, ◌≤◌, ℕ, List, Option, Some, None, vec_len, take, IfErr, IfOk, OnOk};
 ghost use Rattle.clap.specs.Walk.{texts as texts_of};
-ghost use Rattle.cli.specs.Files.{AreSpelled, FileHolds, KeepsAllBut, SpellsClass};
+ghost use Rattle.cli.specs.Files.{AreClassesOf, FileHolds, KeepsAllBut, SpellsClass};
 ghost use Rattle.cli.specs.ReadRefusals.{AreRefused, IsReadRefusal};
-ghost use Rattle.cli.specs.declared.files.TheConstants.{MOST_BYTES};
 
 use crate::fault::Fault;
 use jasmin_reader::read_class;
@@ -53,7 +52,6 @@ fn read_text<'a, N: Named>(
     file: &'a str,
 ) -> Result<ClassText, Fault<'a>>
     ensures spelled { IfOk result (SpellsClass (N.held named.old) file.now) }
-    ensures limit { OnOk result (FileHolds (N.held named.old) file.now (λ all. length all ≤ MOST_BYTES)) }
     ensures refused { IfErr result (IsReadRefusal (N.held named.old) file.now) }
     ensures files { KeepsAllBut None (N.held named.old) (N.held named.new) }
 {
@@ -80,7 +78,7 @@ pub(crate) fn read_texts<'a, N: Named>(
     named: &mut N,
     files: &[&'a str],
 ) -> Result<Vec<ClassText>, Fault<'a>>
-    ensures spelled { IfOk result (λ texts. AreSpelled (N.held named.old) (texts_of files.now) texts.items) }
+    ensures classes { IfOk result (λ texts. AreClassesOf (N.held named.old) (texts_of files.now) texts.items) }
     ensures refused { IfErr result (AreRefused (N.held named.old) (texts_of files.now)) }
     ensures files { KeepsAllBut None (N.held named.old) (N.held named.new) }
 {

@@ -5,7 +5,8 @@ use Rattle.hierarchy.specs.declared.class.ClassId.{ClassId}
 use Rattle.hierarchy.specs.LinkedProgram.{LinkedProgram}
 use Rattle.init_core.specs.declared.event.Event.{Event}
 use Rattle.init_lock.specs.Known.{PassFacts, TableFacts, seen_at, IsAway}
-use Rattle.init_lock.specs.Closing.{numbers}
+use Rattle.init_lock.specs.Closing.{HasJournals, numbers}
+use Rattle.init_lock.specs.Log.{Entry}
 use Rattle.bodies.specs.declared.report.Limits.{Limits}
 use Rattle.bodies.specs.declared.report.Report.{Report}
 use Rattle.bodies.specs.Making.{Making}
@@ -13,6 +14,7 @@ use Rattle.guest_threads.specs.declared.guarded.Guarded.{Guarded}
 use Rattle.guest_threads.specs.declared.launch.Job.{Job}
 use Rattle.guest_threads.specs.declared.work.Worked.{Worked}
 use Rattle.bodies.specs.Runs.{AreMains, IsRunOf}
+use Rattle.guest_threads.specs.Drawing.{merged}
 use Rattle.guest_threads.specs.ThreadWork.{IsDone}
 use Rattle.guest_threads.specs.Working.{Works}
 
@@ -60,6 +62,10 @@ pub record AreDone {S : Type 0} (making : LinkedProgram → Making S) (k : PlanF
   pub count : length starts ≡ length k.mains
   pub done : (t : ℕ) (m : ClassId) (start : S) (w : Worked) → slice_get k.mains t ≡ Some m → slice_get starts t ≡ Some start → slice_get ws t ≡ Some w → IsDone k.program (making k.program) start k.table k.limits m w
 
--- the report is of the run whose threads did this
+-- these are the events of all journals, in the order of their stamps
+abbrev pub AreMerged : List Worked → List Event → Type 0
+AreMerged ws events = (log : List (Entry Event)) × HasJournals log (map (λ w. w.pass) ws) × (events ≡ merged log)
+
+-- the report is of the run whose threads did this, and has their events in the order of their stamps
 abbrev pub IsReportOf : {S : Type 0} → (LinkedProgram → Making S) → TableFacts → List Worked → Report → Type 0
-IsReportOf {S} making table ws r = (k : PlanFacts) (starts : List S) → k.table ≡ table → IsPlan k → AreDone making k starts ws → IsRunOf k.program (making k.program) starts k.mains k.limits r
+IsReportOf {S} making table ws r = (k : PlanFacts) (starts : List S) → k.table ≡ table → IsPlan k → AreDone making k starts ws → AreMerged ws r.events × IsRunOf k.program (making k.program) starts k.mains k.limits r

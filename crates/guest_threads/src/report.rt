@@ -45,7 +45,7 @@ fn separated(
     Ok((passes, outcomes))
 }
 
-/// The report of a run that is over. An `Err` means out of memory.
+/// The report of a run that is over, with the events in the order of their stamps. An `Err` means out of memory.
 pub(crate) fn report<B: Bodies>(
     alloc: Global,
     table: InitTable<Guarded>,

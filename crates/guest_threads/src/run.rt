@@ -56,7 +56,8 @@ fn prepared(alloc: Global, program: &Program) -> Result<Vec<Guarded>, AllocError
 /// The events of all threads, in the one order of their stamps, are a legal interleaving (JLS SE 8 12.4.2). A thread that
 /// is refused memory is ended by OutOfMemoryError, and one that looked as often as `limits.patience` allows at one lock or
 /// at one class in progress by InternalError; it ends the classes that it has begun, the innermost first. With patience 0
-/// a thread waits without limit, so that two whose classes need each other may wait for ever.
+/// a thread waits without limit, so that two whose classes need each other may wait for ever. At `limits.steps` it is for
+/// `bodies` to end a thread.
 ///
 /// `gate` is told of each event, after the thread has made it.
 pub fn run_threads<R: Threads + Wait + Sync, G: Gate + Sync, B: Bodies + Send>(

@@ -123,7 +123,7 @@ impl Heap {
     ///
     /// # Errors
     ///
-    /// Out of memory, which changes nothing, and doesn't come directly after [`Heap::throwable`].
+    /// Out of memory, which changes nothing. Directly after [`Heap::throwable`], which keeps room, it doesn't come; no clause says so.
     pub fn initializer_error(&mut self, program: &Program) -> Result<Thrown, AllocError>
         ensures thrown { IfOk result (λ t. t ≡ thrown_by program.now ExceptionInInitializerError self.old) }
         ensures made { OnOk result (self.new ≡ with_thrown program.now ExceptionInInitializerError self.old) }

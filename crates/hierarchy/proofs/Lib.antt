@@ -33,6 +33,7 @@ pub mod Searches
 pub mod SelectionTables
 pub mod SmallNumbers
 pub mod SpellableMembers
+mod StaticMembers
 pub mod Subtypes
 pub mod Superclasses
 pub mod TextLists

@@ -28,7 +28,6 @@ pub mod Searched
 pub mod Selection
 pub mod SelectionTable
 pub mod SpellableClass
-pub mod StaticMembers
 pub mod Subclasses
 pub mod Superinterfaces
 pub mod Supertypes

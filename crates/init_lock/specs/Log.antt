@@ -64,7 +64,7 @@ module _ {E : Type 0} where
   ByOthers may by n [] = Unit {0}
   ByOthers may by n (x ∷ xs) = ((k : ℕ) × (k ≢ by) × may k (Some n) x) × ByOthers may by n xs
 
-  -- the list begins with what the pass had seen, and goes on with what other passes drew
+  -- the list begins with what the pass had seen, and goes on with events that other passes may draw
   pub record Grew (may : ℕ → Option ℕ → E → Type 0) (by n : ℕ) (seen list : List E) : Type 0 where
     pub more : List E
     pub begins : list ≡ seen ++ more

@@ -6,11 +6,11 @@ use Rattle.init_lock.specs.Rule.{element_at}
 
 -- the record of place n was taken, where records keep such events, such events may be drawn, and such records follow one another
 pub record Taken {R E : Type 0} (kept : R → List E) (may : ℕ → Opt ℕ → E → Type 0) (follows : R → R → Type 0) (n : ℕ) (before after : PassFacts R E) (h : HeldFacts R) : Type 0 where
-  -- it is that of the place, as it was found, and no pass had it
+  -- it is that of the place, as it was found, and the pass didn't have it
   pub place : h.place ≡ n
   pub untouched : h.taken ≡ h.kept
   pub free : out_of n before.places ≡ None
-  -- it keeps what the pass had seen, its own events there too, and then what other passes drew
+  -- it keeps what the pass had seen, its own events there too, and then events that other passes may draw there
   pub grew : Grew may before.number n (seen_at n before.places) (kept h.kept)
   pub own : IsWithin (own_events n before.journal) (kept h.kept)
   -- it follows the record that the pass saw last there, and that of the beginning

@@ -14,7 +14,7 @@
 //!
 //! - **What a thread finds under a lock begins with all that it had seen there.** The record that [`InitTable::try_take`]
 //!   or [`InitTable::take`] answers keeps a list of events that begins with the list which this pass saw last at the
-//!   place, its own events among them, and goes on with events that other passes drew there.
+//!   place, its own events among them, and goes on with events that other passes may draw there.
 //! - **When the threads have ended there is one log.** [`InitTable::finish`] shows one list of all events. The stamp of an
 //!   event is its index in the log, so the stamps are 0 to m-1, each once. The journal of a pass is the part of the log
 //!   that the pass drew, so its stamps rise. Each record keeps exactly the events of its place, in the order of the log.

@@ -204,10 +204,12 @@ impl Interpreter {
         ensures err { OnErr result (self.new ≡ self.old) }
     {
         if is_error(program, thrown) {
+            self.phase = Phase::Runs;
             return Ok(thrown);
         }
-        // (room for the error was kept when what was thrown was made)
+        // (where the machine made what was thrown, it kept room for the error)
         let wrapped = self.heap.initializer_error(program)?;
+        self.phase = Phase::Runs;
         self.thrown = Some(wrapped);
         Ok(wrapped.class)
     }

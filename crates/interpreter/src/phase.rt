@@ -13,7 +13,7 @@ pub(crate) enum Phase {
     Ready(ClassId),
     /// This monitor is entered before its innermost frame goes on; where it says so, for the frame's method.
     Locks(Monitor, bool),
-    /// It is over: its first method returned, or this object left it.
+    /// It is over: its first method returned, or this object left it, and step 11 is still to come.
     Over(Option<Thrown>),
     /// It was refused the memory for its first frame.
     Refused,

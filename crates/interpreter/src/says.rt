@@ -79,11 +79,13 @@ impl Interpreter {
                 return Does::Ended(Limit::Memory);
             }
         }
-        self.phase = Phase::Runs;
         self.thrown = thrown;
         match thrown {
             Some(thrown) => Does::Over(Some(thrown.class)),
-            None => Does::Over(None),
+            None => {
+                self.phase = Phase::Runs;
+                Does::Over(None)
+            },
         }
     }
 

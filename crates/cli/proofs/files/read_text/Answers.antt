@@ -9,11 +9,7 @@ use Rattle.cli.proofs.files.read_text.Goals as goal
 
 pub returns-in-Ok-read_class-clause-spelled : goal.returns-in-Ok-read_class-clause-spelled
 returns-in-Ok-read_class-clause-spelled g c =
-    whole_file 1048576 (g.N.Named.held c.args.named.now) c.args.file.now c.in-Ok.bytes.items (λ all. Spells (lines_of all) c.in-Ok-read_class.text) c.in-Ok.ensures.bytes (search rules) (search rules)
-
-pub returns-in-Ok-read_class-clause-limit : goal.returns-in-Ok-read_class-clause-limit
-returns-in-Ok-read_class-clause-limit g c =
-    whole_file 1048576 (g.N.Named.held c.args.named.now) c.args.file.now c.in-Ok.bytes.items (λ all. length all ≤ 1048576) c.in-Ok.ensures.bytes (search rules) (search rules)
+    whole_file 1048576 (g.N.Named.held c.args.named.now) c.args.file.now c.in-Ok.bytes.items (λ all. (length all ≤ 1048576) × Spells (lines_of all) c.in-Ok-read_class.text) c.in-Ok.ensures.bytes (search rules) (search rules, search rules)
 
 pub returns-in-Err-Io-clause-refused : goal.returns-in-Err-Io-clause-refused
 returns-in-Err-Io-clause-refused g c = unread {name = c.args.file} refl
@@ -36,8 +32,7 @@ returns g c =
     ] in
     record {
       spelled = tt;
-      limit = tt;
       refused = faulty {name = c.args.file} {f = c.in-Err.fault} refl
-          (whole_file 1048576 (g.N.Named.held c.args.named.now) c.args.file.now c.in-Ok.bytes.items (λ all. class_at all ≡ Err c.in-Err.fault) c.in-Ok.ensures.bytes (search rules) (rw c.deref.ensures.value at read));
+          (whole_file 1048576 (g.N.Named.held c.args.named.now) c.args.file.now c.in-Ok.bytes.items (λ all. (length all ≤ 1048576) × (class_at all ≡ Err c.in-Err.fault)) c.in-Ok.ensures.bytes (search rules) (search rules, rw c.deref.ensures.value at read));
       files = c.read.ensures.files;
     }

@@ -1,10 +1,10 @@
 use Rattle.std.proofs.Common.{◌<◌, [], rules, subst, sym, ◌+◌, length, take, None}
-use Rattle.std.proofs.lemmas.List.{length-map, take_all}
+use Rattle.std.proofs.lemmas.List.{length-map}
 use Rattle.clap.specs.Walk.{texts as texts_of}
 use Rattle.cli.specs.declared.files.TheConstants.{MOST_FILES}
 use Rattle.cli.specs.Files.{AreSpelled}
 use Rattle.cli.specs.ReadRefusals.{no_room, too_many}
-use Rattle.cli.proofs.KnownFiles.{keeps_all, keeps_then, more_spelled, refused_at}
+use Rattle.cli.proofs.KnownFiles.{all_spelled, keeps_all, keeps_then, more_spelled, refused_at}
 use Rattle.cli.proofs.files.read_texts.Goals as goal
 
 pub returns-then-files-gt-MOST_FILES-clause-refused : goal.returns-then-files-gt-MOST_FILES-clause-refused
@@ -30,7 +30,7 @@ loop-file-preserved g c =
 
 pub returns-in-Err-clause-refused : goal.returns-in-Err-clause-refused
 returns-in-Err-clause-refused g c =
-    refused_at (g.N.Named.held c.args.named.now) (g.N.Named.held c.loop-file.named) c.args.files.now c.loop-file.file-index _ c.loop-file.texts.items c.in-Err.fault c.loop-file-test.true
+    refused_at (g.N.Named.held c.args.named.now) (g.N.Named.held c.loop-file.named) c.args.files.now c.loop-file.file-index _ c.loop-file.texts.items c.in-Err.fault (search rules) c.loop-file-test.true
     c.loop-file.invariant.0 c.loop-file.invariant.1 c.in-Err.ensures.refused
 
 pub returns-in-Err-clause-files : goal.returns-in-Err-clause-files
@@ -42,9 +42,9 @@ returns-in_err-push-clause-refused g c = search (rules, no_room)
 pub returns-in_err-push-clause-files : goal.returns-in_err-push-clause-files
 returns-in_err-push-clause-files g c = keeps_then None (g.N.Named.held c.args.named.now) (g.N.Named.held c.loop-file.named) (g.N.Named.held c.read_text.new.named) c.loop-file.invariant.1 c.read_text.ensures.files
 
-pub returns-clause-spelled : goal.returns-clause-spelled
-returns-clause-spelled g c =
-    subst (λ files. AreSpelled (g.N.Named.held c.args.named.now) (texts_of files) c.loop-file.texts.items) (take_all c.loop-file.file-index c.args.files.now c.loop-file-test.false) c.loop-file.invariant.0
+pub returns-clause-classes : goal.returns-clause-classes
+returns-clause-classes g c =
+    all_spelled (g.N.Named.held c.args.named.now) c.args.files.now c.loop-file.file-index c.loop-file.texts.items (search rules) c.loop-file-test.false c.loop-file.invariant.0
 
 pub returns-clause-files : goal.returns-clause-files
 returns-clause-files g c = c.loop-file.invariant.1

@@ -6,4 +6,4 @@ pub returns-in-Err-clause-refused : goal.returns-in-Err-clause-refused
 returns-in-Err-clause-refused g c = unread c.in-Err.ensures.refused
 
 pub returns-in-Ok-clause-refused : goal.returns-in-Ok-clause-refused
-returns-in-Ok-clause-refused g c = IfErr-weaker c.run_texts-ran.result _ _ (λ f refused. not_run c.in-Ok.texts.items c.in-Ok.ensures.spelled refused) c.run_texts-ran.ensures.refused
+returns-in-Ok-clause-refused g c = IfErr-weaker c.run_texts-ran.result _ _ (λ f refused. not_run c.in-Ok.texts.items c.in-Ok.ensures.classes refused) c.run_texts-ran.ensures.refused

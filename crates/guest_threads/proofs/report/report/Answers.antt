@@ -64,7 +64,7 @@ returns g c =
             finished = h.2;
             output = refl;
           } in
-          subst (λ (xs : List ℕ). IsRunOf p (making p) starts mains k.limits (record { outcomes = c.in_ok-passes.outcomes; events = c.from_vec.result; labels = c.in_ok-labels.labels; output = xs })) (sym prints)
+          ((log, journals, merges), subst (λ (xs : List ℕ). IsRunOf p (making p) starts mains k.limits (record { outcomes = c.in_ok-passes.outcomes; events = c.from_vec.result; labels = c.in_ok-labels.labels; output = xs })) (sym prints)
           (subst (λ (es : List Event). IsRunOf p (making p) starts mains k.limits (record { outcomes = c.in_ok-passes.outcomes; events = es; labels = c.in_ok-labels.labels; output = output_of (merged log) })) (sym merges)
-          (subst (λ (os : List ThreadOutcome). IsRunOf p (making p) starts mains k.limits (record { outcomes = os; events = merged log; labels = c.in_ok-labels.labels; output = output_of (merged log) })) (sym c.in_ok-passes.ensures.outcomes) run));
+          (subst (λ (os : List ThreadOutcome). IsRunOf p (making p) starts mains k.limits (record { outcomes = os; events = merged log; labels = c.in_ok-labels.labels; output = output_of (merged log) })) (sym c.in_ok-passes.ensures.outcomes) run)));
     }

@@ -43,5 +43,5 @@ returns g c =
     let plan = plan_of k c.requires.mains (c.in_ok-table.ensures.places ∙ c.in_ok-records.ensures.count) c.in_ok-table.ensures.threads in
     record {
       ran = subst (λ (starts : List g.row.B.Denot). IsRunOf k.program (g.B.Bodies.making k.program) starts k.mains k.limits c.in_ok-report.field-0) c.in_ok-jobs.ensures.bodies
-          (c.in_ok-report.ensures.reports k (map (λ j. j.bodies) c.in_ok-jobs.jobs.items) refl plan c.in_ok-done.ensures.done);
+          (c.in_ok-report.ensures.reports k (map (λ j. j.bodies) c.in_ok-jobs.jobs.items) refl plan c.in_ok-done.ensures.done).1;
     }

@@ -53,11 +53,11 @@ some_same same = cc
 
 on_sheet : (old new : List ℕ) (out out' errors errors_after : Option (List ℕ)) (status : ℕ) → HasRun (around (Some (sheet old)) out) (around (Some (sheet new)) out') errors errors_after run_words status
     → BecomesItsTrace old new
-on_sheet old new out out' errors errors_after status h = go h.texts h.spelled h.linked
+on_sheet old new out out' errors errors_after status h = go h.texts h.classes.spelled h.linked
   where
     go : (classes : List ClassParts) → AreSpelled (Some (sheet old)) (codes "sheet" ∷ []) classes → LinksTo classes h.program → BecomesItsTrace old new
     go [] spelled linked = absurd spelled
-    go (c ∷ []) spelled linked = (c, h.program, h.limits, h.report, spelled.0, linked, h.said, subst (λ order. IsRunOfNamed (Some (codes "Solo")) order h.limits h.program h.report) (some_same h.ordered) h.ran, h.written.traced)
+    go (c ∷ []) spelled linked = (c, h.program, h.limits, h.report, spelled.0.1, linked, h.said, subst (λ order. IsRunOfNamed (Some (codes "Solo")) order h.limits h.program h.report) (some_same h.ordered) h.ran, h.written.traced)
     go (c ∷ d ∷ ds) spelled linked = absurd spelled.1
 
 pub returns : goal.returns
