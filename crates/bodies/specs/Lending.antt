@@ -49,11 +49,6 @@ lent_bodies {H = H} L M = record {
   limits = λ l s. M.limits l s.state;
 }
 
--- what a body does that has waited it does in the end
-pub waits_with : {S H : Type 0} {L : Lending S H} {M : Making S} {last : Option Completed} {d : Does} {s u z : Lent S H} → DoesWith L M last Waits s u → DoesWith L M last d u z → DoesWith L M last d s z
-waits_with (at_once first) next = waited first next
-waits_with (waited first more) next = waited first (waits_with more next)
-
 -- nothing is shared
 abbrev pub nothing_shared : {S : Type 0} → Lending S (Unit {0})
 nothing_shared = record { shared_of = λ s. tt; with_shared = λ s h. s }

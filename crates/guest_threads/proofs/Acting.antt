@@ -43,9 +43,9 @@ use Rattle.bodies.proofs.ThreadSteps.{allows_use, asks_one, uses_one, prints_at,
 use Rattle.guest_threads.specs.declared.guarded.Guarded.{Guarded}
 use Rattle.guest_threads.specs.declared.task.Work.{Work}
 use Rattle.guest_threads.specs.Tasks.{TaskFacts, error_of, IsWhy}
-use Rattle.guest_threads.specs.Working.{Working, StandsAt, OuterOf, IdleOf, IsRoomier, IsInBody, HasComeTo, IsDoing, IsOver, Took, GaveBack, drawn, seen_of}
+use Rattle.guest_threads.specs.Working.{Working, StandsAt, IsRoomier, IsInBody, HasComeTo, IsDoing, IsOver, Took, GaveBack, drawn, seen_of}
 use Rattle.bodies.proofs.Asking.{IsBodyAt, of_main, of_class as of_a_class, body_at, running_at, running_requests, not_running, body_error, is_idle, are_asking}
-use Rattle.guest_threads.proofs.Passing.{View, one, still, told, with_record, visited, drew}
+use Rattle.guest_threads.proofs.Passing.{View, OuterOf, IdleOf, one, still, told, with_record, visited, drew}
 use Rattle.bodies.proofs.HeldValues.{value_held, written_value}
 use Rattle.guest_threads.proofs.Telling.{machine_of}
 

@@ -1,5 +1,5 @@
 -- What the steps of a thread leave of what it knows.
-use Rattle.std.proofs.Common.{◌≡◌, ◌≢◌, ℕ, ◌+◌, ◌<◌, ◌≤◌, List, [], ◌∷◌, ◌++◌, Some, None, Bool, true, false, ◌==◌, cond, length, refl, sym, subst, ap, ◌∙◌, eq-eqb, append-nil, arith}
+use Rattle.std.proofs.Common.{◌≡◌, ◌≢◌, ℕ, ◌+◌, ◌<◌, ◌≤◌, List, [], ◌∷◌, ◌++◌, Option, Some, None, Bool, true, false, ◌==◌, cond, length, refl, sym, subst, ap, ◌∙◌, eq-eqb, append-nil, arith}
 use Rattle.std.specs.List.{AllByRecursion}
 use Rattle.std.proofs.lemmas.Bool.{eqb-true}
 use Rattle.hierarchy.specs.declared.class.ClassId.{ClassId}
@@ -9,6 +9,7 @@ use Rattle.init_core.specs.declared.event.Decision.TheVariants as decision
 use Rattle.init_core.specs.declared.event.Event.{Event}
 use Rattle.init_core.specs.declared.event.Kind.{Kind}
 use Rattle.init_core.specs.declared.event.Kind.TheVariants as kind
+use Rattle.init_core.specs.declared.frames.Completed.{Completed}
 use Rattle.init_core.specs.declared.frames.Outcome.{Outcome}
 use Rattle.init_core.specs.declared.procedure.Answer.{Answer}
 use Rattle.init_core.specs.Advance.{Advances}
@@ -27,10 +28,11 @@ use Rattle.init_lock.specs.declared.views.PlaceView.{PlaceView}
 use Rattle.init_lock.specs.Known.{PassFacts, HeldFacts, TableFacts, seen_at, IsSamePass, IsAway}
 use Rattle.bodies.specs.declared.report.Limit.{Limit}
 use Rattle.bodies.specs.Making.{Making, maker_of}
+use Rattle.bodies.specs.ThreadStands.{OutsideOf, NoneOpenOf}
 use Rattle.guest_threads.specs.declared.guarded.Guarded.{Guarded}
 use Rattle.guest_threads.specs.declared.task.Work.{Work}
 use Rattle.guest_threads.specs.Tasks.{TaskFacts, IsWhy}
-use Rattle.guest_threads.specs.Working.{Working, Works, StandsAt, OuterOf, IdleOf, Took, GaveBack, Finds, ArePrepared, drawn, seen_of}
+use Rattle.guest_threads.specs.Working.{Working, Works, StandsAt, Took, GaveBack, Finds, ArePrepared, drawn, seen_of}
 use Rattle.bodies.proofs.Counting.{few_more, has_last}
 use Rattle.bodies.proofs.ThreadSteps.{goes_of as thread_goes_of}
 
@@ -112,6 +114,14 @@ look_made p t c found decision.Begins ok = one kind.Begins ok tt
 -- what a thread makes under no lock
 pub seen_same : (x y : View) → y.places ≡ x.places → SeesMore (seen_of x) (λ d. []) (seen_of y)
 seen_same x y e = record { adds = λ d. ap (λ (ps : List (PlaceView Guarded Event)). seen_at d.number ps) e ∙ sym (append-nil (seen_of x d)); agrees = λ d. tt }
+
+-- what may come before a request from outside of any class
+abbrev pub OuterOf : {S : Type 0} → Making S → TaskFacts S → Bool → ClassId → List Event → S → Type 0
+OuterOf M k b = OutsideOf k.program k.number M k.start k.main b
+
+-- what comes there where no class is open
+abbrev pub IdleOf : {S : Type 0} → Making S → TaskFacts S → Bool → Option Completed → List Event → S → Type 0
+IdleOf M k b = NoneOpenOf k.program k.number M k.start k.main b
 
 module _ {S : Type 0} (M : Making S) (k : TaskFacts S) where
   -- the procedure for a class is completed outside of any class

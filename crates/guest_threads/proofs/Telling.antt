@@ -47,10 +47,10 @@ use Rattle.guest_threads.specs.declared.work.Worked.{Worked}
 use Rattle.guest_threads.specs.Tasks.{TaskFacts, error_of, IsWhy, IsLimitOf}
 use Rattle.bodies.specs.Runs.{IsOutcome}
 use Rattle.guest_threads.specs.ThreadWork.{IsDone}
-use Rattle.guest_threads.specs.Working.{Working, Works, StandsAt, OuterOf, IdleOf, Took, GaveBack, drawn, seen_of}
+use Rattle.guest_threads.specs.Working.{Working, Works, StandsAt, Took, GaveBack, drawn, seen_of}
 use Rattle.bodies.proofs.Asking.{IsAt, looks_at, runs_at, ends_at, in_files, gives_up, gives_up_run, ends, is_told, look_last, run_last}
 use Rattle.bodies.proofs.Counting.{few_more, one_less, has_last, error_after}
-use Rattle.guest_threads.proofs.Passing.{View, one, nothing as none_made, goes_of, outer_of, answered_at, told, with_record, visited, drew, look_made}
+use Rattle.guest_threads.proofs.Passing.{View, OuterOf, IdleOf, one, nothing as none_made, goes_of, outer_of, answered_at, told, with_record, visited, drew, look_made}
 
 pub machine_of : (p : LinkedProgram) (l : Limit) → IsMachineError p (error_of p l)
 machine_of p Memory = inr refl

@@ -7,7 +7,6 @@ use Rattle.hierarchy.specs.LinkedProgram.{LinkedProgram, id}
 use Rattle.statics.specs.Statics.{statics_of}
 use Rattle.init_core.specs.declared.event.Event.{Event}
 use Rattle.init_core.specs.declared.event.TheConstants.{THREADS}
-use Rattle.init_core.specs.declared.frames.Completed.{Completed}
 use Rattle.init_core.specs.declared.frames.Outcome.{Outcome}
 use Rattle.init_core.specs.declared.frames.Outcome.TheVariants.{Ended}
 use Rattle.init_core.specs.Advance.{MayRequest}
@@ -25,7 +24,7 @@ use Rattle.bodies.specs.Doing.{MayDo}
 use Rattle.bodies.specs.Making.{Making, HasCome, maker_of}
 use Rattle.guest_threads.specs.declared.guarded.Guarded.{Guarded}
 use Rattle.guest_threads.specs.declared.task.Work.{Work}
-use Rattle.bodies.specs.ThreadStands.{OutsideOf, NoneOpenOf, ThreadStands}
+use Rattle.bodies.specs.ThreadStands.{ThreadStands}
 use Rattle.bodies.specs.Writes.{WritesHeld}
 use Rattle.guest_threads.specs.Tasks.{TaskFacts, IsWhy}
 
@@ -105,14 +104,6 @@ pub record GaveBack (n : ℕ) (events : List Event) (before after : PassFacts Gu
 -- before main's body or in it, how its procedures stand after these events of its own
 abbrev pub StandsAt : {S : Type 0} → Making S → TaskFacts S → Bool → Standing → List Event → (ClassId → List Event) → S → Type 0
 StandsAt M k in_main s own seen z = ThreadStands k.program k.number M k.start k.main in_main s own seen z
-
--- what may come before a request from outside of any class
-abbrev pub OuterOf : {S : Type 0} → Making S → TaskFacts S → Bool → ClassId → List Event → S → Type 0
-OuterOf M k b = OutsideOf k.program k.number M k.start k.main b
-
--- what comes there where no class is open
-abbrev pub IdleOf : {S : Type 0} → Making S → TaskFacts S → Bool → Option Completed → List Event → S → Type 0
-IdleOf M k b = NoneOpenOf k.program k.number M k.start k.main b
 
 -- Where the work of a thread stands, by bodies of M.
 pub record Working {S : Type 0} (M : Making S) (k : TaskFacts S) (w : Work S) : Type 0 where

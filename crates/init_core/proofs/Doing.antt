@@ -20,10 +20,18 @@ use Rattle.init_core.specs.Lawful.{MayUse}
 use Rattle.init_core.specs.Leads.{frame, standing, LeadsOf, idle}
 use Rattle.init_core.specs.MainWord.{BeforeMainOf, BeforeItemOf, MainItemsOf, main_items, MainDoneOf, main_done}
 use Rattle.init_core.specs.ProcedureWord.{Maker, Word, no_items, uses, prints, completed, printed, GoesOn, IsUse}
-use Rattle.init_core.specs.Stands.{begun_classes, StandsOf, StandsBeforeMain, StandsInMain, SeesMore}
+use Rattle.init_core.specs.Standing.{Standing}
+use Rattle.init_core.specs.Stands.{begun_classes, StandsOf, SeesMore}
 use Rattle.init_core.proofs.Knowing.{request_calm, request_error}
 use Rattle.init_core.proofs.Leading.{has_used, has_printed}
 use Rattle.init_core.proofs.Seeing.{AreMine, mine_still, calm}
+
+-- A thread of main class m, from a first state of what makes its bodies: before main's body, and in it.
+abbrev pub StandsBeforeMain : LinkedProgram → ℕ → (M : Maker) → M.State → ClassId → Standing → List Event → (ClassId → List Event) → M.State → Type 0
+StandsBeforeMain p t M first m s own seen z = StandsOf p t M (BeforeMainOf p t M first m) (MainDoneOf p t M first m) s own seen z
+
+abbrev pub StandsInMain : LinkedProgram → ℕ → (M : Maker) → M.State → ClassId → Standing → List Event → (ClassId → List Event) → M.State → Type 0
+StandsInMain p t M first m s own seen z = StandsOf p t M (BeforeItemOf p t M first m) (MainItemsOf p t M first m) s own seen z
 
 -- a read or a write is no wait, and leaves the label
 use_facts : (k : Kind) → IsUse k → (is_wait k ≡ false) × ((l : Label) (t : ℕ) → next_label l t k ≡ l)

@@ -14,10 +14,11 @@ use Rattle.init_core.specs.declared.frames.Outcome.TheVariants.{Normal, Abrupt, 
 use Rattle.init_core.specs.declared.frames.Phase.{Phase}
 use Rattle.init_core.specs.declared.frames.Phase.TheVariants.{Looking, Needing, Running, EndingBy}
 use Rattle.init_core.specs.Decisions.{event}
-use Rattle.init_core.specs.ProcedureWord.{free, ProcedureWord, completed, given_up, GoesOn}
+use Rattle.init_core.specs.ProcedureWord.{free, completed, given_up, GoesOn}
 use Rattle.init_core.specs.Standing.{Standing}
 use Rattle.init_core.specs.Leads.{frame, standing, kind_of_ending, outcome_of, Leads, idle}
 use Rattle.init_core.specs.Advance.{after_needs, after_word, after_in}
+use Rattle.init_core.proofs.Forgetting.{ProcedureWord}
 use Rattle.init_core.proofs.Leading.{has_ended, body_is_ended, body_is_stopped, body_is_given_up, look_is_given_up}
 use Rattle.init_core.specs.LegalSoFar.{EndsItsClass, AreEndings}
 

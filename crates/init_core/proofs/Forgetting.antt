@@ -5,7 +5,11 @@ use Rattle.hierarchy.specs.LinkedProgram.{LinkedProgram}
 use Rattle.init_core.specs.declared.event.Event.{Event}
 use Rattle.init_core.specs.declared.frames.Completed.{Completed}
 use Rattle.init_core.specs.declared.frames.Outcome.{Outcome}
-use Rattle.init_core.specs.ProcedureWord.{Maker, free, Word, word, AfterWait, recurs, finds_initialized, finds_erroneous, gives_up, completes, fails, is_ended, need_fails, need_is_ended, lacks_memory, Begun, begins, and_then, ItemsOf, no_items, requests, uses, prints, Body, stops, stops_ended, ThreadWordOf, ran, threw, was_ended, ProcedureWord, Items, ThreadWord}
+use Rattle.init_core.specs.ProcedureWord.{Maker, free, Word, word, AfterWait, recurs, finds_initialized, finds_erroneous, gives_up, completes, fails, is_ended, need_fails, need_is_ended, lacks_memory, Begun, begins, and_then, ItemsOf, no_items, requests, uses, prints, Body, stops, stops_ended, ThreadWordOf, ran, threw, was_ended, Items, ThreadWord}
+
+-- the procedure for c by t, whatever its bodies do
+abbrev pub ProcedureWord : LinkedProgram → ℕ → ClassId → List Event → Outcome → Type 0
+ProcedureWord p t c events r = Word p t free tt c events r tt
 
 module _ (p : LinkedProgram) (t : ℕ) (M : Maker) where
   mutual

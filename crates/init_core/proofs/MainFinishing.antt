@@ -7,8 +7,9 @@ use Rattle.init_core.specs.declared.event.Event.{Event}
 use Rattle.init_core.specs.declared.frames.Completed.{Completed}
 use Rattle.init_core.specs.declared.frames.Outcome.{Outcome}
 use Rattle.init_core.specs.declared.frames.Outcome.TheVariants.{Normal, Abrupt, Ended}
-use Rattle.init_core.specs.ProcedureWord.{free, ProcedureWord, word, gives_up, Items, Body, stops, ThreadWord, ran, threw, was_ended, given_up}
+use Rattle.init_core.specs.ProcedureWord.{free, word, gives_up, Items, Body, stops, ThreadWord, ran, threw, was_ended, given_up}
 use Rattle.init_core.specs.MainWord.{MainDone, nothing, main_done, BeforeMain, MainItems, main_items, BeforeItem, BeginsMain, in_procedure, in_body}
+use Rattle.init_core.proofs.Forgetting.{ProcedureWord}
 use Rattle.init_core.proofs.Leading.{body_stops}
 use Rattle.init_core.proofs.Mains.{goes_main, goes_item, thread_word}
 use Rattle.init_core.specs.LegalSoFar.{AreEndings}

@@ -155,12 +155,10 @@ free = record {
   replaces = λ s thrown e z. Unit {0};
 }
 
--- the procedure for c by t, whatever its bodies do
-abbrev pub ProcedureWord : LinkedProgram → ℕ → ClassId → List Event → Outcome → Type 0
-ProcedureWord p t c events r = Word p t free tt c events r tt
-
+-- the items of a body so far, whatever the bodies do
 abbrev pub Items : LinkedProgram → ℕ → Option Completed → List Event → Type 0
 Items p t last events = ItemsOf p t free tt last events tt
 
+-- what a thread of main class m does, whatever the bodies do
 abbrev pub ThreadWord : LinkedProgram → ℕ → ClassId → List Event → Type 0
 ThreadWord p t m events = (r : Outcome) × ThreadWordOf p t free tt m events r tt

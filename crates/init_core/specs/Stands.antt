@@ -15,7 +15,6 @@ use Rattle.init_core.specs.Decisions.{waits}
 use Rattle.init_core.specs.Label.{label_of}
 use Rattle.init_core.specs.Lawful.{AgreesAfter, MayUse}
 use Rattle.init_core.specs.Leads.{LeadsOf, outcome_of}
-use Rattle.init_core.specs.MainWord.{BeforeMainOf, MainDoneOf, BeforeItemOf, MainItemsOf}
 use Rattle.init_core.specs.ProcedureWord.{Maker, free, IsOfFiles, completed, ended_by, given_up}
 use Rattle.init_core.specs.Standing.{Standing}
 
@@ -67,13 +66,6 @@ pub record StandsOf (p : LinkedProgram) (t : ℕ) (M : Maker) (Outer : ClassId �
 -- the same whatever the bodies do
 abbrev pub Stands : LinkedProgram → ℕ → (ClassId → List Event → Type 0) → (Option Completed → List Event → Type 0) → Standing → List Event → (ClassId → List Event) → Type 0
 Stands p t Outer Idle s own seen = StandsOf p t free (λ d ys z. Outer d ys) (λ last ys z. Idle last ys) s own seen tt
-
--- A thread of main class m, from a first state of what makes its bodies: before main's body, and in it.
-abbrev pub StandsBeforeMain : LinkedProgram → ℕ → (M : Maker) → M.State → ClassId → Standing → List Event → (ClassId → List Event) → M.State → Type 0
-StandsBeforeMain p t M first m s own seen z = StandsOf p t M (BeforeMainOf p t M first m) (MainDoneOf p t M first m) s own seen z
-
-abbrev pub StandsInMain : LinkedProgram → ℕ → (M : Maker) → M.State → ClassId → Standing → List Event → (ClassId → List Event) → M.State → Type 0
-StandsInMain p t M first m s own seen z = StandsOf p t M (BeforeItemOf p t M first m) (MainItemsOf p t M first m) s own seen z
 
 -- these events are seen of each class besides, and agree with its labels
 pub record SeesMore (seen : ClassId → List Event) (more : ClassId → List Event) (now : ClassId → List Event) : Type 0 where

@@ -1,5 +1,5 @@
 -- Views that are cut and joined, and what the table is at its start and at its end.
-use Rattle.std.proofs.Common.{◌≡◌, ◌≢◌, ℕ, suc, ◌+◌, ◌-◌, ◌<◌, ◌≤◌, ⊎_elim, List, [], ◌∷◌, ◌++◌, Bool, eqb, cond, Option as Opt, Some, None, length, map, set, get_or, refl, sym, ap, ◌∙◌, subst, arith, eq-eqb, ne_eqb, ◌*◌}
+use Rattle.std.proofs.Common.{◌≡◌, ◌≢◌, ℕ, suc, ◌+◌, ◌-◌, ◌<◌, ◌≤◌, ◌⊎◌, ⊎_elim, List, [], ◌∷◌, ◌++◌, Bool, eqb, cond, Option as Opt, Some, None, length, map, set, get_or, refl, sym, ap, ◌∙◌, subst, arith, eq-eqb, ne_eqb, ◌*◌}
 use Rattle.std.specs.List.{AllByRecursion}
 use mathlib.Core.Logic.{dite}
 use mathlib.Core.Option.{Option, some, some-injective, some-ne-none}
@@ -15,7 +15,7 @@ use Rattle.init_lock.specs.declared.views.Custody.TheVariants.{Away, Carried, He
 use Rattle.init_lock.specs.Rule.{lock_word, done_word, element_at, place_view, pass_view, unseen, newcomers, opened, Each, count_of, total, FollowedBy, Knows, Fits, AtHome, RuleHolds}
 use Rattle.init_lock.specs.Known.{IsAway, seen_at, last_at, out_of, out_by}
 use Rattle.init_lock.specs.Steps.{but_first, just_first}
-use Rattle.init_lock.specs.Closing.{In, numbers}
+use Rattle.init_lock.specs.Closing.{numbers}
 use Rattle.init_lock.proofs.Lists.{none_some, some_at, low_index, there_element, from_map, length_map}
 use Rattle.init_lock.proofs.Entries.{out_is}
 use Rattle.init_lock.proofs.Spread.{total_set, total-append, each-append, parts-append}
@@ -33,6 +33,12 @@ module _ {A : Type 0} where
   pub all_middle : (F : A → Type 0) (l m : List A) (x : A) → AllByRecursion F (l ++ x ∷ m) → F x
   all_middle F [] m x h = h.0
   all_middle F (y ∷ ys) m x h = all_middle F ys m x h.1
+
+module _ {R E : Type 0} where
+  -- the pass is one of the seat's
+  abbrev pub In : PassView R E → List (PassView R E) → Type 0
+  In p [] = ⊥
+  In p (q ∷ qs) = (q ≡ p) ⊎ In p qs
 
 away_custody : {R : Type 0} (st : Custody) (r : R) → out_by st r ≡ None → st ≡ Away
 away_custody Away r e = refl

@@ -12,9 +12,9 @@ use Rattle.init_lock.specs.declared.views.PlaceView.{PlaceView}
 use Rattle.init_lock.specs.Log.{Entry, events_at, journal_of, AllAllowed}
 use Rattle.init_lock.specs.Rule.{element_at, FollowedBy, Fits, RuleHolds, AllSeen}
 use Rattle.init_lock.specs.Known.{PassFacts, IsAway, last_at, view_of_pass}
-use Rattle.init_lock.specs.Closing.{In, numbers, HasJournals, HasLooks, HasRecords, FollowsAll}
+use Rattle.init_lock.specs.Closing.{numbers, HasJournals, HasLooks, HasRecords, FollowsAll}
 use Rattle.init_lock.proofs.Lists.{none_some, said_is}
-use Rattle.init_lock.proofs.Ends.{all_home, fits_in, away_knows}
+use Rattle.init_lock.proofs.Ends.{In, all_home, fits_in, away_knows}
 
 pub length_numbers : (i n : ℕ) → length (numbers i n) ≡ n
 length_numbers i Prim.Native.Nat.zero = refl

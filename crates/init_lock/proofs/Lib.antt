@@ -3,9 +3,9 @@ pub mod Logs
 pub mod Merges
 pub mod Spread
 pub mod Entries
+pub mod Places
 pub mod Steps
 pub mod Ends
 pub mod Finals
-pub mod Places
 pub mod Seats
 pub mod Passes

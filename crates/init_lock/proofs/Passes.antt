@@ -11,11 +11,11 @@ use Rattle.init_lock.specs.Log.{is_at, IsPlace, stamped}
 use Rattle.init_lock.specs.Rule.{place_view, pass_view, unseen, Each}
 use Rattle.init_lock.specs.Known.{PassFacts, HeldFacts, IsAway, IsNewPass, look, seen_at, out_by, out_of, last_at, places_of, misses_of, looks_of, opening_of}
 use Rattle.init_lock.specs.Taken.{Taken as FoundFree}
-use Rattle.init_lock.specs.Steps.{SeatView, modify, took, missed, leave, released, drawn_places, drew, view_of, PassHolds, IsOnePass, MayReturn, Found, IsHolding, IsHoldingAt, IsOutAt, slots_of, without, custody_beside, IsCarried}
+use Rattle.init_lock.specs.Steps.{SeatView, modify, took, missed, leave, released, drawn_places, drew, view_of, PassHolds, IsOnePass, MayReturn, Found, IsOutAt, slots_of, without, custody_beside, IsCarried}
 use Rattle.init_lock.proofs.Lists.{length_map, length-modify, length_snoc, some_at, at_low}
 use Rattle.init_lock.proofs.Entries.{length-drawn}
 use Rattle.init_lock.proofs.Ends.{all_at, unseen_none_carried, unseen_away, unseen_seen, unseen_last}
-use Rattle.init_lock.proofs.Places.{now_at, held_there, carried_on, carried_left, carried_took, none_carried}
+use Rattle.init_lock.proofs.Places.{IsHolding, IsHoldingAt, now_at, held_there, carried_on, carried_left, carried_took, none_carried}
 
 inside_with : (slots n : ℕ) (carried : Opt ℕ) → IsPlace slots carried → n < slots → IsPlace slots (option_or carried (Some n))
 inside_with slots n None inside low = low

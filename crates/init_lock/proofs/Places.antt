@@ -1,4 +1,4 @@
--- What a pass knows of its places after one of them has changed.
+-- What a pass knows of its places, and after one of them has changed.
 use Rattle.std.proofs.Common.{◌≡◌, ◌≢◌, ℕ, suc, ⊎_elim, List, [], ◌∷◌, ◌++◌, Bool, true, false, cond, Option as Opt, Some, None, length, refl, sym, ap, ◌∙◌, subst, arith, eq-eqb, ne_eqb}
 use Rattle.std.specs.Option.{option_or}
 use mathlib.Core.Logic.{dite}
@@ -31,6 +31,15 @@ without_other n m (Some k) ne = dite (ℕ_discrete k n)
     (λ other. ap (λ (b : Bool). is_at m (cond b None (Some k))) (ne_eqb k n other))
 
 module _ {R E : Type 0} where
+  -- the pass has the record of the place
+  abbrev pub IsHolding : ℕ → List (PlaceView R E) → Type 0
+  IsHolding n places = (t : PlaceView R E) × (get_elem? places n ≡ some t) × (t.custody ≢ Away)
+
+  -- the pass has the record of the event's place, if it has one
+  abbrev pub IsHoldingAt : Opt ℕ → List (PlaceView R E) → Type 0
+  IsHoldingAt None places = Unit {0}
+  IsHoldingAt (Some n) places = IsHolding n places
+
   -- which slot is carried after one place has changed
   carried_after : (carried carried1 : Opt ℕ) (ts : List (PlaceView R E)) (n : ℕ) (f : PlaceView R E → PlaceView R E) → IsCarried carried ts → ((m : ℕ) → m ≢ n → is_at m carried1 ≡ is_at m carried)
       → ((t : PlaceView R E) → get_elem? ts n ≡ some t → ((f t).custody ≡ Carried → is_at n carried1 ≡ true) × (is_at n carried1 ≡ true → (f t).custody ≡ Carried)) → IsCarried carried1 (modify n f ts)

@@ -16,9 +16,10 @@ use Rattle.init_lock.specs.declared.views.Custody.TheVariants.{Away, Carried, He
 use Rattle.init_lock.specs.Log.{is_at}
 use Rattle.init_lock.specs.Rule.{lock_word, place_of_word, place_view, pass_view, RuleHolds}
 use Rattle.init_lock.specs.Known.{look, seen_at}
-use Rattle.init_lock.specs.Steps.{SeatView, modify, restage, in_custody, took, missed, leave, released, Found, TakesLock, TakesLockAt, SeesLock, ParksSlot, ParksSlotAt, FetchesSlot, FetchesSlotAt, FreesLock, FreesLockAt, DrawsStamp, DrawsWhatIsSaid, IsHolding, IsHoldingAt, slots_of, without, custody_beside, JustTook, HasOut, MayReturn}
+use Rattle.init_lock.specs.Steps.{SeatView, modify, restage, in_custody, took, missed, leave, released, Found, TakesLock, TakesLockAt, SeesLock, ParksSlot, ParksSlotAt, FetchesSlot, FetchesSlotAt, FreesLock, FreesLockAt, DrawsStamp, DrawsWhatIsSaid, slots_of, without, custody_beside, JustTook, HasOut, MayReturn}
 use Rattle.init_lock.proofs.Lists.{not_true, modify_here, modify_twice, some_at}
 use Rattle.init_lock.proofs.Logs.{is_at_some}
+use Rattle.init_lock.proofs.Places.{IsHolding, IsHoldingAt}
 use Rattle.init_lock.proofs.Steps.{takes_lock, sees_lock, parks, fetches, frees, draws}
 
 -- the lock word of a place tells the place

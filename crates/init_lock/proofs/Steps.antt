@@ -15,17 +15,22 @@ use Rattle.init_lock.specs.declared.views.PlaceView.{PlaceView}
 use Rattle.init_lock.specs.declared.views.Custody.{Custody}
 use Rattle.init_lock.specs.declared.views.Custody.TheVariants.{Away, Carried, Held}
 use Rattle.init_lock.specs.declared.journal.Stamped.{Stamped}
-use Rattle.init_lock.specs.Log.{Entry, entry, is_at, IsPlace, events_at, journal_of, own_events, AreBelow, AllAllowed, Grew, IsWithin, stamped, settled}
+use Rattle.init_lock.specs.Log.{Entry, is_at, IsPlace, events_at, journal_of, own_events, AreBelow, AllAllowed, Grew, IsWithin, stamped, settled}
 use Rattle.init_lock.specs.Rule.{lock_word, done_word, element_at, place_view, FollowedBy, Knows, Fits, RuleHolds, AllSeen}
 use Rattle.init_lock.specs.Known.{look, seen_at, out_by}
-use Rattle.init_lock.specs.Steps.{restage, in_custody, took, missed, leave, released, extend, drew, Found, TakesLockAt, SeesLock, ParksSlotAt, FetchesSlotAt, FreesLockAt, DrawsStamp, IsHolding}
+use Rattle.init_lock.specs.Steps.{restage, in_custody, took, missed, leave, released, extend, drew, Found, TakesLockAt, SeesLock, ParksSlotAt, FetchesSlotAt, FreesLockAt, DrawsStamp}
 use Rattle.init_lock.proofs.Lists.{length_snoc, low_index, said_is, length-modify, modified, unmodified, some_at, at_low}
 use Rattle.init_lock.proofs.Logs.{bool_cases, events-append, settled-append, none-append, allowed-append, allowed_after, by_others, own_within, below, short}
 use Rattle.init_lock.proofs.Entries.{events_off, events_on, journal_off, journal_on, seen_on, seen_is, last_is, out_is, drawn_at, length-drawn}
+use Rattle.init_lock.proofs.Places.{IsHolding}
 use Rattle.init_lock.proofs.Spread.{others_keep, still_alone}
 
 abbrev pub update : {R : Type 0} → (ℕ → Opt R) → ℕ → R → ℕ → Opt R
 update f n y m = cond (eqb m n) (Some y) (f m)
+
+-- an entry of the log
+abbrev entry : {E : Type 0} → ℕ → Opt ℕ → E → Entry E
+entry by place event = record { by = by; place = place; event = event }
 
 bool_apart : (b : Bool) → b ≡ true → b ≡ false → ⊥
 bool_apart true p q = cc

@@ -1,7 +1,6 @@
 -- What the journals and the records are when the threads have ended: there is one log.
-use Rattle.std.specs.Prelude.{◌≡◌, ℕ, suc, List, [], ◌∷◌, ◌⊎◌, Some}
+use Rattle.std.specs.Prelude.{◌≡◌, ℕ, suc, List, [], ◌∷◌, Some}
 use Rattle.std.specs.List.{AllByRecursion}
-use Rattle.init_lock.specs.declared.views.PassView.{PassView}
 use Rattle.init_lock.specs.Log.{Entry, events_at, journal_of}
 use Rattle.init_lock.specs.Rule.{AllSeen, element_at}
 use Rattle.init_lock.specs.Known.{Written, PassFacts, last_at}
@@ -33,8 +32,3 @@ module _ {R E : Type 0} where
   pub record FollowsAll (follows : R → R → Type 0) (records : List R) (p : PassFacts R E) : Type 0 where
     pub opening : (n : ℕ) (x r : R) → element_at n p.opening ≡ Some x → element_at n records ≡ Some r → follows x r
     pub last : (n : ℕ) (x r : R) → last_at n p.places ≡ Some x → element_at n records ≡ Some r → follows x r
-
-  -- the pass is one of the seat's
-  abbrev pub In : PassView R E → List (PassView R E) → Type 0
-  In p [] = ⊥
-  In p (q ∷ qs) = (q ≡ p) ⊎ In p qs

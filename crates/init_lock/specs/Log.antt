@@ -19,9 +19,6 @@ IsPlace places (Some n) = n < places
 IsPlace places None = Unit {0}
 
 module _ {E : Type 0} where
-  abbrev pub entry : ℕ → Option ℕ → E → Entry E
-  entry by place event = record { by = by; place = place; event = event }
-
   abbrev pub stamped : ℕ → Option ℕ → E → Stamped E
   stamped stamp place event = record { stamp = stamp; place = place; event = event }
 

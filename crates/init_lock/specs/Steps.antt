@@ -178,15 +178,6 @@ module _ {R E : Type 0} where
   just_first [] = []
   just_first (p ∷ ps) = p ∷ []
 
-  -- the pass has the record of the place
-  abbrev pub IsHolding : ℕ → List (PlaceView R E) → Type 0
-  IsHolding n places = (t : PlaceView R E) × (get_elem? places n ≡ some t) × (t.custody ≢ Away)
-
-  -- the pass has the record of the event's place, if it has one
-  abbrev pub IsHoldingAt : Opt ℕ → List (PlaceView R E) → Type 0
-  IsHoldingAt None places = Unit {0}
-  IsHoldingAt (Some n) places = IsHolding n places
-
   -- the pass has the record of the event's place out, if the event has a place
   abbrev pub IsOutAt : Opt ℕ → List (PlaceView R E) → Type 0
   IsOutAt None places = Unit {0}

@@ -18,13 +18,14 @@ use Rattle.init_core.specs.declared.frames.Phase.{Phase}
 use Rattle.init_core.specs.declared.frames.Phase.TheVariants.{Looking, Needing, Running, EndingBy}
 use Rattle.init_core.specs.Decisions.{event}
 use Rattle.init_core.specs.ProcedureWord as words
-use Rattle.init_core.specs.ProcedureWord.{free, ProcedureWord, Items, Body, ThreadWord, completed, given_up, GoesOn, IsOfFiles, IsMachineError}
+use Rattle.init_core.specs.ProcedureWord.{free, Items, Body, ThreadWord, completed, given_up, GoesOn, IsOfFiles, IsMachineError}
 use Rattle.init_core.specs.Standing.{Standing}
-use Rattle.init_core.specs.Leads.{frame, standing, kind_of_ending, outcome_of, Before, outermost, used, Leads, idle, looking, running}
+use Rattle.init_core.specs.Leads.{frame, standing, kind_of_ending, outcome_of, outermost, used, Leads, idle, looking, running}
 use Rattle.init_core.specs.Advance.{after_word}
 use Rattle.init_core.specs.MainWord.{MainDone, nothing, main_done, BeforeMain, before_first, MainItems, main_items, BeforeItem, before_item, LeadsMain, LeadsMainBody, BeginsMain, in_procedure, in_body}
+use Rattle.init_core.proofs.Forgetting.{ProcedureWord}
 use Rattle.init_core.proofs.Leading as leading
-use Rattle.init_core.proofs.Mains.{goes_main, goes_item, thread_word}
+use Rattle.init_core.proofs.Mains.{Before, goes_main, goes_item, thread_word}
 use Rattle.init_core.proofs.Leading.{body_stops}
 use Rattle.judge.specs.Reading.{Looks, waits, recurs, finds_initialized, finds_erroneous, begins, GoesOnBy, requests, uses, prints, Reads, looks, need_unanswered, body_unanswered, runs, lacks_memory, goes_on, completes, fails, is_ended, super_fails, main_begins, main_goes_on, ReadsAll, and_then, opening, MayStop, IsReadAsBeginning, IsReadAsWhole}
 use Rattle.judge.specs.Reading as reading

@@ -39,6 +39,7 @@ use Rattle.bodies.specs.declared.report.Limit.TheVariants.{Steps}
 use Rattle.bodies.specs.declared.does.Does.{Does}
 use Rattle.bodies.specs.declared.does.Does.TheVariants as does
 use Rattle.bodies.specs.Doing.{MayDo}
+use Rattle.bodies.specs.Lending.{Lending, Lent, DoesWith, at_once, waited}
 use Rattle.bodies.specs.Making.{Making, stays, comes, maker_of}
 use Rattle.bodies.specs.ThreadStands.{OutsideOf, NoneOpenOf, ThreadStands}
 use Rattle.bodies.proofs.Asking.{IsBodyAt, of_main, of_class as of_a_class, body_at, looks_at, runs_at, running_at, not_running, body_error}
@@ -47,14 +48,14 @@ use Rattle.bodies.proofs.ThreadSteps.{allows_use, asks_one, uses_one, goes_of, p
 use Rattle.init_core.proofs.InterleavingParts.{no_more}
 use Rattle.replayer.specs.declared.log.EventLog.{EventLog}
 use Rattle.replayer.specs.declared.thread.Thread.{Thread}
-use Rattle.replayer.specs.Going.{Going, GoesOrEnds, HasStepped, IsWhy, IsInBody, HasComeTo, IsDoing, WaitsInside, IsOver, IsPaused, at_class, in_body, Resting, IsSameThread, TurnsTo, limit_error, turn_by}
+use Rattle.replayer.specs.Going.{Going, GoesOrEnds, HasStepped, IsWhy, IsInBody, HasComeTo, IsDoing, WaitsInside, IsOver, IsPaused, at_class, in_body, Resting, IsSameThread, TurnsTo, turn_by}
 use Rattle.replayer.specs.declared.thread.Turn.{Turn}
 use Rattle.replayer.specs.declared.thread.Turn.TheVariants as turn
 use Rattle.replayer.specs.Logged.{IsLog, IsStateAfter, histories}
 use Rattle.replayer.proofs.JustMade.{body_just, use_of_body}
 use Rattle.replayer.specs.OrderedRun.{HasJustMade, WaitsFor}
 use Rattle.replayer.proofs.Logged.{all_more, own_more, sees_one, writes_held}
-use Rattle.replayer.proofs.Stepping.{At, goes_on, told, made_one, free_of, not_both, gave_up_look, main_body}
+use Rattle.replayer.proofs.Stepping.{At, limit_error, goes_on, told, made_one, free_of, not_both, gave_up_look, main_body}
 
 pub none_of : (o : Option ClassId) → ((e : ClassId) → o ≢ Some e) → o ≡ None
 none_of None n = refl
@@ -82,6 +83,11 @@ by_event {E = E} P (Err e) r is h = subst (λ (y : Result Turn E). IfOk y P) (sy
 pub no_wait_event : {T E : Type 0} (A : Type 0) (made : Result T E) (r : Result Turn E) → MatchResult made (λ x. r ≡ Ok turn.Event) (λ e. r ≡ Err e) → IfOk r (λ t. t ≡ turn.Waits → A)
 no_wait_event {E = E} A (Ok x) r is = subst (λ (y : Result Turn E). IfOk y (λ t. t ≡ turn.Waits → A)) (sym is) (λ q. absurd cc)
 no_wait_event {E = E} A (Err e) r is = subst (λ (y : Result Turn E). IfOk y (λ t. t ≡ turn.Waits → A)) (sym is) tt
+
+-- what a body does that has waited it does in the end
+pub waits_with : {S H : Type 0} {L : Lending S H} {M : Making S} {last : Option Completed} {d : Does} {s u z : Lent S H} → DoesWith L M last does.Waits s u → DoesWith L M last d u z → DoesWith L M last d s z
+waits_with (at_once first) next = waited first next
+waits_with (waited first more) next = waited first (waits_with more next)
 
 module _ {S : Type 0} (p : LinkedProgram) (M : Making S) where
   not_of_main : {A : Type 0} (w : Thread S) → IsInBody w → w.in_main ≡ false → w.procedure.frames ≡ [] → A

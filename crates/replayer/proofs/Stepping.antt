@@ -3,7 +3,8 @@ use Rattle.std.proofs.Common.{◌≡◌, ◌≢◌, ℕ, ◌<◌, ⊎_elim, inl,
 use Rattle.std.proofs.lemmas.Bool.{eqb-true}
 use Rattle.std.specs.List.{AllByRecursion}
 use Rattle.hierarchy.specs.declared.class.ClassId.{ClassId}
-use Rattle.hierarchy.specs.LinkedProgram.{LinkedProgram, id}
+use Rattle.hierarchy.specs.declared.built_in.BuiltIn.TheVariants.{InternalError}
+use Rattle.hierarchy.specs.LinkedProgram.{LinkedProgram, id, built_in}
 use Rattle.statics.specs.declared.static_field.StaticField.{StaticField}
 use Rattle.init_core.specs.declared.event.Decision.{Decision}
 use Rattle.init_core.specs.declared.event.Decision.TheVariants as decision
@@ -47,11 +48,15 @@ use Rattle.bodies.proofs.Counting.{has_last, error_after}
 use Rattle.bodies.proofs.ThreadSteps.{goes_of, end_leads_at}
 use Rattle.replayer.specs.declared.log.EventLog.{EventLog}
 use Rattle.replayer.specs.declared.thread.Thread.{Thread}
-use Rattle.replayer.specs.Going.{Going, HasStepped, IsWhy, IsInBody, IsOver, IsPaused, at_class, limit_error}
+use Rattle.replayer.specs.Going.{Going, HasStepped, IsWhy, IsInBody, IsOver, IsPaused, at_class}
 use Rattle.replayer.specs.Logged.{IsLog, HasMade, IsStateAfter, histories}
 use Rattle.replayer.specs.OrderedRun.{HasJustMade, WaitsFor}
 use Rattle.replayer.proofs.JustMade.{begun_just, looked_just, word_just}
 use Rattle.replayer.proofs.Logged.{sees_one, sees_none, own_more, all_low, low_owner}
+
+-- the error by which the machine ends the thread
+abbrev pub limit_error : LinkedProgram → ClassId
+limit_error p = built_in p InternalError
 
 -- a look that isn't in vain makes one event
 once : (t : ℕ) (c : ClassId) (d : Decision) → d ≢ decision.Waits false → entered t c d ≡ event t c (kind_of d) ∷ []

@@ -1,8 +1,7 @@
 -- Where a thread of a run stands, by its bodies.
 use Rattle.std.specs.Prelude.{◌≡◌, ◌≢◌, ◌⊎◌, ℕ, ◌<◌, [], Some, None, Bool, true, false, Option}
 use Rattle.hierarchy.specs.declared.class.ClassId.{ClassId}
-use Rattle.hierarchy.specs.declared.built_in.BuiltIn.TheVariants.{InternalError}
-use Rattle.hierarchy.specs.LinkedProgram.{LinkedProgram, built_in}
+use Rattle.hierarchy.specs.LinkedProgram.{LinkedProgram}
 use Rattle.init_core.specs.declared.frames.Outcome.{Outcome}
 use Rattle.init_core.specs.declared.frames.Outcome.TheVariants.{Normal, Abrupt, Ended}
 use Rattle.init_core.specs.declared.procedure.Next.TheVariants as next
@@ -153,7 +152,3 @@ TurnsTo p M W l w m x turn.Silent = Resting p M m x × (m ≡ l)
 TurnsTo p M W l w m x turn.Comes = IsPaused p M W m x × (m ≡ l)
 TurnsTo p M W l w m x turn.Waits = IsPaused p M W m x × (m ≡ l)
 TurnsTo p M W l w m x (turn.Ended r) = IsOver p M m r x × (m ≡ l)
-
--- the error by which the machine ends the thread
-abbrev pub limit_error : LinkedProgram → ClassId
-limit_error p = built_in p InternalError

@@ -1,5 +1,5 @@
-use Rattle.bodies.specs.Lending.{lent_bodies, waits_with}
-use Rattle.replayer.proofs.Acting.{next_does}
+use Rattle.bodies.specs.Lending.{lent_bodies}
+use Rattle.replayer.proofs.Acting.{next_does, waits_with}
 use Rattle.replayer.proofs.body.Thread+Lent+B+H.next.Goals as goal
 
 pub returns-clause-doing : goal.returns-clause-doing
