@@ -12,9 +12,9 @@ use Rattle.init_core.specs.Label.{label_by, label_of, is_failure, is_completion,
 use Rattle.init_lock.specs.Log.{Entry, is_at, events_at}
 use Rattle.init_lock.proofs.Logs.{is_at_some}
 use Rattle.init_core.specs.Interleaving.{of_thread}
-use Rattle.guest_threads.specs.Drawing.{MayDraw}
+use Rattle.guest_threads.specs.Drawing.{MayDraw, merged}
 use Rattle.guest_threads.proofs.Inside.{Has, Begins, Ends, IsEnd, AllWithin, Alone}
-use Rattle.guest_threads.proofs.Merged.{Fair, merged, found, has_at, has_of_thread, ends_has_place, made, thread_of}
+use Rattle.guest_threads.proofs.Merged.{Fair, found, has_at, has_of_thread, ends_has_place, made, thread_of}
 
 is_six : (k : Kind) (x : Event) → x.kind ≡ k → is_beginning x ≡ true → x.kind ≡ kind.Begins
 is_six kind.Begins x q h = q

@@ -14,8 +14,9 @@ use Rattle.init_core.specs.Interleaving.{of_thread, of_class, IsLegal, labels_of
 use Rattle.init_lock.specs.Log.{is_at, events_at, journal_of, IsPlace}
 use Rattle.init_lock.specs.Closing.{HasRecords}
 use Rattle.guest_threads.specs.declared.guarded.Guarded.{Guarded}
+use Rattle.guest_threads.specs.Drawing.{merged}
 use Rattle.guest_threads.proofs.Inside.{Alone, thread_alone}
-use Rattle.guest_threads.proofs.Merged.{Log, Fair, merged, label_same, journal_is, no_others, classes_agree, events_in}
+use Rattle.guest_threads.proofs.Merged.{Log, Fair, label_same, journal_is, no_others, classes_agree, events_in}
 use Rattle.guest_threads.proofs.FieldValues.{values_about}
 use Rattle.guest_threads.proofs.Ended.{none_in_progress}
 

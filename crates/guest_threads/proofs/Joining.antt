@@ -20,13 +20,13 @@ use Rattle.bodies.specs.declared.report.ThreadOutcome.{ThreadOutcome}
 use Rattle.bodies.specs.Making.{Making, maker_of}
 use Rattle.guest_threads.specs.declared.guarded.Guarded.{Guarded}
 use Rattle.guest_threads.specs.declared.work.Worked.{Worked}
-use Rattle.guest_threads.specs.Drawing.{MayDraw, Follows}
+use Rattle.guest_threads.specs.Drawing.{MayDraw, Follows, merged}
 use Rattle.bodies.specs.Runs.{IsThreadRun, AreOutcomes}
 use Rattle.guest_threads.specs.AllWork.{PlanFacts, IsPlan, MayWork, Did, Pairs, AreBack, AreDone}
 use Rattle.guest_threads.specs.declared.launch.Job.{Job}
 use Rattle.guest_threads.specs.ThreadWork.{IsDone}
 use Rattle.guest_threads.specs.Working.{ArePrepared, IsTableOf, Works, drawn}
-use Rattle.guest_threads.proofs.Merged.{Log, Fair, merged, journal_is, no_others, own_thread}
+use Rattle.guest_threads.proofs.Merged.{Log, Fair, journal_is, no_others, own_thread}
 use Rattle.guest_threads.proofs.Headline.{AreLawful, HaveWords}
 use Rattle.guest_threads.proofs.Finding.{element_some}
 

@@ -18,15 +18,11 @@ use Rattle.init_lock.specs.Log.{Entry, is_at, events_at, journal_of, AllAllowed,
 use Rattle.init_lock.proofs.Logs.{events-append, allowed-append}
 use Rattle.init_lock.specs.declared.journal.Stamped.{Stamped}
 use Rattle.init_core.specs.Interleaving.{of_thread, of_class, is_class}
-use Rattle.guest_threads.specs.Drawing.{MayDraw, IsUnplaced}
+use Rattle.guest_threads.specs.Drawing.{MayDraw, IsUnplaced, merged}
 use Rattle.guest_threads.proofs.Inside.{Has, Begins, Ends, IsEnd, Within, Alone, at_place}
 
 abbrev pub Log : Type 0
 Log = List (Entry Event)
-
--- the events of all threads in the order of their stamps
-abbrev pub merged : Log → List Event
-merged log = map (λ x. x.event) log
 
 -- each event is one that its thread may draw
 abbrev pub Fair : ℕ → ℕ → Log → Type 0

@@ -1,5 +1,5 @@
 -- Which events a thread may draw at which place, and which record of a class may take another's place.
-use Rattle.std.specs.Prelude.{◌≡◌, ℕ, List, ◌++◌, Option, Some, None}
+use Rattle.std.specs.Prelude.{◌≡◌, ℕ, List, ◌++◌, Option, Some, None, map}
 use Rattle.std.specs.List.{AllByRecursion}
 use Rattle.hierarchy.specs.declared.class.ClassId.{ClassId}
 use Rattle.hierarchy.specs.LinkedProgram.{id}
@@ -7,6 +7,7 @@ use Rattle.init_core.specs.declared.event.Event.{Event}
 use Rattle.init_core.specs.declared.event.Kind.{Kind}
 use Rattle.init_core.specs.declared.event.Kind.TheVariants as kind
 use Rattle.init_core.specs.History.{History, AreOfOneClass}
+use Rattle.init_lock.specs.Log.{Entry}
 use Rattle.bodies.specs.Writes.{WritesHeld}
 
 -- what is drawn under the initialization lock of a class: each step but 9, and each read and write of a static field
@@ -29,3 +30,7 @@ MayDraw t None e = (e.thread ≡ t) × IsUnplaced e.class e.kind
 -- a record of the same class, whose history begins with the other's
 abbrev pub Follows : History → History → Type 0
 Follows x y = AreOfOneClass x y × (more : List Event) × (y.events ≡ x.events ++ more) × AllByRecursion (λ e. WritesHeld x.fields e) more
+
+-- the events of all threads in the order of their stamps
+abbrev pub merged : List (Entry Event) → List Event
+merged log = map (λ x. x.event) log

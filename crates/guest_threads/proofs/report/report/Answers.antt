@@ -13,11 +13,10 @@ use Rattle.init_lock.specs.Closing.{numbers, written, HasJournals, FollowsAll}
 use Rattle.init_lock.specs.Known.{PassFacts, TableFacts, IsAway}
 use Rattle.guest_threads.specs.declared.guarded.Guarded.{Guarded}
 use Rattle.guest_threads.specs.declared.work.Worked.{Worked}
-use Rattle.guest_threads.specs.Drawing.{MayDraw, Follows}
+use Rattle.guest_threads.specs.Drawing.{MayDraw, Follows, merged}
 use Rattle.bodies.specs.Runs.{IsRunOf}
 use Rattle.guest_threads.proofs.Headline.{headline}
 use Rattle.guest_threads.proofs.Joining.{pass_numbers, pass_tables, pass_away, words, outcomes_are, outcome_count, events_are, lawful_are, journals_are}
-use Rattle.guest_threads.proofs.Merged.{merged}
 use Rattle.guest_threads.proofs.report.report.Goals as goal
 
 pub finish-closed-requires-clause-passes : goal.finish-closed-requires-clause-passes
