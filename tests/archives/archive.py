@@ -100,6 +100,11 @@ def all_paths():
     return sorted((TOP / "crates/cases/data/programs").glob("*.txtar")) + example_folders()
 
 
+def paths_of_program():
+    """The archives that only the built program can run."""
+    return sorted(Path(__file__).resolve().parent.glob("*.txtar"))
+
+
 def keep_to(count):
     """Has this process, and those that it starts from now on, run on so many processors, or on all that there are where these are fewer."""
     os.sched_setaffinity(0, sorted(os.sched_getaffinity(0))[:count])

@@ -34,6 +34,8 @@ mod long_chain;
 #[cfg(test)]
 mod parsed;
 #[cfg(test)]
+mod prints;
+#[cfg(test)]
 mod procedures;
 #[cfg(test)]
 mod programs;

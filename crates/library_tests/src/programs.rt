@@ -8,6 +8,7 @@ use crate::frame_throws::THROWS;
 use crate::handlers::{HANDLED, handlers};
 use crate::heaps::{PARTS, Part, is_right};
 use crate::in_order::{IN_ORDER, is_in_order};
+use crate::prints::{PRINTS, Printed, is_printed};
 use crate::procedures::{COURSES, Course, is_gone};
 use crate::records::{STORIES, Story, is_told};
 use crate::resolved::{RESOLVED, resolved};
@@ -45,6 +46,8 @@ pub(crate) enum Question {
     InOrder,
     /// Threads at once, with no bodies that are run.
     Ran(Crowd),
+    /// Two threads at once that print.
+    Printed(Printed),
     /// A thread whose bodies do one of each.
     Scripted(Script),
 }
@@ -73,6 +76,7 @@ fn answers<R: Threads + Wait + Sync + Clock>(
         Question::Played(scene) => is_as_played(alloc, program, scene),
         Question::InOrder => is_in_order(alloc, program),
         Question::Ran(crowd) => is_run(rt, alloc, program, crowd),
+        Question::Printed(printed) => is_printed(rt, alloc, program, printed),
         Question::Scripted(script) => is_scripted(rt, alloc, program, script),
     }
 }
@@ -153,5 +157,6 @@ fn programs_answer(rt: HostRuntime) {
     are_so(&rt, alloc, "threads play their scenes", SCENES);
     are_so(&rt, alloc, "two threads go on in order", IN_ORDER);
     are_so(&rt, alloc, "threads at once", CROWDS);
+    are_so(&rt, alloc, "prints are in their order", PRINTS);
     are_so(&rt, alloc, "bodies that do one of each", SCRIPTS);
 }

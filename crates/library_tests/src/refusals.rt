@@ -6,8 +6,12 @@ use std::io;
 use std::sync::Wait;
 use std::thread::Threads;
 
-/// Files that each hold a class Solo, but for `None.j`, which isn't there, `empty`, and `broken off`, the trace of a run that was. Memory
-/// is refused for reading `starved.j` and for writing `starved`, and `locked` can't be written.
+/// A class whose `main` prints, and then ends by a throwable.
+const THROWING: &[u8] =
+    b".class Solo\n.method static main([Ljava/lang/String;)V\n.limit stack 2\ngetstatic java/lang/System/out Ljava/io/PrintStream;\niconst_1\ninvokevirtual java/io/PrintStream/println(I)V\naconst_null\nathrow\n.end method";
+
+/// Files that each hold a class Solo, but for `None.j`, which isn't there, `empty`, and `broken off`, the trace of a run that was. That of
+/// `throwing.j` is [`THROWING`]. Memory is refused for reading `starved.j` and for writing `starved`, and `locked` can't be written.
 #[derive(Drop)]
 pub(crate) struct RefusingFiles {
     pub(crate) is_written: bool,
@@ -25,6 +29,8 @@ impl Named for RefusingFiles {
             b"".as_slice()
         } else if name == "broken off" {
             b"0 t0 step6 Solo\n1 t0 step9 Solo\n".as_slice()
+        } else if name == "throwing.j" {
+            THROWING
         } else {
             b".class Solo".as_slice()
         };
@@ -150,5 +156,35 @@ fn refused_by_the_output(rt: HostRuntime) {
             is_refused(&rt, rt.alloc(), words, &mut Full, b"io: output\n"),
             "row {place}"
         );
+    }
+}
+
+/// Words, and what is on the output where no line can be written on standard error.
+const WITHOUT_LINES: &[(&[&str], &[u8])] = &[
+    // `t0: java/lang/NullPointerException`
+    (&["jinit", "run", "--mains", "Solo", "throwing.j"], b"1\n"),
+    // `cli: mains`
+    (&["jinit", "run", "Solo.j"], b""),
+    // What `clap` says.
+    (&["jinit"], b""),
+];
+
+/// Whether these words come to status 3 where no line can be written on standard error, with this output and no file written.
+fn is_cut_short<R: Threads + Wait + Sync>(
+    rt: &R,
+    alloc: Global,
+    words: &[&str],
+    output: &[u8],
+) -> bool {
+    let mut files = RefusingFiles { is_written: false };
+    let mut out = Vec::new(alloc);
+    let status = serve_with(rt, alloc, words, &mut files, &mut out, &mut Full);
+    status == 3 && out.as_slice() == output && !files.is_written
+}
+
+#[test]
+fn refused_by_standard_error(rt: HostRuntime) {
+    for (place, (words, output)) in WITHOUT_LINES.iter().enumerate() {
+        assert!(rt; is_cut_short(&rt, rt.alloc(), words, output), "row {place}");
     }
 }
