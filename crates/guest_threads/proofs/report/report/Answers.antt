@@ -63,8 +63,10 @@ returns g c =
             outcomes = outcomes_are making k starts ds all log rs journals follows (length rs) fair;
             finished = h.2;
             output = refl;
-          } in
-          ((log, journals, merges), subst (λ (xs : List ℕ). IsRunOf p (making p) starts mains k.limits (record { outcomes = c.in_ok-passes.outcomes; events = c.from_vec.result; labels = c.in_ok-labels.labels; output = xs })) (sym prints)
-          (subst (λ (es : List Event). IsRunOf p (making p) starts mains k.limits (record { outcomes = c.in_ok-passes.outcomes; events = es; labels = c.in_ok-labels.labels; output = output_of (merged log) })) (sym merges)
-          (subst (λ (os : List ThreadOutcome). IsRunOf p (making p) starts mains k.limits (record { outcomes = os; events = merged log; labels = c.in_ok-labels.labels; output = output_of (merged log) })) (sym c.in_ok-passes.ensures.outcomes) run)));
+          } in (
+            (log, journals, merges),
+            subst (λ (xs : List ℕ). IsRunOf p (making p) starts mains k.limits (record { outcomes = c.in_ok-passes.outcomes; events = c.from_vec.result; labels = c.in_ok-labels.labels; output = xs })) (sym prints)
+                (subst (λ (es : List Event). IsRunOf p (making p) starts mains k.limits (record { outcomes = c.in_ok-passes.outcomes; events = es; labels = c.in_ok-labels.labels; output = output_of (merged log) })) (sym merges)
+                (subst (λ (os : List ThreadOutcome). IsRunOf p (making p) starts mains k.limits (record { outcomes = os; events = merged log; labels = c.in_ok-labels.labels; output = output_of (merged log) })) (sym c.in_ok-passes.ensures.outcomes) run)),
+          );
     }
