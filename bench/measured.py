@@ -42,11 +42,12 @@ def loop(body, made=""):
 
 
 class Program:
-    """One command, its least times over all rounds, the most memory that it took, and what it wrote last."""
+    """One command, its least times over all rounds, what each took from start to end, the most memory that it took, and what it wrote last."""
 
     def __init__(self, words):
         self.words = words
         self.processor = self.system = self.elapsed = float("inf")
+        self.times = []
         self.memory = 0
         self.output = b""
 
@@ -63,6 +64,7 @@ class Program:
             sys.exit(f"{' '.join(self.words)} ended with status {os.waitstatus_to_exitcode(status)}")
         self.processor, self.system = min((self.processor, self.system), (used.ru_utime + used.ru_stime, used.ru_stime))
         self.elapsed = min(self.elapsed, elapsed)
+        self.times.append(elapsed)
         self.memory = max(self.memory, used.ru_maxrss * 1024)
 
 

@@ -8,6 +8,7 @@
 //! and no time is printed.
 
 mod bare;
+mod beside;
 mod code;
 mod files;
 mod harness;
@@ -16,7 +17,9 @@ mod judging;
 mod link;
 mod lock;
 mod looks;
+mod merging;
 mod needs;
+mod passes;
 mod reader;
 mod rounds;
 mod sample;

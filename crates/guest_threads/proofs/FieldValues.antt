@@ -53,7 +53,7 @@ like_one A B x i h = record {
 idle_by : (o : Option ClassId) (k : Kind) (t : ℕ) → IsUnplaced o k → IsIdle (record { thread = t; class = o; kind = k })
 idle_by (Some c) kind.Runs t u = ((λ place. refl), refl)
 idle_by None (kind.Prints x) t u = ((λ place. refl), refl)
-idle_by (Some c) kind.FindsInitialized t u = absurd u
+idle_by (Some c) kind.FindsInitialized t u = ((λ place. refl), refl)
 idle_by (Some c) kind.Waits t u = absurd u
 idle_by (Some c) kind.Recurs t u = absurd u
 idle_by (Some c) kind.FindsErroneous t u = absurd u
@@ -80,7 +80,7 @@ idle_by None (kind.Puts f v) t u = absurd u
 holds_by : (fields : List StaticField) (A : List Event) (o : Option ClassId) (k : Kind) → IsUnplaced o k → Holds fields A k
 holds_by fields A (Some c) kind.Runs u = tt
 holds_by fields A None (kind.Prints x) u = tt
-holds_by fields A (Some c) kind.FindsInitialized u = absurd u
+holds_by fields A (Some c) kind.FindsInitialized u = tt
 holds_by fields A (Some c) kind.Waits u = absurd u
 holds_by fields A (Some c) kind.Recurs u = absurd u
 holds_by fields A (Some c) kind.FindsErroneous u = absurd u

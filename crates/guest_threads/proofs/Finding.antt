@@ -41,6 +41,15 @@ agrees_split : (h xs ys : List Event) → AgreesAfter h (xs ++ ys) → AgreesAft
 agrees_split h [] ys l = subst (λ (z : List Event). AgreesAfter z ys) (sym (append-nil h)) l
 agrees_split h (x ∷ xs) ys l = subst (λ (z : List Event). AgreesAfter z ys) (simp append_assoc) (agrees_split (h ++ x ∷ []) xs ys l.1)
 
+-- the same of what is seen without the lock
+pub finds_ready : (t n : ℕ) (seen found : List Event) → Grew MayDraw t n seen found → AgreesWithLabels found → Finds t seen found
+finds_ready t n seen found g l = record {
+  more = g.more;
+  begins = g.begins;
+  others = others_are t n g.more g.by_others;
+  agrees = agrees_split [] seen g.more (subst AgreesWithLabels g.begins l);
+}
+
 pub finds : (t n : ℕ) (seen found : List Event) (r : History) → Grew MayDraw t n seen found → r.events ≡ found → IsLawful r.fields r.events → Finds t seen found
 finds t n seen found r g e l = record {
   more = g.more;

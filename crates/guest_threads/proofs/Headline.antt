@@ -7,14 +7,14 @@ use Rattle.hierarchy.specs.declared.class.ClassId.{ClassId}
 use Rattle.statics.specs.Statics.{statics_of}
 use Rattle.init_core.specs.declared.event.Event.{Event}
 use Rattle.init_core.specs.declared.event.Label.TheVariants.{InProgress}
-use Rattle.init_core.specs.Label.{label_of}
+use Rattle.init_core.specs.Label.{label_of, is_completion}
 use Rattle.init_core.specs.Lawful.{IsLawful}
 use Rattle.init_core.specs.ProcedureWord.{ThreadWord}
 use Rattle.init_core.specs.Interleaving.{of_thread, of_class, IsLegal, labels_of, labels_from}
-use Rattle.init_lock.specs.Log.{is_at, events_at, journal_of, IsPlace}
+use Rattle.init_lock.specs.Log.{is_at, events_at, journal_of, IsPlace, AllBacked}
 use Rattle.init_lock.specs.Closing.{HasRecords}
 use Rattle.guest_threads.specs.declared.guarded.Guarded.{Guarded}
-use Rattle.guest_threads.specs.Drawing.{merged}
+use Rattle.guest_threads.specs.Drawing.{merged, leans_on}
 use Rattle.guest_threads.proofs.Inside.{Alone, thread_alone}
 use Rattle.guest_threads.proofs.Merged.{Log, Fair, label_same, journal_is, no_others, classes_agree, events_in}
 use Rattle.guest_threads.proofs.FieldValues.{values_about}
@@ -68,9 +68,9 @@ labels_are p log threads places i (x ∷ rs) f r =
     rw (one, more) refl
 
 -- The merged journals are a legal interleaving, the records' labels are those of the classes, and no class is in progress.
-pub headline : (p : LinkedProgram) (mains : List ClassId) (log : Log) (rs : List Guarded) → Fair (length mains) (length rs) log → length rs ≡ length p.classes → HaveWords p mains log → HasRecords (λ r. r.record.events) log 0 rs → AreLawful p 0 rs →
+pub headline : (p : LinkedProgram) (mains : List ClassId) (log : Log) (rs : List Guarded) → Fair (length mains) (length rs) log → AllBacked leans_on is_completion [] log → length rs ≡ length p.classes → HaveWords p mains log → HasRecords (λ r. r.record.events) log 0 rs → AreLawful p 0 rs →
     IsLegal p mains (merged log) × (map (λ r. label_of r.record.events) rs ≡ labels_of p (merged log)) × ((c : ClassId) (t : ℕ) → label_of (of_class c (merged log)) ≢ InProgress t)
-headline p mains log rs f many words records lawful =
+headline p mains log rs f backed many words records lawful =
     let alone : (t : ℕ) → t < length mains → Alone t (of_thread t (merged log)) = λ t l. let m = main_of mains t l in subst (λ (z : List Event). Alone t z) (sym (journal_is (length mains) (length rs) t 0 log f)) (thread_alone t p (words t m.0 m.1)) in
     let at : (c : ClassId) → IsLawful (statics_of p c) (events_at c.number log) = λ c. ⊎_elim
     (λ l. let z : 0 + c.number ≡ c.number = omega arith in subst (λ (n : ℕ). IsLawful (statics_of p (id n)) (events_at n log)) z (lawful_at p log 0 c.number rs records lawful l))
@@ -80,7 +80,7 @@ headline p mains log rs f many words records lawful =
         threads = λ t. thread_word p t (slice_get mains t) (of_thread t (merged log)) (λ q. no_others (length mains) (length rs) t log f (beyond mains t q))
             (λ m q. subst (λ (z : List Event). ThreadWord p t m z) (sym (journal_is (length mains) (length rs) t 0 log f)) (words t m q));
         classes = λ c. record {
-          labels = classes_agree (length mains) (length rs) log f alone c (at c).labels;
+          labels = classes_agree (length mains) (length rs) log backed f alone c (at c).labels;
           values = values_about (statics_of p c) (length mains) (length rs) c [] log f (record { puts = λ place. refl; begun = refl }) (at c).values;
         };
       },

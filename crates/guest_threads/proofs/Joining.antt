@@ -11,6 +11,7 @@ use Rattle.init_core.specs.Lawful.{IsLawful}
 use Rattle.init_core.specs.ProgramEvents.{IsProgramEvent}
 use Rattle.init_core.specs.Interleaving.{of_thread}
 use Rattle.init_core.proofs.Forgetting.{forget_thread}
+use Rattle.init_lock.specs.declared.journal.Stamped.{Stamped}
 use Rattle.init_lock.specs.Log.{journal_of, AllAllowed}
 use Rattle.init_lock.specs.Merging.{AreJournals}
 use Rattle.init_lock.specs.Rule.{element_at}
@@ -24,9 +25,11 @@ use Rattle.guest_threads.specs.Drawing.{MayDraw, Follows, merged}
 use Rattle.bodies.specs.Runs.{IsThreadRun, AreOutcomes}
 use Rattle.guest_threads.specs.AllWork.{PlanFacts, IsPlan, MayWork, Did, Pairs, AreBack, AreDone}
 use Rattle.guest_threads.specs.declared.launch.Job.{Job}
+use Rattle.guest_threads.specs.MergedJournals.{IsMergeOf}
 use Rattle.guest_threads.specs.ThreadWork.{IsDone}
 use Rattle.guest_threads.specs.Working.{ArePrepared, IsTableOf, Works, drawn}
 use Rattle.guest_threads.proofs.Merged.{Log, Fair, journal_is, no_others, own_thread}
+use Rattle.guest_threads.proofs.Stamping.{is_merge}
 use Rattle.guest_threads.proofs.Headline.{AreLawful, HaveWords}
 use Rattle.guest_threads.proofs.Finding.{element_some}
 
@@ -216,6 +219,9 @@ module _ {S : Type 0} (making : LinkedProgram → Making S) (k : PlanFacts) (sta
   done_count : length ds ≡ length k.mains
   done_count = sym (length_map (λ (w : Worked). w.pass.number) ds) ∙ (ap length all.numbered ∙ length_numbers 0 (length k.mains))
 
+  pub journal_count : length (map (λ (w : Worked). w.pass.journal) ds) ≡ length k.mains
+  journal_count = length_map (λ (w : Worked). w.pass.journal) ds ∙ done_count
+
   pub outcome_count : length (map (λ (w : Worked). w.outcome) ds) ≡ length k.mains
   outcome_count = length_map (λ (w : Worked). w.outcome) ds ∙ done_count
 
@@ -279,6 +285,21 @@ module _ {S : Type 0} (making : LinkedProgram → Making S) (k : PlanFacts) (sta
         let z : i + 0 ≡ i = omega arith in subst (λ (b : ℕ). IsLawful (statics_of k.program (id b)) x.record.events) z (subst (λ (fs : _). IsLawful fs x.record.events) (f 0 x refl (omega arith)) a.0),
         by_place (suc i) xs a.1 (λ n r q l. let z : i + suc n ≡ suc i + n = omega arith in f (suc n) r q (omega arith) ∙ ap (λ (b : ℕ). statics_of k.program (id b)) z),
       )
+
+    journals_in_order : (i n : ℕ) (ws : List Worked) → map (λ w. w.pass.number) ws ≡ numbers i n → HasJournals log (map (λ (w : Worked). w.pass) ws) → map (λ w. w.pass.journal) ws ≡ map (λ t. journal_of t 0 log) (numbers i n)
+    journals_in_order i Prim.Native.Nat.zero [] e a = refl
+    journals_in_order i Prim.Native.Nat.zero (w ∷ ws) e a = cc
+    journals_in_order i (suc n) [] e a = cc
+    journals_in_order i (suc n) (w ∷ ws) e a =
+        let is : w.pass.number ≡ i = cc in
+        let rest : map (λ (v : Worked). v.pass.number) ws ≡ numbers (suc i) n = cc in
+        let here : w.pass.journal ≡ journal_of i 0 log = a.0 ∙ ap (λ (b : ℕ). journal_of b 0 log) is in
+        let more = journals_in_order (suc i) n ws rest a.1 in
+        λ j. here j ∷ more j
+
+    -- the events are those of the journals of all threads in the order of the stamps
+    pub merge_is : (places : ℕ) → AllAllowed (length k.mains) places MayDraw log → IsMergeOf (map (λ (w : Worked). w.pass.journal) ds) (merged log)
+    merge_is places f = subst (λ (js : List (List (Stamped Event))). IsMergeOf js (merged log)) (sym (journals_in_order 0 (length k.mains) ds all.numbered journals_of)) (is_merge (length k.mains) places log f)
 
     journals_from : (i n : ℕ) (xs : List (PassFacts Guarded Event)) → map (λ (x : PassFacts Guarded Event). x.number) xs ≡ numbers i n → AllByRecursion (λ (y : PassFacts Guarded Event). y.journal ≡ journal_of y.number 0 log) xs → (at : ℕ) (other : Written Event) → at < length (map written xs) → (slice_index_or (map written xs) at other).events ≡ journal_of (i + at) 0 log
     journals_from i n [] e a at other l = absurd (omega (arith, l))

@@ -1,5 +1,7 @@
+pub mod Settled
 pub mod Inside
 pub mod Merged
+pub mod Stamping
 pub mod FieldValues
 pub mod Ended
 pub mod Headline

@@ -1,5 +1,5 @@
 -- The events of all threads, in the order of their stamps, are a legal interleaving.
-use Rattle.std.proofs.Common.{◌≡◌, ◌≢◌, ℕ, suc, ◌<◌, ◌≤◌, inl, inr, List, [], ◌∷◌, ◌++◌, Option, Some, None, Bool, true, false, eqb, cond, map, refl, sym, subst, ap, ◌∙◌, append-nil, append_assoc, eq-eqb, ne_eqb, arith}
+use Rattle.std.proofs.Common.{◌≡◌, ◌≢◌, ℕ, suc, ◌<◌, ◌≤◌, ◌⊎◌, inl, inr, ⊎_elim, List, [], ◌∷◌, ◌++◌, Option, Some, None, Bool, true, false, eqb, cond, map, refl, sym, subst, ap, ◌∙◌, append-nil, append_assoc, eq-eqb, ne_eqb, arith}
 use Rattle.std.specs.List.{find}
 use Rattle.std.proofs.lemmas.Bool.{eqb-true}
 use Rattle.hierarchy.specs.LinkedProgram.{id}
@@ -14,11 +14,12 @@ use Rattle.init_core.specs.Label.{label_by, label_of, is_failure, is_completion,
 use Rattle.init_core.specs.Lawful.{Allows, AgreesAfter, AgreesWithLabels}
 use Rattle.init_core.proofs.Labels.{label_after}
 use Rattle.init_core.specs.ClassState.{next_label}
-use Rattle.init_lock.specs.Log.{Entry, is_at, events_at, journal_of, AllAllowed, stamped}
+use Rattle.init_lock.specs.Log.{Entry, is_at, events_at, journal_of, AllAllowed, AllBacked, IsBacked, settled, stamped}
 use Rattle.init_lock.proofs.Logs.{events-append, allowed-append}
 use Rattle.init_lock.specs.declared.journal.Stamped.{Stamped}
 use Rattle.init_core.specs.Interleaving.{of_thread, of_class, is_class}
-use Rattle.guest_threads.specs.Drawing.{MayDraw, IsUnplaced, merged}
+use Rattle.guest_threads.specs.Drawing.{MayDraw, IsUnplaced, leaning, leans_on, merged}
+use Rattle.guest_threads.proofs.Settled.{is_ready}
 use Rattle.guest_threads.proofs.Inside.{Has, Begins, Ends, IsEnd, Within, Alone, at_place}
 
 abbrev pub Log : Type 0
@@ -91,7 +92,7 @@ find_same f s threads places c (e ∷ es) l = find_one f s c e.by e.place e.even
 
 unplaced : (o : Option ClassId) (k : Kind) (t : ℕ) → IsUnplaced o k → (is_failure (record { thread = t; class = o; kind = k }) ≡ false) × (is_completion (record { thread = t; class = o; kind = k }) ≡ false) × (is_beginning (record { thread = t; class = o; kind = k }) ≡ false)
 unplaced (Some c) kind.Runs t u = (refl, refl, refl)
-unplaced (Some c) kind.FindsInitialized t u = absurd u
+unplaced (Some c) kind.FindsInitialized t u = (refl, refl, refl)
 unplaced None (kind.Prints x) t u = (refl, refl, refl)
 unplaced (Some c) kind.Waits t u = absurd u
 unplaced (Some c) kind.Recurs t u = absurd u
@@ -307,9 +308,9 @@ thread-append t (e ∷ es) b = ap (λ (z : List Event). cond (eqb e.event.thread
 pub own_thread : (x : Event) (xs : List Event) → of_thread x.thread (x ∷ xs) ≡ x ∷ of_thread x.thread xs
 own_thread x xs = ap (λ (z : Bool). cond z (x ∷ of_thread x.thread xs) (of_thread x.thread xs)) (eq-eqb x.thread x.thread refl)
 
-unplaced_kind : (c : ClassId) (k : Kind) → IsUnplaced (Some c) k → k ≡ kind.Runs
-unplaced_kind c kind.Runs u = refl
-unplaced_kind c kind.FindsInitialized u = absurd u
+unplaced_kind : (c : ClassId) (k : Kind) → IsUnplaced (Some c) k → (k ≡ kind.Runs) ⊎ (k ≡ kind.FindsInitialized)
+unplaced_kind c kind.Runs u = inl refl
+unplaced_kind c kind.FindsInitialized u = inr refl
 unplaced_kind c kind.Waits u = absurd u
 unplaced_kind c kind.Recurs u = absurd u
 unplaced_kind c kind.FindsErroneous u = absurd u
@@ -344,10 +345,21 @@ may_none : (k : ℕ) (place : Option ℕ) (x : Event) → place ≡ None → May
 may_none k None x q m = m.1
 may_none k (Some n) x q m = cc
 
-welcome : (threads places : ℕ) (c : ClassId) (log before rest : Log) → log ≡ before ++ rest → Fair threads places before → Fair threads places rest →
+backed_by : (before : Log) (place : Option ℕ) (x : Event) → place ≡ None → IsBacked leans_on is_completion before place x → (n : ℕ) → leans_on x ≡ Some n → settled is_completion (events_at n before) ≡ true
+backed_by before None x q b = b
+backed_by before (Some n) x q b = cc
+
+leans : (c : ClassId) (x : Event) → x.class ≡ Some c → x.kind ≡ kind.FindsInitialized → leans_on x ≡ Some c.number
+leans c x cls k = (λ i. leaning (cls i) (k i))
+
+-- what is at a place before is lawful where all of it is
+front_agrees : (c : ClassId) (log before rest : Log) → log ≡ before ++ rest → AgreesWithLabels (events_at c.number log) → AgreesWithLabels (events_at c.number before)
+front_agrees c log before rest q l = lawful_front [] (events_at c.number before) (events_at c.number rest) (subst AgreesWithLabels (ap (events_at c.number) q ∙ events-append c.number before rest) l)
+
+welcome : (threads places : ℕ) (c : ClassId) (log before rest : Log) → log ≡ before ++ rest → AgreesWithLabels (events_at c.number log) → AllBacked leans_on is_completion before rest → Fair threads places before → Fair threads places rest →
     ((t : ℕ) → t < threads → Alone t (of_thread t (merged log))) → AgreesAfter (events_at c.number before) (events_at c.number rest) → Welcome c before rest
-welcome threads places c log before [] q f g alone law = tt
-welcome threads places c log before (e ∷ es) q f g alone law =
+welcome threads places c log before [] q whole_law backed f g alone law = tt
+welcome threads places c log before (e ∷ es) q whole_law backed f g alone law =
     let may : (e.place ≡ None) → IsUnplaced e.event.class e.event.kind = λ n. may_none e.by e.place e.event n g.2 in
     let same : e.event.thread ≡ e.by = thread_of e.by e.place e.event g.2 in
     let step : events_at c.number (before ++ e ∷ []) ≡ events_at c.number before ++ events_at c.number (e ∷ []) = events-append c.number before (e ∷ []) in
@@ -356,14 +368,16 @@ welcome threads places c log before (e ∷ es) q f g alone law =
     let later : AgreesAfter (events_at c.number (before ++ e ∷ [])) (events_at c.number es) = subst (λ (z : List Event). AgreesAfter z (events_at c.number es)) (sym step) (lawful_split (events_at c.number before) (events_at c.number (e ∷ [])) (events_at c.number es) split) in (
       (λ none cls.
           let u : IsUnplaced (Some c) e.event.kind = subst (λ (o : Option ClassId). IsUnplaced o e.event.kind) cls (may none) in
-          let k : e.event.kind ≡ kind.Runs = unplaced_kind c e.event.kind u in
           let low : e.event.thread < threads = subst (λ (n : ℕ). n < threads) (sym same) g.0 in
           let whole : Alone e.event.thread (of_thread e.event.thread (merged (before ++ e ∷ es))) = subst (λ (z : Log). Alone e.event.thread (of_thread e.event.thread (merged z))) q (alone e.event.thread low) in
           let l : AgreesAfter (events_at c.number before) (events_at c.number es) = subst (λ (z : List Event). AgreesAfter (events_at c.number before) z) (skip_none c e.place e.event es none) law in
-          subst (λ (z : Kind). Allows (label_of (events_at c.number before)) e.event.thread z) (sym k) (welcome_run threads places c before es e f g.3 cls k whole l)),
-      welcome threads places c log (before ++ e ∷ []) es (q ∙ sym (append_assoc before (e ∷ []) es)) (allowed-append threads places MayDraw before (e ∷ []) f (g.0, g.1, g.2, tt)) g.3 alone later,
+          ⊎_elim
+          (λ k. subst (λ (z : Kind). Allows (label_of (events_at c.number before)) e.event.thread z) (sym k) (welcome_run threads places c before es e f g.3 cls k whole l))
+          (λ k. subst (λ (z : Kind). Allows (label_of (events_at c.number before)) e.event.thread z) (sym k) (is_ready (events_at c.number before) (front_agrees c log before (e ∷ es) q whole_law) (backed_by before e.place e.event none backed.0 c.number (leans c e.event cls k))))
+          (unplaced_kind c e.event.kind u)),
+      welcome threads places c log (before ++ e ∷ []) es (q ∙ sym (append_assoc before (e ∷ []) es)) whole_law backed.1 (allowed-append threads places MayDraw before (e ∷ []) f (g.0, g.1, g.2, tt)) g.3 alone later,
     )
 
 -- the heart: the events of all threads agree with the labels of each class
-pub classes_agree : (threads places : ℕ) (log : Log) → Fair threads places log → ((t : ℕ) → t < threads → Alone t (of_thread t (merged log))) → (c : ClassId) → AgreesWithLabels (events_at c.number log) → AgreesWithLabels (of_class c (merged log))
-classes_agree threads places log f alone c law = lawful_about threads places c [] log tt f (welcome threads places c log [] log refl tt f alone law) law
+pub classes_agree : (threads places : ℕ) (log : Log) → AllBacked leans_on is_completion [] log → Fair threads places log → ((t : ℕ) → t < threads → Alone t (of_thread t (merged log))) → (c : ClassId) → AgreesWithLabels (events_at c.number log) → AgreesWithLabels (of_class c (merged log))
+classes_agree threads places log backed f alone c law = lawful_about threads places c [] log tt f (welcome threads places c log [] log refl law backed tt f alone law) law

@@ -15,8 +15,8 @@ use Rattle.init_core.specs.declared.procedure.Answer.{Answer}
 use Rattle.init_core.specs.Advance.{Advances}
 use Rattle.init_core.specs.Decisions.{event, entered, Decides}
 use Rattle.init_core.specs.Interleaving.{of_class}
-use Rattle.init_core.specs.Label.{label_of}
-use Rattle.init_core.specs.Lawful.{Allows, AgreesAfter}
+use Rattle.init_core.specs.Label.{label_of, is_completion}
+use Rattle.init_core.specs.Lawful.{Allows, AgreesAfter, AgreesWithLabels}
 use Rattle.init_core.specs.ProcedureWord.{Word, IsOfFiles, completed}
 use Rattle.init_core.specs.ProgramEvents.{IsDoneAt, IsProgramEvent, at_class}
 use Rattle.init_core.specs.Standing.{Standing}
@@ -26,6 +26,8 @@ use Rattle.init_core.proofs.Leading.{Makes}
 use Rattle.init_lock.specs.declared.journal.Stamped.{Stamped}
 use Rattle.init_lock.specs.declared.views.PlaceView.{PlaceView}
 use Rattle.init_lock.specs.Known.{PassFacts, HeldFacts, TableFacts, seen_at, IsSamePass, IsAway}
+use Rattle.init_lock.specs.Log.{Grew}
+use Rattle.init_lock.specs.Settled.{KnowsDone}
 use Rattle.bodies.specs.declared.report.Limit.{Limit}
 use Rattle.bodies.specs.Making.{Making, maker_of}
 use Rattle.bodies.specs.ThreadStands.{OutsideOf, NoneOpenOf}
@@ -33,6 +35,8 @@ use Rattle.guest_threads.specs.declared.guarded.Guarded.{Guarded}
 use Rattle.guest_threads.specs.declared.task.Work.{Work}
 use Rattle.guest_threads.specs.Tasks.{TaskFacts, IsWhy}
 use Rattle.guest_threads.specs.Working.{Working, Works, StandsAt, Took, GaveBack, Finds, ArePrepared, drawn, seen_of}
+use Rattle.guest_threads.specs.Drawing.{MayDraw}
+use Rattle.guest_threads.proofs.Finding.{finds_ready}
 use Rattle.bodies.proofs.Counting.{few_more, has_last}
 use Rattle.bodies.proofs.ThreadSteps.{goes_of as thread_goes_of}
 
@@ -181,6 +185,17 @@ module _ {S : Type 0} (M : Making S) (k : TaskFacts S) where
       (sees_here c (seen_of w.pass) (seen_of y) f.more (took.seen ∙ f.begins) (λ d other. (took.others d.number other).seen) f.agrees)
       (λ d. others_at f (c.number == d.number)) o.stands where
         others_at : (f : Finds k.number (seen_of w.pass c) h.kept.record.events) (b : Bool) → AreOfOthers k.number (cond b f.more [])
+        others_at f true = f.others
+        others_at f false = tt
+
+  -- what it knows once it has seen that a class is initialized
+  pub with_ready : (w : Work S) (c : ClassId) (y : View) → KnowsDone MayDraw is_completion AgreesWithLabels c.number w.pass y → Working M k w → StandsAt M k w.in_main w.procedure (drawn w.pass.journal) (seen_of y) w.bodies
+  with_ready w c y knows o =
+      let f : Finds k.number (seen_of w.pass c) (seen_of y c) = finds_ready k.number c.number (seen_of w.pass c) (seen_of y c) (subst (λ (n : ℕ). Grew MayDraw n c.number (seen_of w.pass c) (seen_of y c)) o.works.number knows.grew) knows.lawful_now in
+      others_go_on k.program k.number (maker_of k.program M) (OuterOf M k w.in_main) (IdleOf M k w.in_main) (goes_of w.in_main)
+      (sees_here c (seen_of w.pass) (seen_of y) f.more f.begins (λ d other. (knows.others d.number other).seen) f.agrees)
+      (λ d. others_at f (c.number == d.number)) o.stands where
+        others_at : (f : Finds k.number (seen_of w.pass c) (seen_of y c)) (b : Bool) → AreOfOthers k.number (cond b f.more [])
         others_at f true = f.others
         others_at f false = tt
 

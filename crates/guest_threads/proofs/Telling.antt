@@ -1,7 +1,7 @@
 -- The steps of a thread's procedures, as the calls tell them.
 use Rattle.std.proofs.Common.{◌≡◌, ◌≢◌, ℕ, ◌+◌, ◌-◌, ◌≤◌, inl, inr, ⊎_elim, List, [], ◌∷◌, ◌++◌, Option, Some, None, Bool, true, false, length, refl, sym, subst, ap, ◌∙◌, append-nil, arith}
 use Rattle.std.specs.List.{AllByRecursion}
-use Rattle.hierarchy.specs.declared.built_in.BuiltIn.TheVariants.{OutOfMemoryError}
+use Rattle.hierarchy.specs.declared.built_in.BuiltIn.TheVariants.{NoClassDefFoundError, OutOfMemoryError}
 use Rattle.hierarchy.specs.declared.class.ClassId.{ClassId}
 use Rattle.hierarchy.specs.LinkedProgram.{LinkedProgram, built_in}
 use Rattle.init_core.specs.declared.event.Decision.{Decision}
@@ -10,31 +10,36 @@ use Rattle.init_core.specs.declared.event.Event.{Event}
 use Rattle.init_core.specs.declared.event.Kind.{Kind}
 use Rattle.init_core.specs.declared.event.Kind.TheVariants as kind
 use Rattle.init_core.specs.declared.event.Label.{Label}
-use Rattle.init_core.specs.declared.event.Label.TheVariants.{InProgress}
+use Rattle.init_core.specs.declared.event.Label.TheVariants.{InProgress, Initialized}
 use Rattle.init_core.specs.declared.frames.Completed.{Completed}
 use Rattle.init_core.specs.declared.frames.Ending.{Ending}
 use Rattle.init_core.specs.declared.frames.Ending.TheVariants as ending
 use Rattle.init_core.specs.declared.frames.Frame.{Frame}
-use Rattle.init_core.specs.declared.frames.Outcome.TheVariants.{Ended}
+use Rattle.init_core.specs.declared.frames.Outcome.TheVariants.{Abrupt, Ended, Normal}
 use Rattle.init_core.specs.declared.frames.Phase.TheVariants.{Looking, Running, EndingBy}
 use Rattle.init_core.specs.declared.procedure.Answer.TheVariants as answer
 use Rattle.init_core.specs.declared.procedure.Next.TheVariants as next
-use Rattle.init_core.specs.Advance.{Advances, still_step_2, LeavesAt, after_word, is_running, is_waiting, next_of, started, thread_ended}
+use Rattle.init_core.specs.Advance.{Advances, step_2, still_step_2, step_3, step_4, step_5, step_6, LeavesAt, after_word, has_waited, is_running, is_waiting, next_of, started, thread_ended}
 use Rattle.init_core.specs.Decisions.{event, entered, kind_of, Decides, waits}
 use Rattle.init_core.specs.History.{History}
-use Rattle.init_core.specs.Label.{label_of}
-use Rattle.init_core.specs.Lawful.{Allows}
+use Rattle.init_core.specs.Label.{label_of, is_completion}
+use Rattle.init_core.specs.Lawful.{Allows, AgreesWithLabels}
 use Rattle.init_core.specs.Leads.{frame, standing, kind_of_ending, outcome_of, LeadsOf}
+use Rattle.init_core.specs.Needs.{needs}
 use Rattle.init_core.specs.Numbers.{IsInRange}
 use Rattle.init_core.specs.ProcedureWord.{word, ThreadWordOf, was_ended, gives_up as gave_up_word, IsMachineError, IsOfFiles, given_up}
 use Rattle.init_core.specs.ProgramEvents.{IsDoneAt, IsProgramEvent, at_class}
 use Rattle.init_core.specs.Standing.{Standing}
 use Rattle.init_core.specs.Stands.{begun_classes, ending_error}
 use Rattle.init_core.proofs.Errors.{ending_in_range, ending_is_done}
-use Rattle.init_core.proofs.Knowing.{others_go_on, runs_body}
+use Rattle.init_core.proofs.Knowing.{AreOuterBelow, needs_begun, word_begun, others_go_on, runs_body, passes_by}
 use Rattle.init_core.proofs.Mains.{main_looks}
 use Rattle.init_lock.specs.declared.journal.Stamped.{Stamped}
-use Rattle.init_lock.specs.Known.{HeldFacts, seen_at, IsSamePass}
+use Rattle.init_lock.specs.Known.{HeldFacts, seen_at, IsSamePass, IsAway}
+use Rattle.init_lock.specs.Settled.{KnowsDone}
+use Rattle.init_lock.specs.declared.views.PlaceView.{PlaceView}
+use Rattle.guest_threads.specs.Drawing.{MayDraw}
+use Rattle.guest_threads.proofs.Settled.{is_ready}
 use Rattle.bodies.specs.declared.report.Limit.{Limit}
 use Rattle.bodies.specs.declared.report.Limit.TheVariants.{Steps, Patience, Memory}
 use Rattle.bodies.specs.declared.report.ThreadOutcome.{ThreadOutcome}
@@ -44,13 +49,13 @@ use Rattle.bodies.proofs.ThreadSteps.{end_leads_at}
 use Rattle.guest_threads.specs.declared.guarded.Guarded.{Guarded}
 use Rattle.guest_threads.specs.declared.task.Work.{Work}
 use Rattle.guest_threads.specs.declared.work.Worked.{Worked}
-use Rattle.guest_threads.specs.Tasks.{TaskFacts, error_of, IsWhy, IsLimitOf}
+use Rattle.guest_threads.specs.Tasks.{TaskFacts, error_of, room_of, IsWhy, IsLimitOf}
 use Rattle.bodies.specs.Runs.{IsOutcome}
 use Rattle.guest_threads.specs.ThreadWork.{IsDone}
 use Rattle.guest_threads.specs.Working.{Working, Works, StandsAt, Took, GaveBack, drawn, seen_of}
 use Rattle.bodies.proofs.Asking.{IsAt, looks_at, runs_at, ends_at, in_files, gives_up, gives_up_run, ends, is_told, look_last, run_last}
-use Rattle.bodies.proofs.Counting.{few_more, one_less, has_last, error_after}
-use Rattle.guest_threads.proofs.Passing.{View, OuterOf, IdleOf, one, nothing as none_made, goes_of, outer_of, answered_at, told, with_record, visited, drew, look_made}
+use Rattle.bodies.proofs.Counting.{one_less, has_last, error_after}
+use Rattle.guest_threads.proofs.Passing.{View, OuterOf, IdleOf, one, nothing as none_made, goes_of, outer_of, answered_at, told, with_record, with_ready, visited, drew, drawn_more, same_on, stepped, look_made}
 
 pub machine_of : (p : LinkedProgram) (l : Limit) → IsMachineError p (error_of p l)
 machine_of p Memory = inr refl
@@ -76,6 +81,15 @@ ending_allowed (ending.Fails x) e = e
 
 stays : (p : LinkedProgram) (t : ℕ) {s z : Standing} {made : List Event} → Advances p t s (answer.Decided (decision.Waits false)) made z → s.last ≡ None → z ≡ s
 stays p t (still_step_2 {c = c} {fs = fs} {waited = w}) e = ap (λ (o : Option Completed). standing (frame c (Looking w) ∷ fs) o) (sym e)
+
+-- a look begins a class where it takes room for the step that ends it, and else none
+begun_more : (p : LinkedProgram) (t : ℕ) {s z : Standing} {d : Decision} {made : List Event} → Advances p t s (answer.Decided d) made z → AreOuterBelow s.frames → length (begun_classes z.frames) + 1 ≤ length (begun_classes s.frames) + room_of d
+begun_more p t step_2 n = omega arith
+begun_more p t still_step_2 n = omega arith
+begun_more p t (step_3 {c = c} {fs = fs}) n = let e = ap length (word_begun fs c Normal n) in omega arith
+begun_more p t (step_4 {c = c} {fs = fs}) n = let e = ap length (word_begun fs c Normal n) in omega arith
+begun_more p t (step_5 {c = c} {fs = fs}) n = let e = ap length (word_begun fs c (Abrupt (built_in p NoClassDefFoundError)) n) in omega arith
+begun_more p t (step_6 {c = c} {fs = fs}) n = let e = ap length (needs_begun c (needs p c) fs) in omega arith
 
 -- what a record was given is what is drawn
 pub keeps_drawn : {p : LinkedProgram} {c : ClassId} {x y : View} {h : HeldFacts Guarded} → Took p c x y h → (found : History) → found ≡ h.kept.record → (after : List Event) (t : ℕ) (j : Kind) (e : Event) → after ≡ found.events ++ event t found.class j ∷ [] → e ≡ event t c j →
@@ -138,7 +152,7 @@ module _ {S : Type 0} (M : Making S) (k : TaskFacts S) where
   -- a look
   pub looked : (w : Work S) (s : Standing) (slack : ℕ) (c : ClassId) (y v : View) (h : HeldFacts Guarded) (n : ℕ) (d : Decision) (found : History) (events : List Event) → next_of w.procedure.frames ≡ next.Look c → n ≡ c.number → Took k.program c w.pass y h → found ≡ h.kept.record → Decides (label_of found.events) k.number d →
       Advances k.program k.number w.procedure (answer.Decided d) (entered k.number found.class d) s → events ≡ found.events ++ entered k.number found.class d → GaveBack n events y v → drawn v.journal ≡ drawn y.journal ++ entered k.number c d →
-      (length (begun_classes s.frames) ≤ length (begun_classes w.procedure.frames) + length (entered k.number c d) → length (begun_classes s.frames) + slack ≤ v.room) → Working M k w → Working M k (record w { pass = v; procedure = s; slack = slack })
+      (length (begun_classes s.frames) + 1 ≤ length (begun_classes w.procedure.frames) + room_of d → length (begun_classes s.frames) + slack ≤ v.room) → Working M k w → Working M k (record w { pass = v; procedure = s; slack = slack })
   looked w s slack c y v h n d found events q place took kept ok step more back journal room o =
       let of_class : found.class ≡ c = ap (λ (r : History). r.class) kept ∙ took.class in
       let its : found.events ≡ h.kept.record.events = ap (λ (r : History). r.events) kept in
@@ -153,7 +167,38 @@ module _ {S : Type 0} (M : Making S) (k : TaskFacts S) where
       (λ sees st. answered_at M k w.in_main w.procedure s (answer.Decided d) (entered k.number c d) (drawn w.pass.journal) (seen_of y) (seen_of v) w.bodies w.bodies here refl sees st)
       (λ b. has_last k.program k.number here)
       (λ x e. ⊎_elim (λ z. absurd (let no_way : None ≡ Some x = sym none ∙ z in cc)) (λ z. absurd z) (error_after k.program k.number here outer x e))
-      (room (few_more k.program k.number here outer)) o
+      (room (begun_more k.program k.number here outer)) o
+
+  -- a class was passed without its lock
+  pub passed : (w : Work S) (s : Standing) (c : ClassId) (y v : View) (made : Stamped Event) → next_of w.procedure.frames ≡ next.Look c → has_waited w.procedure.frames ≡ false → KnowsDone MayDraw is_completion AgreesWithLabels c.number w.pass y →
+      IsSamePass y v → v.journal ≡ y.journal ++ made ∷ [] → made.event ≡ event k.number c kind.FindsInitialized → v.places ≡ y.places → v.room + 1 ≡ y.room → 2 ≤ w.slack →
+      ((f : Frame) (fs : List Frame) → w.procedure.frames ≡ f ∷ fs → s ≡ after_word fs f.class Normal) → Working M k w → Working M k (record w { pass = v; procedure = s; slack = w.slack - 1 })
+  passed w s c y v made q fresh knows same journal is_four places room slack is o =
+      let e : Event = event k.number c kind.FindsInitialized in
+      let l = looks_at w.procedure c q in
+      let below : List Frame = l.1.below in
+      let waited : l.0 ≡ false = ap has_waited (sym l.1.frames) ∙ fresh in
+      let frames : w.procedure.frames ≡ frame c (Looking false) ∷ below = l.1.frames ∙ ap (λ (b : Bool). frame c (Looking b) ∷ below) waited in
+      let from : w.procedure ≡ standing (frame c (Looking false) ∷ below) w.procedure.last = ap (λ (fs : List Frame). standing fs w.procedure.last) frames in
+      let to : s ≡ after_word below c Normal = is (frame c (Looking false)) below frames in
+      let outer : AreOuterBelow w.procedure.frames = outer_of M k w.in_main w.procedure (drawn w.pass.journal) (seen_of w.pass) w.bodies o.stands in
+      let few : length (begun_classes s.frames) ≡ length (begun_classes w.procedure.frames) =
+      ap (λ (z : Standing). length (begun_classes z.frames)) to ∙ (ap length (word_begun below c Normal (subst AreOuterBelow frames outer)) ∙ sym (ap (λ (fs : List Frame). length (begun_classes fs)) frames)) in
+      let step : Advances k.program k.number w.procedure (answer.Decided decision.FindsInitialized) (e ∷ []) s =
+      subst (λ (z : Standing × Standing). Advances k.program k.number z.0 (answer.Decided decision.FindsInitialized) (e ∷ []) z.1) (λ i. (sym from i, sym to i)) step_4 in
+      let none = look_goes_on w c q o in
+      let ready : label_of (seen_of y c) ≡ Initialized = is_ready (seen_of y c) knows.lawful_now knows.settled_now in
+      let st : StandsAt M k w.in_main (after_word below c Normal) (drawn w.pass.journal ++ e ∷ []) (seen_of y) w.bodies =
+      passes_by k.program k.number (maker_of k.program M) (OuterOf M k w.in_main) (IdleOf M k w.in_main) (goes_of M k w.in_main) ready
+      (subst (λ (z : Standing). StandsAt M k w.in_main z (drawn w.pass.journal) (seen_of y) w.bodies) from (with_ready M k w c y knows o)) in
+      let own : drawn v.journal ≡ drawn w.pass.journal ++ e ∷ [] = ap drawn journal ∙ (drawn_more y.journal made ∙ (λ i. drawn (knows.journal i) ++ is_four i ∷ [])) in
+      stepped M k w v s w.bodies w.why (w.slack - 1) w.looks (e ∷ []) o (same_on w.pass y v knows.same same) (subst IsAway (sym places) (knows.away o.works.away)) own
+      (at_class kind.FindsInitialized o.works.within (in_files k.program w.procedure c (Looking l.0) l.1 o.stands.files) tt, tt)
+      (subst (λ (z : Standing). StandsAt M k w.in_main z (drawn w.pass.journal ++ e ∷ []) (seen_of v) w.bodies) (sym to)
+      (subst (λ (ps : List (PlaceView Guarded Event)). StandsAt M k w.in_main (after_word below c Normal) (drawn w.pass.journal ++ e ∷ []) (λ d. seen_at d.number ps) w.bodies) (sym places) st))
+      (λ b. has_last k.program k.number step)
+      (λ x r. ⊎_elim (λ z. absurd (let no_way : None ≡ Some x = sym none ∙ z in cc)) (λ z. absurd z) (error_after k.program k.number step outer x r))
+      (let r = o.room in let t = knows.room in omega arith)
 
   -- a look in vain again
   pub looked_again : (w : Work S) (s : Standing) (c : ClassId) (d : Decision) (made : List Event) → next_of w.procedure.frames ≡ next.Look c → d ≡ decision.Waits false → Advances k.program k.number w.procedure (answer.Decided d) made s → Working M k w → s ≡ w.procedure

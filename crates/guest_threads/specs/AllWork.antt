@@ -4,9 +4,8 @@ use Rattle.std.specs.List.{AllByRecursion}
 use Rattle.hierarchy.specs.declared.class.ClassId.{ClassId}
 use Rattle.hierarchy.specs.LinkedProgram.{LinkedProgram}
 use Rattle.init_core.specs.declared.event.Event.{Event}
-use Rattle.init_lock.specs.Known.{PassFacts, TableFacts, seen_at, IsAway}
-use Rattle.init_lock.specs.Closing.{HasJournals, numbers}
-use Rattle.init_lock.specs.Log.{Entry}
+use Rattle.init_lock.specs.Known.{PassFacts, TableFacts, IsAway}
+use Rattle.init_lock.specs.Closing.{numbers}
 use Rattle.bodies.specs.declared.report.Limits.{Limits}
 use Rattle.bodies.specs.declared.report.Report.{Report}
 use Rattle.bodies.specs.Making.{Making}
@@ -14,9 +13,9 @@ use Rattle.guest_threads.specs.declared.guarded.Guarded.{Guarded}
 use Rattle.guest_threads.specs.declared.launch.Job.{Job}
 use Rattle.guest_threads.specs.declared.work.Worked.{Worked}
 use Rattle.bodies.specs.Runs.{AreMains, IsRunOf}
-use Rattle.guest_threads.specs.Drawing.{merged}
+use Rattle.guest_threads.specs.MergedJournals.{IsMergeOf}
 use Rattle.guest_threads.specs.ThreadWork.{IsDone}
-use Rattle.guest_threads.specs.Working.{Works}
+use Rattle.guest_threads.specs.Working.{MayBegin, Works}
 
 -- what all threads of a run are given: the classes, their records, the main class of each thread, how far each may go
 pub record PlanFacts : Type 0 where
@@ -32,10 +31,8 @@ pub record IsPlan (k : PlanFacts) : Type 0 where
   pub threads : k.table.threads ≡ length k.mains
 
 -- a new pass of the table
-pub record MayWork (k : PlanFacts) (x : PassFacts Guarded Event) : Type 0 where
-  pub works : Works k.program k.table x.number x
-  pub none : x.journal ≡ []
-  pub unseen : (n : ℕ) → seen_at n x.places ≡ []
+abbrev pub MayWork : PlanFacts → PassFacts Guarded Event → Type 0
+MayWork k x = MayBegin k.program k.table x
 
 -- what the thread of a job promises of its pass and outcome
 pub record Did {S : Type 0} (making : LinkedProgram → Making S) (k : PlanFacts) (j : Job S) (w : Worked) : Type 0 where
@@ -62,10 +59,6 @@ pub record AreDone {S : Type 0} (making : LinkedProgram → Making S) (k : PlanF
   pub count : length starts ≡ length k.mains
   pub done : (t : ℕ) (m : ClassId) (start : S) (w : Worked) → slice_get k.mains t ≡ Some m → slice_get starts t ≡ Some start → slice_get ws t ≡ Some w → IsDone k.program (making k.program) start k.table k.limits m w
 
--- these are the events of all journals, in the order of their stamps
-abbrev pub AreMerged : List Worked → List Event → Type 0
-AreMerged ws events = (log : List (Entry Event)) × HasJournals log (map (λ w. w.pass) ws) × (events ≡ merged log)
-
--- the report is of the run whose threads did this, and has their events in the order of their stamps
+-- the report is of the run whose threads did this, and has the events of their journals in the order of the stamps
 abbrev pub IsReportOf : {S : Type 0} → (LinkedProgram → Making S) → TableFacts → List Worked → Report → Type 0
-IsReportOf {S} making table ws r = (k : PlanFacts) (starts : List S) → k.table ≡ table → IsPlan k → AreDone making k starts ws → AreMerged ws r.events × IsRunOf k.program (making k.program) starts k.mains k.limits r
+IsReportOf {S} making table ws r = (k : PlanFacts) (starts : List S) → k.table ≡ table → IsPlan k → AreDone making k starts ws → IsMergeOf (map (λ w. w.pass.journal) ws) r.events × IsRunOf k.program (making k.program) starts k.mains k.limits r

@@ -16,11 +16,20 @@ IsPlaced kind.Runs = ⊥
 IsPlaced (kind.Prints text) = ⊥
 IsPlaced k = Unit {0}
 
--- what is drawn under no lock: a step 9, a print
+-- what is drawn under no lock: a step 9, a step 4 at a class that was seen to be initialized, a print
 abbrev pub IsUnplaced : Option ClassId → Kind → Type 0
 IsUnplaced (Some c) kind.Runs = Unit {0}
+IsUnplaced (Some c) kind.FindsInitialized = Unit {0}
 IsUnplaced None (kind.Prints text) = Unit {0}
 IsUnplaced c k = ⊥
+
+-- the class that must be initialized before such an event
+abbrev pub leaning : Option ClassId → Kind → Option ℕ
+leaning (Some c) kind.FindsInitialized = Some c.number
+leaning c k = None
+
+abbrev pub leans_on : Event → Option ℕ
+leans_on e = leaning e.class e.kind
 
 -- what thread t may draw at a place, which is the number of a class, or at none
 abbrev pub MayDraw : ℕ → Option ℕ → Event → Type 0

@@ -3,4 +3,5 @@ pub mod Following
 pub mod Tasks
 pub mod Working
 pub mod ThreadWork
+pub mod MergedJournals
 pub mod AllWork

@@ -3,6 +3,8 @@ use Rattle.std.specs.Prelude.{ℕ}
 use Rattle.hierarchy.specs.declared.built_in.BuiltIn.TheVariants.{InternalError, OutOfMemoryError}
 use Rattle.hierarchy.specs.declared.class.ClassId.{ClassId}
 use Rattle.hierarchy.specs.LinkedProgram.{LinkedProgram, built_in}
+use Rattle.init_core.specs.declared.event.Decision.{Decision}
+use Rattle.init_core.specs.declared.event.Decision.TheVariants.{Begins}
 use Rattle.init_core.specs.declared.frames.Outcome.{Outcome}
 use Rattle.init_core.specs.declared.frames.Outcome.TheVariants.{Normal, Abrupt, Ended}
 use Rattle.init_lock.specs.Known.{TableFacts}
@@ -36,6 +38,11 @@ IsWhy M k s l e = IsEndedAt k.program M k.limits s l e
 -- the machine may end the thread at this limit, where its bodies are in this state
 abbrev pub IsLimitOf : {S : Type 0} → Making S → TaskFacts S → S → Limit → Type 0
 IsLimitOf M k s l = IsWhy M k s l (error_of k.program l)
+
+-- the room that a look takes, by what it decided: that of its event and, where it begins the class, of the step that ends it
+abbrev pub room_of : Decision → ℕ
+room_of Begins = 2
+room_of d = 1
 
 -- how a thread ended, by the result of what it did, and by what the machine ended it for, if it did
 abbrev pub outcome_by : Limit → Outcome → ThreadOutcome

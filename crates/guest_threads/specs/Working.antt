@@ -63,6 +63,12 @@ pub record Works (p : LinkedProgram) (table : TableFacts) (t : ℕ) (x : PassFac
   pub prepared : ArePrepared p x.opening
   pub whole : length p.classes ≤ length x.opening
 
+-- a pass with which nothing was done yet, of this table, begun with prepared records
+pub record MayBegin (p : LinkedProgram) (table : TableFacts) (x : PassFacts Guarded Event) : Type 0 where
+  pub works : Works p table x.number x
+  pub none : x.journal ≡ []
+  pub unseen : (n : ℕ) → seen_at n x.places ≡ []
+
 -- the same pass, with what it drew and what it has seen as before
 pub record IsUnmoved (before after : PassFacts Guarded Event) : Type 0 where
   pub same : IsSamePass before after

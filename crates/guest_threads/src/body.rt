@@ -108,7 +108,7 @@ impl<'a, G: Gate, B: Bodies> Task<'a, G, B> {
         };
         record.is_lawful();
         let event = Event::new(self.number, class, Kind::Gets { field, value });
-        give_back_with(self.table, &mut work.pass, held, event);
+        give_back_with(self.table, &mut work.pass, held, event, false);
         work.bodies.get(self.program, value);
         work.procedure.forget_last();
         work.slack -= 1;
@@ -140,7 +140,7 @@ impl<'a, G: Gate, B: Bodies> Task<'a, G, B> {
         record.is_lawful();
         let value = record.value(field);
         let event = Event::new(self.number, class, Kind::Puts { field, value });
-        give_back_with(self.table, &mut work.pass, held, event);
+        give_back_with(self.table, &mut work.pass, held, event, false);
         work.procedure.forget_last();
         work.slack -= 1;
         self.gate.at(&Event::new(self.number, class, Kind::Puts { field, value }));

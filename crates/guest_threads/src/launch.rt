@@ -10,7 +10,7 @@ use crate::guarded::Guarded;
 use crate::run::RunFault;
 use crate::signals::Signals;
 use crate::work::{Worked, work_from};
-use bodies::{Bodies, Limits};
+use bodies::{Bodies, Limit, Limits, ThreadOutcome};
 use hierarchy::{ClassId, Program};
 use init_lock::{InitTable, Pass};
 use std::alloc::{AllocError, Global};
@@ -103,7 +103,8 @@ fn join_all<'a, R: Threads, B: Bodies>(
     done
 }
 
-/// What the thread of a job does.
+/// What the thread of a job does once all threads are started. Where one can't be it ends at once, as one that is refused
+/// memory.
 fn do_job<W: Wait, G: Gate, B: Bodies>(
     rt: &W,
     alloc: Global,
@@ -117,6 +118,12 @@ fn do_job<W: Wait, G: Gate, B: Bodies>(
     ensures { Did B.making plan.now job result }
 {
     let Job { pass, bodies } = job;
+    if !signals.wait_for_start(rt) {
+        return Worked {
+            pass,
+            outcome: ThreadOutcome::Ended(Limit::Memory),
+        };
+    }
     let main = plan.mains[pass.number()];
     work_from(
         rt,

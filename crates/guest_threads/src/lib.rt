@@ -7,11 +7,15 @@
 //! its class.
 //!
 //! A thread takes a record, looks at it and tells its procedure ([`init_core::Procedure::look_at`]), draws the stamp of the
-//! event while it has the record, and gives the record back. Step 9 is drawn without a lock. What a thread knows is its
+//! event while it has the record, and gives the record back. Step 9 is drawn without a lock, and so is the step 4 of a request
+//! that hasn't waited, where one load shows that the class is initialized (JVMS SE 8 5.5). What a thread knows is its
 //! own events and what it saw of each class at its last visit: other threads move no class that is in progress by it, so
 //! that suffices for all of its steps. When all threads have ended, their journals are merged in the order of the stamps.
-//! That the merged list is a legal interleaving follows from three facts: each journal is a word, each record is lawful,
-//! and a step 9 comes between the step 6 and the ending of its class in the journal of one thread.
+//! That the merged list is a legal interleaving follows from four facts: each journal is a word; each record is lawful;
+//! a step 9 comes between the step 6 and the ending of its class in the journal of one thread; and a step 4 that was drawn without a
+//! lock comes after the step 10 of its class.
+//!
+//! [`run_one`] does the work of one such thread on the calling thread, for tests and tools.
 //!
 //! The definition of what a run makes is in `bodies/specs/Runs.antt`.
 #![tactic(auto)]
@@ -31,3 +35,4 @@ mod work;
 pub use gate::{Gate, NoGate};
 pub use guarded::Guarded;
 pub use run::{RunFault, run_threads};
+pub use work::{Worked, run_one};

@@ -10,7 +10,7 @@ use crate::guarded::Guarded;
 use crate::work::Worked;
 use bodies::{Bodies, Report, ThreadOutcome, printed_by};
 use init_core::Label;
-use init_lock::{InitTable, Pass, merge};
+use init_lock::{Closed, InitTable, Pass, merge};
 use sequence::Sequence;
 use std::alloc::{AllocError, Global};
 
@@ -46,6 +46,8 @@ fn separated(
 }
 
 /// The report of a run that is over, with the events in the order of their stamps. An `Err` means out of memory.
+///
+/// The records go before the journals are merged, so that their memory serves for the list.
 pub(crate) fn report<B: Bodies>(
     alloc: Global,
     table: InitTable<Guarded>,
@@ -55,9 +57,10 @@ pub(crate) fn report<B: Bodies>(
     ensures reports { IfOk result (IsReportOf B.making table done.items) }
 {
     let (passes, outcomes) = separated(alloc, done)?;
-    let closed = table.finish(passes);
-    let labels = labels(alloc, closed.records.as_slice())?;
-    let events = merge(alloc, closed.journals)?;
+    let Closed { records, journals } = table.finish(passes);
+    let labels = labels(alloc, records.as_slice())?;
+    drop(records);
+    let events = merge(alloc, journals)?;
     let output = printed_by(alloc, events.as_slice())?;
     Ok(Report {
         outcomes,

@@ -2,6 +2,7 @@
 
 ghost use Rattle.std.specs.Prelude.{◌≡◌, ◌<◌, ◌≤◌, IfOk, vec_len, length};
 ghost use Rattle.bodies.specs.Runs.{AreMains, IsRunOf};
+ghost use Rattle.guest_threads.specs.MergedJournals.{AreMerged};
 ghost use Rattle.guest_threads.specs.Working.{ArePrepared};
 
 use crate::gate::Gate;
@@ -57,11 +58,11 @@ fn prepared(alloc: Global, program: &Program) -> Result<Vec<Guarded>, AllocError
 /// Runs main classes, the thread of each on a host thread of its own: thread t is that of the t-th.
 ///
 /// The initializers that it runs, and `main`, are what the t-th of `bodies` says that they do.
-/// The events of all threads, in the one order of their stamps, are a legal interleaving (JLS SE 8 12.4.2). A thread that
-/// is refused memory is ended by OutOfMemoryError, and one that looked as often as `limits.patience` allows at one lock or
-/// at one class in progress by InternalError; it ends the classes that it has begun, the innermost first. With patience 0
-/// a thread waits without limit, so that two whose classes need each other may wait for ever. At `limits.steps` it is for
-/// `bodies` to end a thread.
+/// Each event gets a stamp from one counter as it is made. The events of all threads, in the order of their stamps, are a
+/// legal interleaving (JLS SE 8 12.4.2). A thread that is refused memory is ended by OutOfMemoryError, and one that looked as
+/// often as `limits.patience` allows at one lock or at one class in progress by InternalError; it ends the classes that it has
+/// begun, the innermost first. With patience 0 a thread waits without limit, so that two whose classes need each other may
+/// wait for ever. At `limits.steps` it is for `bodies` to end a thread.
 ///
 /// `gate` is told of each event, after the thread has made it.
 pub fn run_threads<R: Threads + Wait + Sync, G: Gate + Sync, B: Bodies + Send>(
@@ -75,6 +76,7 @@ pub fn run_threads<R: Threads + Wait + Sync, G: Gate + Sync, B: Bodies + Send>(
 ) -> Result<Report, RunFault>
     requires mains { AreMains program.now mains.now }
     requires bodies { vec_len bodies ≡ length mains.now }
+    ensures merged { IfOk result (λ report. AreMerged (length mains.now) report.events) }
     ensures ran { IfOk result (IsRunOf program.now (B.making program.now) bodies.items mains.now limits) }
 {
     let records = prepared(alloc, program)?;

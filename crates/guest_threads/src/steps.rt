@@ -1,9 +1,9 @@
 //! One step of a thread's procedures: a look, step 9, the step that ends a class, and how a request is given up.
 
-ghost use Rattle.std.specs.Prelude.{◌≡◌, ◌≤◌, true, false};
+ghost use Rattle.std.specs.Prelude.{◌≡◌, ◌≤◌, MatchBool, true, false};
 ghost use Rattle.init_core.specs.declared.procedure.Next.TheVariants as nexts;
 ghost use Rattle.init_core.specs.Advance.{next_of, is_running};
-ghost use Rattle.guest_threads.specs.Tasks.{IsLimitOf};
+ghost use Rattle.guest_threads.specs.Tasks.{IsLimitOf, room_of};
 ghost use Rattle.guest_threads.specs.Working.{Working, HasLooked};
 
 use crate::gate::Gate;
@@ -11,8 +11,22 @@ use crate::take::{give_back_asleep, give_back_untouched, give_back_with, take_re
 use crate::task::{Task, Work, error_at};
 use bodies::{Bodies, Limit};
 use hierarchy::ClassId;
-use init_core::{Answer, Ending, Event, Kind};
+use init_core::{Answer, Decision, Ending, Event, Kind};
 use std::sync::Wait;
+
+/// The room that a look takes, by what it decided: that of its event and, where it begins the class, of the step that ends it.
+fn room_of(decision: Decision) -> usize
+    ensures room { result ≡ room_of decision }
+    ensures few { result ≤ 2 }
+{
+    match decision {
+        Decision::Begins => 2,
+        Decision::Waits { .. }
+        | Decision::Recurs
+        | Decision::FindsInitialized
+        | Decision::FindsErroneous => 1,
+    }
+}
 
 impl<'a, G: Gate, B: Bodies> Task<'a, G, B> {
     /// The request of a class is given up: the machine ends the thread at this limit.
@@ -62,11 +76,34 @@ impl<'a, G: Gate, B: Bodies> Task<'a, G, B> {
             return true;
         }
         let event = Event::new(self.number, class, decision.kind());
-        give_back_with(self.table, &mut work.pass, held, event);
-        work.slack -= 2;
+        give_back_with(self.table, &mut work.pass, held, event, false);
+        work.slack -= room_of(decision);
         self.gate
             .at(&Event::new(self.number, class, decision.kind()));
         false
+    }
+
+    /// Passes a class that is seen to be initialized without its lock (step 4), where the request hasn't looked in vain. Taking the
+    /// lock may be left out where initialization is known to be complete (JVMS SE 8 5.5).
+    pub(crate) fn pass_by(&self, work: &mut Work<B>, class: ClassId) -> bool
+        requires working { Working (B.making self.now.program) self.now work.old }
+        requires next { next_of work.old.procedure.frames ≡ nexts.Look class }
+        requires room { 2 ≤ work.old.slack }
+        ensures { MatchBool result (Working (B.making self.now.program) self.now work.new) (work.new ≡ work.old) }
+    {
+        if work.procedure.has_waited() {
+            return false;
+        }
+        if !self.table.is_done(&mut work.pass, class.number) {
+            return false;
+        }
+        let event = Event::new(self.number, class, Kind::FindsInitialized);
+        self.table.draw(&mut work.pass, event);
+        work.procedure.complete_by_step_4();
+        work.slack -= 1;
+        self.gate
+            .at(&Event::new(self.number, class, Kind::FindsInitialized));
+        true
     }
 
     /// Step 9: the initializer begins.
@@ -118,7 +155,8 @@ impl<'a, G: Gate, B: Bodies> Task<'a, G, B> {
         let sleepers = guarded.sleepers;
         guarded.record.end(self.number, ending);
         let event = Event::new(self.number, class, ending.kind());
-        give_back_with(self.table, &mut work.pass, held, event);
+        let settles = matches!(ending, Ending::Completes);
+        give_back_with(self.table, &mut work.pass, held, event, settles);
         self.signals.wake(sleepers);
         work.procedure.end_class();
         self.gate.at(&Event::new(self.number, class, ending.kind()));

@@ -1,8 +1,9 @@
 //! A class's record, taken from its lock and given back.
 
-ghost use Rattle.std.specs.Prelude.{◌≡◌, ◌≢◌, ◌+◌, ◌<◌, ◌++◌, ◌∷◌, [], Some, IfOk, OnErr};
+ghost use Rattle.std.specs.Prelude.{◌≡◌, ◌≢◌, ◌+◌, ◌<◌, ◌++◌, ◌∷◌, [], Some, IfOk, OnErr, true};
 ghost use Rattle.init_core.specs.declared.event.TheConstants.{THREADS};
 ghost use Rattle.init_lock.specs.Known.{seen_at};
+ghost use Rattle.init_core.specs.Label.{is_completion};
 ghost use Rattle.init_core.specs.ProcedureWord.{IsOfFiles};
 ghost use Rattle.bodies.specs.Writes.{WritesHeld};
 ghost use Rattle.guest_threads.specs.Drawing.{MayDraw};
@@ -37,14 +38,16 @@ pub(crate) fn take_record<W: Wait>(
     Ok(held)
 }
 
-/// Draws the event that a record was given, and gives the record back.
+/// Draws the event that a record was given, says that the class is initialized where it is step 10, and gives the record back.
 pub(crate) fn give_back_with(
     table: &InitTable<Guarded>,
     pass: &mut Pass<Guarded>,
     mut held: Held<Guarded>,
     event: Event,
+    settles: bool,
 )
     requires back { MayGiveBack table.now pass.old held (seen_at held.place pass.old.places ++ event ∷ []) }
+    requires settles { settles ≡ true → is_completion event ≡ true }
     requires room { 0 < pass.old.room }
     requires allowed { MayDraw pass.old.number (Some held.place) event }
     requires writes { WritesHeld held.taken.record.fields event }
@@ -52,7 +55,11 @@ pub(crate) fn give_back_with(
     ensures journal { drawn pass.new.journal ≡ drawn pass.old.journal ++ event ∷ [] }
     ensures room { pass.new.room + 1 ≡ pass.old.room }
 {
+    held.kept().record.is_lawful();
     table.draw_held(pass, &mut held, event);
+    if settles {
+        table.publish(pass, &mut held);
+    }
     table.give_back(pass, held);
 }
 

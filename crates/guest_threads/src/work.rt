@@ -1,15 +1,14 @@
 //! All that one thread does.
 
-ghost use Rattle.std.specs.Prelude.{◌≡◌, ℕ, [], ◌∷◌, None, IfOk, false};
+ghost use Rattle.std.specs.Prelude.{◌≡◌, [], ◌∷◌, None, IfOk, false};
 ghost use Rattle.init_core.specs.declared.frames.Phase.TheVariants.{Looking};
 ghost use Rattle.init_core.specs.declared.procedure.Next.TheVariants as nexts;
 ghost use Rattle.init_core.specs.Advance.{next_of, is_running};
 ghost use Rattle.init_core.specs.Leads.{frame, standing};
 ghost use Rattle.init_core.specs.ProcedureWord.{IsOfFiles};
-ghost use Rattle.init_lock.specs.Known.{seen_at};
 ghost use Rattle.guest_threads.specs.Tasks.{outcome_by};
 ghost use Rattle.guest_threads.specs.ThreadWork.{IsDone, HasDone};
-ghost use Rattle.guest_threads.specs.Working.{Works, Working, WorksOrEnds};
+ghost use Rattle.guest_threads.specs.Working.{MayBegin, Works, Working, WorksOrEnds};
 
 use crate::gate::Gate;
 use crate::guarded::Guarded;
@@ -24,10 +23,10 @@ use std::snapshot::Snapshot;
 use std::sync::Wait;
 use std::thread;
 
-/// What a thread gives back.
+/// What the thread of a main class gives back.
 #[derive(Drop)]
 pub struct Worked {
-    /// Its pass.
+    /// Its pass, whose journal has the events that it made.
     pub pass: Pass<Guarded>,
     /// How it ended.
     pub outcome: ThreadOutcome,
@@ -63,6 +62,9 @@ impl<'a, G: Gate, B: Bodies> Task<'a, G, B> {
     {
         if !self.has_room(work, 2) {
             self.give_up(work, class, Limit::Memory);
+            return;
+        }
+        if self.pass_by(work, class) {
             return;
         }
         if !self.look(rt, work, class) {
@@ -156,7 +158,7 @@ impl<'a, G: Gate, B: Bodies> Task<'a, G, B> {
     }
 }
 
-/// What a thread does once all threads are started. Where one can't be it ends at once, as one that is refused memory.
+/// What a thread does from its first request on. What it waits for beside locks is in `signals`.
 pub(crate) fn work_from<W: Wait, G: Gate, B: Bodies>(
     rt: &W,
     alloc: Global,
@@ -170,19 +172,11 @@ pub(crate) fn work_from<W: Wait, G: Gate, B: Bodies>(
     bodies: B,
 ) -> Worked
     requires main { IsOfFiles program.now main }
-    requires works { Works program.now table.now pass.number pass }
-    requires journal { pass.journal ≡ [] }
-    requires seen { (n : ℕ) → seen_at n pass.places ≡ [] }
+    requires begins { MayBegin program.now table.now pass }
     ensures number { result.pass.number ≡ pass.number }
     ensures works { Works program.now table.now result.pass.number result.pass }
     ensures done { IsDone program.now (B.making program.now) bodies table.now limits main result }
 {
-    if !signals.wait_for_start(rt) {
-        return Worked {
-            pass,
-            outcome: ThreadOutcome::Ended(Limit::Memory),
-        };
-    }
     let begun = begin(alloc, main);
     let Ok(procedure) = begun else {
         return Worked {
@@ -211,4 +205,40 @@ pub(crate) fn work_from<W: Wait, G: Gate, B: Bodies>(
         looks: 0,
     };
     task.work(rt, work)
+}
+
+/// Runs one main class on the calling thread: the procedure for the class and all that it needs (JLS SE 8 12.4.2), and then
+/// `main`.
+///
+/// [`run_threads`](crate::run_threads) does so on a host thread for each main class. This is for tests and tools that run a
+/// class while they have records of the same table in hand: what they hold, have begun or published is what the class meets.
+/// The table is over a prepared [`Guarded`] for each class of the program, and `pass` is one of its passes, with which nothing was
+/// done yet. The pass comes back with the events of the thread in its journal, in the order in which they were made, and with
+/// no record.
+///
+/// At a lock that another pass has, and at a class that another thread has in progress, it looks as often as
+/// `limits.patience` allows, and is then ended by InternalError. With patience 0 it waits without limit: at the lock until the
+/// record is given back, and at the class for ever, since only the threads of one [`run_threads`](crate::run_threads) wake
+/// each other. Where memory is refused it is ended by OutOfMemoryError. `gate` is told of each event, after it was made.
+pub fn run_one<W: Wait, G: Gate, B: Bodies>(
+    rt: &W,
+    alloc: Global,
+    program: &Program,
+    table: &InitTable<Guarded>,
+    limits: Limits,
+    gate: &G,
+    main: ClassId,
+    pass: Pass<Guarded>,
+    bodies: B,
+) -> Worked
+    requires main { IsOfFiles program.now main }
+    requires begins { MayBegin program.now table.now pass }
+    ensures number { result.pass.number ≡ pass.number }
+    ensures works { Works program.now table.now result.pass.number result.pass }
+    ensures done { IsDone program.now (B.making program.now) bodies table.now limits main result }
+{
+    let signals = Signals::new();
+    work_from(
+        rt, alloc, program, table, limits, gate, &signals, main, pass, bodies,
+    )
 }

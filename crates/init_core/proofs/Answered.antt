@@ -90,14 +90,6 @@ may_look p c s d asks first t = let x = look_frames p t c s.frames s.last d asks
 pub has_looked : (p : LinkedProgram) (t : ℕ) (c : ClassId) (s m : Standing) (d : Decision) → next_of s.frames ≡ next.Look c → (d ≡ decision.Waits true → is_waiting c s.frames ≡ false) → LeavesAt p s (answer.Decided d) m → Advances p t s (answer.Decided d) (entered t c d) m
 has_looked p t c s m d asks first is = let x = look_frames p t c s.frames s.last d asks first in rw (is t s (entered t c d) x.0 x.1 knows_all) x.1
 
--- the one decision at a class that is prepared
-pub prepared_begins : (t : ℕ) (d : Decision) → Decides Prepared t d → d ≡ decision.Begins
-prepared_begins t (decision.Waits first) h = absurd h
-prepared_begins t decision.Recurs h = cc
-prepared_begins t decision.FindsInitialized h = cc
-prepared_begins t decision.FindsErroneous h = cc
-prepared_begins t decision.Begins h = refl
-
 -- whether the request waits already, where the look comes to a wait
 pub waits_so : (t : ℕ) {h g : List Event} {d : Decision} {first is waited : Bool} → g ≡ h → Decides (label_of g) t d → d ≡ decision.Waits first → (IsInProgressByOther t (label_of h) → waits t h ≡ is) → waits t g ≡ waited → is ≡ waited
 waits_so t {h = h} {g = g} same ok e waiting was =

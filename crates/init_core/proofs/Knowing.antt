@@ -8,7 +8,7 @@ use Rattle.init_core.specs.declared.event.Event.{Event}
 use Rattle.init_core.specs.declared.event.Kind.{Kind}
 use Rattle.init_core.specs.declared.event.Kind.TheVariants as kind
 use Rattle.init_core.specs.declared.event.Label.{Label}
-use Rattle.init_core.specs.declared.event.Label.TheVariants.{InProgress}
+use Rattle.init_core.specs.declared.event.Label.TheVariants.{InProgress, Initialized}
 use Rattle.init_core.specs.declared.procedure.Answer.{Answer}
 use Rattle.init_core.specs.declared.frames.Completed.{Completed}
 use Rattle.init_core.specs.declared.frames.Ending.{Ending}
@@ -273,6 +273,13 @@ module _ (p : LinkedProgram) (t : ℕ) (M : Maker) (Outer : ClassId → List Eve
   looks_once {c = c} {w = w} {fs = fs} k r none still may leads sees st =
       is_completed fs c r (leads_outer p t M st.leads) leads st.files.1 (mine_still t c k sees (begun_classes fs) still st.mine) st.different (λ e d. calm t c k sees none (λ x q. look_goes_on st x ∙ look_calm c x w fs q) d)
       (λ e. subst (λ (l : Label). MayUse t l) (sym (label_here t c k sees ∙ still)) (may e))
+
+  -- step 4, which the record of the class doesn't keep
+  pub passes_by : {c : ClassId} {fs : List Frame} {last : Option Completed} {own : List Event} {seen : ClassId → List Event} {z : M.State} → label_of (seen c) ≡ Initialized → StandsOf p t M Outer Idle (standing (frame c (Looking false) ∷ fs) last) own seen z →
+      StandsOf p t M Outer Idle (after_word fs c Normal) (own ++ event t c kind.FindsInitialized ∷ []) seen z
+  passes_by {c = c} {fs = fs} ready st =
+      is_completed fs c Normal (leads_outer p t M st.leads) (is_answered p t M Outer Idle goes step_4 refl st.leads) st.files.1 st.mine st.different (λ e d. look_goes_on st d)
+      (λ e. subst (λ (l : Label). MayUse t l) (sym ready) tt)
 
   -- step 6
   has_become_mine : (c : ClassId) (cs : List ClassId) {seen now : ClassId → List Event} → SeesMore seen (λ d. of_class d (event t c kind.Begins ∷ [])) now → AreMine t seen cs → AllByRecursion (λ d. d ≢ c) cs × AreMine t now (c ∷ cs)

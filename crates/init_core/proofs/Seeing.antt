@@ -9,7 +9,6 @@ use Rattle.init_core.specs.declared.event.Kind.{Kind}
 use Rattle.init_core.specs.declared.event.Kind.TheVariants as kind
 use Rattle.init_core.specs.declared.event.Label.{Label}
 use Rattle.init_core.specs.declared.event.Label.TheVariants.{Prepared, InProgress, Initialized, Erroneous}
-use Rattle.init_core.specs.declared.frames.Ending.TheVariants as ending
 use Rattle.init_core.specs.Decisions.{event, is_wait, waits, waits_from}
 use Rattle.init_core.specs.Interleaving.{of_class}
 use Rattle.init_core.specs.Label.{label_of}

@@ -84,7 +84,7 @@ module _ {R E : Type 0} where
       let b : v ≡ pass_view i 0 [] [] rs (unseen rs) ∷ newcomers (suc i) (n - (i + 1)) rs = e ∙ ap (λ (z : ℕ). newcomers i z rs) a in
       let d : suc i ≡ i + 1 = omega arith in (ap just_first b, ap but_first b ∙ ap (λ (z : ℕ). newcomers z (n - (i + 1)) rs) d)
 
-module _ {R E : Type 0} (kept : R → List E) (may : ℕ → Opt ℕ → E → Type 0) (follows : R → R → Type 0) (settles : E → Bool) (setup : Setup R) where
+module _ {R E : Type 0} (kept : R → List E) (may : ℕ → Opt ℕ → E → Type 0) (follows : R → R → Type 0) (settles : E → Bool) (lawful : List E → Type 0) (leans : E → Opt ℕ) (setup : Setup R) where
   abbrev P : Type 0
   P = PassView R E
 
@@ -92,7 +92,7 @@ module _ {R E : Type 0} (kept : R → List E) (may : ℕ → Opt ℕ → E → T
   St = State (Opt R) (List P)
 
   abbrev Rule : St → Type 0
-  Rule = RuleHolds kept may follows settles setup
+  Rule = RuleHolds kept may follows settles lawful leans setup
 
   abbrev F : (s : St) → Rule s → P → Type 0
   F s r = Fits kept may follows setup.threads s.words s.homes r.log r.now
@@ -100,7 +100,7 @@ module _ {R E : Type 0} (kept : R → List E) (may : ℕ → Opt ℕ → E → T
   -- other views of the same words and homes
   pub with_views : (s : St) (r : Rule s) (views : List (List P)) → ((by : ℕ) → total (count_of by) views ≤ 1) → ((i : ℕ) (v : List P) → get_elem? views i ≡ some v → Each (F s r) v)
       → Rule record { words = s.words; homes = s.homes; views = views }
-  with_views s r views alone each = record { log = r.log; now = r.now; wide = r.wide; few = r.few; counted = r.counted; allowed = r.allowed; bounded = r.bounded; alone = alone; each = each; taken = r.taken; free = r.free; done = r.done }
+  with_views s r views alone each = record { log = r.log; now = r.now; wide = r.wide; few = r.few; counted = r.counted; allowed = r.allowed; lawful_at = r.lawful_at; backed = r.backed; bounded = r.bounded; alone = alone; each = each; taken = r.taken; free = r.free; done = r.done }
 
   -- a new seat knows nothing
   pub enters : (slots i : ℕ) → Enters Rule slots i (λ n w. w ≡ [])
@@ -183,9 +183,9 @@ module _ {R E : Type 0} (kept : R → List E) (may : ℕ → Opt ℕ → E → T
     followed_start : (x : R) (rs : List R) (n : ℕ) → element_at n rs ≡ Some x → FollowedBy kept may follows x (element_at n rs)
     followed_start x rs n e = subst (λ (z : Opt R). FollowedBy kept may follows x z) (sym e) (itself x)
 
-    pub opens : (words : List ℕ) (slots : List (Opt R)) → length words ≡ length slots * 8 + 8 → ((i : ℕ) → get_or words i 0 ≡ 0) → slots ≡ map Some setup.records.value.items
-        → AllByRecursion (λ r. kept r ≡ []) setup.records.value.items → setup.threads ≤ 16 → Rule (opening_state words slots (opened setup))
-    opens words slots wide zeros same empty few =
+    pub opens : (words : List ℕ) (slots : List (Opt R)) → length words ≡ length slots * 9 + 8 → ((i : ℕ) → get_or words i 0 ≡ 0) → slots ≡ map Some setup.records.value.items
+        → AllByRecursion (λ r. kept r ≡ []) setup.records.value.items → setup.threads ≤ 16 → lawful [] → Rule (opening_state words slots (opened setup))
+    opens words slots wide zeros same empty few first =
         let records : List R = setup.records.value.items in
         let homes : List (Option (Opt R)) = map some slots in
         let now : ℕ → Opt R = λ n. element_at n records in
@@ -194,10 +194,12 @@ module _ {R E : Type 0} (kept : R → List E) (may : ℕ → Opt ℕ → E → T
         let G : P → Type 0 = Fits kept may follows setup.threads words homes [] now in record {
           log = [];
           now = now;
-          wide = wide ∙ ap (λ (z : ℕ). z * 8 + 8) (sym long);
+          wide = wide ∙ ap (λ (z : ℕ). z * 9 + 8) (sym long);
           few = few;
           counted = zeros 0;
           allowed = tt;
+          lawful_at = λ n. first;
+          backed = tt;
           bounded = λ by. omega arith;
           alone = λ by. let a = (few_newcomers by 0 setup.threads records).1 in omega arith;
           each = λ i v e. all_at (Each G) (opened setup ∷ []) i v (
@@ -213,7 +215,7 @@ module _ {R E : Type 0} (kept : R → List E) (may : ℕ → Opt ℕ → E → T
             }),
             tt,
           ) e;
-          done = λ n l busy. absurd (busy (zeros (done_word n)));
+          done = λ n l busy. absurd (busy (zeros (done_word (length homes) n)));
           taken = λ n l. let z = zeros (lock_word n) in omega arith;
           free = λ n l _. let a = some_at records n (omega arith) in record {
             record_now = a.0;

@@ -9,12 +9,13 @@ use Rattle.atomic_table.specs.Table.{State, Final, Seen}
 use Rattle.init_lock.specs.declared.views.Setup.{Setup}
 use Rattle.init_lock.specs.declared.views.PassView.{PassView}
 use Rattle.init_lock.specs.declared.views.PlaceView.{PlaceView}
-use Rattle.init_lock.specs.Log.{Entry, events_at, journal_of, AllAllowed}
+use Rattle.init_lock.specs.Log.{Entry, events_at, journal_of, AllAllowed, AllBacked}
 use Rattle.init_lock.specs.Rule.{element_at, FollowedBy, Fits, RuleHolds, AllSeen}
 use Rattle.init_lock.specs.Known.{PassFacts, IsAway, last_at, view_of_pass}
-use Rattle.init_lock.specs.Closing.{numbers, HasJournals, HasLooks, HasRecords, FollowsAll}
+use Rattle.init_lock.specs.Closing.{numbers, HasJournals, HasLooks, IsSettledFirst, HasSettledFirst, HasRecords, FollowsAll}
 use Rattle.init_lock.proofs.Lists.{none_some, said_is}
 use Rattle.init_lock.proofs.Ends.{In, all_home, fits_in, away_knows}
+use Rattle.init_lock.proofs.Settling.{all_settled_first}
 
 pub length_numbers : (i n : ℕ) → length (numbers i n) ≡ n
 length_numbers i Prim.Native.Nat.zero = refl
@@ -98,6 +99,9 @@ module _ {R E : Type 0} (kept : R → List E) (may : ℕ → Opt ℕ → E → T
   pub looks_are : (log : List (Entry E)) (now : ℕ → Opt R) (ps : List (PassFacts R E)) → AllByRecursion (Ended log now) ps → HasLooks log ps
   looks_are log now ps all = all_in (λ p. AllSeen log p.number p.looks) ps (Ended log now) (λ p i b. b.looks) all
 
+  pub settled_first : (settles : E → Bool) (log : List (Entry E)) (now : ℕ → Opt R) (ps : List (PassFacts R E)) → AllByRecursion (Ended log now) ps → HasSettledFirst settles log ps
+  settled_first settles log now ps all = all_in (λ p. AllByRecursion (λ l. IsSettledFirst settles log p.journal l) p.looks) ps (Ended log now) (λ p i b. all_settled_first settles log p.number p.journal p.looks b.journal b.looks) all
+
   shelved_from : (log : List (Entry E)) (now : ℕ → Opt R) (i : ℕ) (xs : List (Opt R)) → ((n : ℕ) → n < length xs → (r : R) × (get_elem? xs n ≡ some (Some r)) × (now (i + n) ≡ Some r) × (kept r ≡ events_at (i + n) log)) → Shelved log now i xs
   shelved_from log now i [] h = tt
   shelved_from log now i (x ∷ xs) h =
@@ -106,32 +110,34 @@ module _ {R E : Type 0} (kept : R → List E) (may : ℕ → Opt ℕ → E → T
         shelved_from log now (suc i) xs (λ n l. let b = h (suc n) (omega arith) in let z : i + suc n ≡ suc i + n = omega arith in (b.0, b.1, ap now (sym z) ∙ b.2, b.3 ∙ ap (λ (z : ℕ). events_at z log) z)),
       )
 
-  module _ (settles : E → Bool) (setup : Setup R) where
+  module _ (settles : E → Bool) (lawful : List E → Type 0) (leans : E → Opt ℕ) (setup : Setup R) where
     -- the log and the records that a closed table had at the end
     pub record Closes (ps : List (PassFacts R E)) (xs : List (Opt R)) : Type 0 where
       pub log : List (Entry E)
       pub now : ℕ → Opt R
       pub allowed : AllAllowed setup.threads (length xs) may log
+      pub backed : AllBacked leans settles [] log
       pub passes : AllByRecursion (Ended log now) ps
       pub shelved : Shelved log now 0 xs
 
-    ended : (s : State (Opt R) (List (PassView R E))) (r : RuleHolds kept may follows settles setup s) (p : PassFacts R E) → Fits kept may follows setup.threads s.words s.homes r.log r.now (view_of_pass p) → IsAway p.places → Ended r.log r.now p
+    ended : (s : State (Opt R) (List (PassView R E))) (r : RuleHolds kept may follows settles lawful leans setup s) (p : PassFacts R E) → Fits kept may follows setup.threads s.words s.homes r.log r.now (view_of_pass p) → IsAway p.places → Ended r.log r.now p
     ended s r p f away = record {
       journal = f.drawn;
       looks = f.looks;
       opening = f.began;
-      last = λ n x e. let t = last_there p.places n x e in subst (λ (z : R). FollowedBy kept may follows z (r.now n)) t.2 (away_knows kept may follows settles setup s r (view_of_pass p) n t.0 f away t.1).2;
+      last = λ n x e. let t = last_there p.places n x e in subst (λ (z : R). FollowedBy kept may follows z (r.now n)) t.2 (away_knows kept may follows settles lawful leans setup s r (view_of_pass p) n t.0 f away t.1).2;
     }
 
-    pub closes : (id : ℕ) (ps : List (PassFacts R E)) (ws : List ℕ) (xs : List (Opt R)) → Final (Seen (RuleHolds kept may follows settles setup) id (map view_of_pass ps)) ws xs
+    pub closes : (id : ℕ) (ps : List (PassFacts R E)) (ws : List ℕ) (xs : List (Opt R)) → Final (Seen (RuleHolds kept may follows settles lawful leans setup) id (map view_of_pass ps)) ws xs
         → IsPermutation (numbers 0 setup.threads) (map (λ p. p.number) ps) → AllByRecursion (λ p. IsAway p.places) ps → Closes ps xs
     closes id ps ws xs f all away = let s = f.0 in let r = f.1.0 in let wide = f.3 in record {
       log = r.log;
       now = r.now;
       allowed = subst (λ (z : ℕ). AllAllowed setup.threads z may r.log) wide r.allowed;
-      passes = all_in (Ended r.log r.now) ps (λ p. IsAway p.places) (λ p i a. ended s r p (fits_in kept may follows settles setup s r id (map view_of_pass ps) (view_of_pass p) f.1.1 i) a) away;
+      backed = r.backed;
+      passes = all_in (Ended r.log r.now) ps (λ p. IsAway p.places) (λ p i a. ended s r p (fits_in kept may follows settles lawful leans setup s r id (map view_of_pass ps) (view_of_pass p) f.1.1 i) a) away;
       shelved = shelved_from r.log r.now 0 xs (λ n l.
-          let h = all_home kept may follows settles setup s r id (map view_of_pass ps) f.1.1 (every_number ps setup.threads all away) n (omega arith) in
+          let h = all_home kept may follows settles lawful leans setup s r id (map view_of_pass ps) f.1.1 (every_number ps setup.threads all away) n (omega arith) in
           let z : n ≡ 0 + n = omega arith in
           (h.record_now, f.4 n (Some h.record_now) h.home, ap r.now (sym z) ∙ h.is_now, h.keeps ∙ ap (λ (z : ℕ). events_at z r.log) z));
     }

@@ -1,11 +1,14 @@
 pub mod Lists
 pub mod Logs
 pub mod Merges
+pub mod Packed
 pub mod Spread
 pub mod Entries
 pub mod Places
 pub mod Steps
 pub mod Ends
+pub mod Settling
 pub mod Finals
+pub mod Dones
 pub mod Seats
 pub mod Passes

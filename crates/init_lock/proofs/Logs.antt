@@ -1,9 +1,9 @@
 -- What a list of entries gives when one more comes at its end.
-use Rattle.std.proofs.Common.{◌≡◌, ℕ, suc, ◌+◌, ◌*◌, ◌^◌, ◌<◌, ◌≤◌, ◌⊎◌, inl, inr, List, [], ◌∷◌, ◌++◌, Bool, true, false, eqb, cond, Option, Some, None, length, refl, sym, ap, ◌∙◌, subst, arith, suc-mul, eq-eqb, ne_eqb}
+use Rattle.std.proofs.Common.{◌≡◌, ℕ, suc, ◌+◌, ◌*◌, ◌^◌, ◌<◌, ◌≤◌, ◌⊎◌, inl, inr, List, [], ◌∷◌, ◌++◌, Bool, true, false, eqb, cond, Option, Some, None, length, refl, sym, ap, ◌∙◌, subst, arith, suc-mul, eq-eqb, ne_eqb, append-nil, append_assoc}
 use mathlib.Core.Logic.{dite}
 use native.Mathlib.Decide.{ℕ_discrete}
 use Rattle.init_lock.specs.declared.journal.Stamped.{Stamped}
-use Rattle.init_lock.specs.Log.{Entry, is_at, events_at, journal_of, own_events, AreBelow, NoneBy, AllAllowed, ByOthers, IsWithin, ends, passes_over, meets, stamped, settled}
+use Rattle.init_lock.specs.Log.{Entry, is_at, events_at, journal_of, own_events, AreBelow, NoneBy, AllAllowed, IsBacked, AllBacked, ByOthers, Grew, IsWithin, ends, passes_over, meets, stamped, settled}
 
 pub bool_cases : (b : Bool) → (b ≡ true) ⊎ (b ≡ false)
 bool_cases true = inl refl
@@ -34,6 +34,10 @@ either_way : (b s s' : Bool) → (s ≡ true → s' ≡ true) → cond b true s 
 either_way true s s' h e = refl
 either_way false s s' h e = h e
 
+either_true : (b s : Bool) → s ≡ true → cond b true s ≡ true
+either_true true s e = refl
+either_true false s e = e
+
 module _ {E : Type 0} where
   pub events-append : (n : ℕ) (a b : List (Entry E)) → events_at n (a ++ b) ≡ events_at n a ++ events_at n b
   events-append n [] b = refl
@@ -42,6 +46,15 @@ module _ {E : Type 0} where
   pub settled-append : (settles : E → Bool) (xs ys : List E) → settled settles xs ≡ true → settled settles (xs ++ ys) ≡ true
   settled-append settles [] ys e = cc
   settled-append settles (x ∷ xs) ys e = either_way (settles x) (settled settles xs) (settled settles (xs ++ ys)) (settled-append settles xs ys) e
+
+  -- a list that ends with an event that settles
+  pub settled-last : (settles : E → Bool) (xs : List E) (x : E) → settles x ≡ true → settled settles (xs ++ x ∷ []) ≡ true
+  settled-last settles [] x e = ap (λ (b : Bool). cond b true false) e
+  settled-last settles (y ∷ ys) x e = either_true (settles y) (settled settles (ys ++ x ∷ [])) (settled-last settles ys x e)
+
+  -- what settles a list settles it when it has grown
+  pub settled_on : (settles : E → Bool) (may : ℕ → Option ℕ → E → Type 0) (by n : ℕ) (seen list : List E) → Grew may by n seen list → settled settles seen ≡ true → settled settles list ≡ true
+  settled_on settles may by n seen list grew done = ap (settled settles) grew.begins ∙ settled-append settles seen grew.more done
 
   pub journal-append : (by i j : ℕ) (a b : List (Entry E)) → j ≡ i + length a → journal_of by i (a ++ b) ≡ journal_of by i a ++ journal_of by j b
   journal-append by i j [] b e = let f : i ≡ j = omega arith in ap (λ (z : ℕ). journal_of by z b) f
@@ -59,6 +72,14 @@ module _ {E : Type 0} where
   pub allowed_after : (threads places : ℕ) (may : ℕ → Option ℕ → E → Type 0) (a b : List (Entry E)) → AllAllowed threads places may (a ++ b) → AllAllowed threads places may b
   allowed_after threads places may [] b p = p
   allowed_after threads places may (e ∷ es) b p = allowed_after threads places may es b p.3
+
+  pub backed-append : (leans : E → Option ℕ) (settles : E → Bool) (before xs : List (Entry E)) (e : Entry E) → AllBacked leans settles before xs → IsBacked leans settles (before ++ xs) e.place e.event → AllBacked leans settles before (xs ++ e ∷ [])
+  backed-append leans settles before [] e h b = (subst (λ (z : List (Entry E)). IsBacked leans settles z e.place e.event) (append-nil before) b, tt)
+  backed-append leans settles before (x ∷ xs) e h b = (h.0, backed-append leans settles (before ++ x ∷ []) xs e h.1 (subst (λ (z : List (Entry E)). IsBacked leans settles z e.place e.event) (sym (append_assoc before (x ∷ []) xs)) b))
+
+  pub is_backed : (leans : E → Option ℕ) (settles : E → Bool) (before : List (Entry E)) (place : Option ℕ) (event : E) → (place ≡ None → (n : ℕ) → leans event ≡ Some n → settled settles (events_at n before) ≡ true) → IsBacked leans settles before place event
+  is_backed leans settles before None event h = h refl
+  is_backed leans settles before (Some n) event h = tt
 
   others_here : (may : ℕ → Option ℕ → E → Type 0) (by n : ℕ) (e : Entry E) (xs : List E) → may e.by e.place e.event → (e.by ≡ by → is_at n e.place ≡ false)
       → ByOthers may by n xs → (b : Bool) → is_at n e.place ≡ b → ByOthers may by n (cond b (e.event ∷ xs) xs)

@@ -11,7 +11,7 @@ use Rattle.init_lock.specs.declared.views.Custody.TheVariants.{Away, Carried, He
 use Rattle.init_lock.specs.Known.{seen_at, out_by, out_of, last_at, IsSameAt, IsSameBut, IsAway, IsAwayBut}
 use Rattle.init_lock.specs.Log.{is_at, IsPlace}
 use Rattle.init_lock.specs.Rule.{place_view}
-use Rattle.init_lock.specs.Steps.{modify, extend, leave, without, custody_beside, IsCarried}
+use Rattle.init_lock.specs.Steps.{modify, extend, learn, leave, without, custody_beside, IsCarried}
 use Rattle.init_lock.proofs.Lists.{none_some, not_true, said_is, at_modify, modify_here, some_at}
 use Rattle.init_lock.proofs.Entries.{seen_is, last_is, out_is}
 
@@ -50,6 +50,9 @@ module _ {R E : Type 0} where
 
   pub carried_on : (carried : Opt ℕ) (ts : List (PlaceView R E)) (n : ℕ) (x : E) → IsCarried carried ts → IsCarried carried (modify n (extend x) ts)
   carried_on carried ts n x h = carried_after carried carried ts n (extend x) h (λ m ne. refl) (λ t e. h n t e)
+
+  pub carried_learned : (carried : Opt ℕ) (ts : List (PlaceView R E)) (n : ℕ) (seen : List E) → IsCarried carried ts → IsCarried carried (modify n (learn seen) ts)
+  carried_learned carried ts n seen h = carried_after carried carried ts n (learn seen) h (λ m ne. refl) (λ t e. h n t e)
 
   pub carried_left : (carried : Opt ℕ) (ts : List (PlaceView R E)) (n : ℕ) (r : R) → IsCarried carried ts → IsCarried (without n carried) (modify n (leave r) ts)
   carried_left carried ts n r h = carried_after carried (without n carried) ts n (leave r) h (λ m ne. without_other n m carried ne) (λ t e. ((λ c. cc), λ here. absurd (not_true (is_at n (without n carried)) (without_here n carried) here)))

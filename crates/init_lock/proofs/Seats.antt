@@ -1,5 +1,5 @@
 -- The steps of a seat that has one pass, as the calls of the table make them.
-use Rattle.std.proofs.Common.{◌≡◌, ◌≢◌, ℕ, suc, ◌+◌, ◌^◌, ◌%◌, ◌<◌, List, [], ◌∷◌, Bool, true, false, eqb, eq-eqb, ne_eqb, MatchBool, map, cond, Option as Opt, Some, None, length, refl, sym, ap, ◌∙◌, subst, ◌-◌, ◌*◌, ◌/◌, arith}
+use Rattle.std.proofs.Common.{◌≡◌, ◌≢◌, ℕ, suc, ◌+◌, ◌^◌, ◌%◌, ◌<◌, List, [], ◌∷◌, ◌++◌, Bool, true, false, eqb, eq-eqb, ne_eqb, MatchBool, map, cond, Option as Opt, Some, None, length, refl, sym, ap, ◌∙◌, subst, ◌-◌, ◌*◌, ◌/◌, arith}
 use Rattle.std.specs.Option.{is_some, option_or}
 use Rattle.std.proofs.lemmas.Nat.{div-mul-add}
 use mathlib.Core.Logic.{dite}
@@ -13,10 +13,10 @@ use Rattle.init_lock.specs.declared.views.PassView.{PassView}
 use Rattle.init_lock.specs.declared.views.PlaceView.{PlaceView}
 use Rattle.init_lock.specs.declared.views.Custody.{Custody}
 use Rattle.init_lock.specs.declared.views.Custody.TheVariants.{Away, Carried, Held}
-use Rattle.init_lock.specs.Log.{is_at}
+use Rattle.init_lock.specs.Log.{is_at, settled}
 use Rattle.init_lock.specs.Rule.{lock_word, place_of_word, place_view, pass_view, RuleHolds}
 use Rattle.init_lock.specs.Known.{look, seen_at}
-use Rattle.init_lock.specs.Steps.{SeatView, modify, restage, in_custody, took, missed, leave, released, Found, TakesLock, TakesLockAt, SeesLock, ParksSlot, ParksSlotAt, FetchesSlot, FetchesSlotAt, FreesLock, FreesLockAt, DrawsStamp, DrawsWhatIsSaid, slots_of, without, custody_beside, JustTook, HasOut, MayReturn}
+use Rattle.init_lock.specs.Steps.{SeatView, modify, restage, in_custody, took, missed, leave, released, Found, TakesLock, TakesLockAt, SeesLock, ParksSlot, ParksSlotAt, FetchesSlot, FetchesSlotAt, FreesLock, FreesLockAt, DrawsStamp, DrawsWhatIsSaid, MayStand, slots_of, without, custody_beside, JustTook, HasOut, MayReturn}
 use Rattle.init_lock.proofs.Lists.{not_true, modify_here, modify_twice, some_at}
 use Rattle.init_lock.proofs.Logs.{is_at_some}
 use Rattle.init_lock.proofs.Places.{IsHolding, IsHoldingAt}
@@ -37,12 +37,12 @@ restaged_same [] n t e = refl
 restaged_same {R} {E} (x ∷ xs) Prim.Native.Nat.zero t e = ap (λ (z : PlaceView R E). restage z.custody x ∷ xs) (sym (some-injective x t e))
 restaged_same {R} {E} (x ∷ xs) (suc n) t e = ap (λ (z : List (PlaceView R E)). x ∷ z) (restaged_same xs n t e)
 
-module _ {R E : Type 0} (kept : R → List E) (may : ℕ → Opt ℕ → E → Type 0) (follows : R → R → Type 0) (settles : E → Bool) (on : (x y z : R) → follows x y → follows y z → follows x z) (itself : (x : R) → follows x x) (setup : Setup R) where
+module _ {R E : Type 0} (kept : R → List E) (may : ℕ → Opt ℕ → E → Type 0) (follows : R → R → Type 0) (settles : E → Bool) (lawful : List E → Type 0) (leans : E → Opt ℕ) (on : (x y z : R) → follows x y → follows y z → follows x z) (itself : (x : R) → follows x x) (setup : Setup R) where
   abbrev P : Type 0
   P = PassView R E
 
   abbrev Rule : State (Opt R) (List P) → Type 0
-  Rule = RuleHolds kept may follows settles setup
+  Rule = RuleHolds kept may follows settles lawful leans setup
 
   abbrev Cs : Type 0
   Cs = List (ℕ × Opt R)
@@ -51,7 +51,7 @@ module _ {R E : Type 0} (kept : R → List E) (may : ℕ → Opt ℕ → E → T
       → Allows Rule slots id me word (λ z. either (eqb z 0) mark z) (TakesLock kept may follows (step slots word 0 mark none) me)
   take_allowed slots id p cs me place word mark is up its low =
       subst (λ (z : SeatView R E × ℕ × ℕ × ℕ). Allows Rule slots id z.0 z.1 (λ y. either (eqb y 0) z.2 y) (TakesLockAt kept may follows z.3 z.0)) (λ i. (sym is i, sym up i, sym its i, sym (place_back word place up) i))
-      (takes_lock kept may follows settles on itself setup slots id p cs place low)
+      (takes_lock kept may follows settles lawful leans on itself setup slots id p cs place low)
 
   -- the lock was free: the pass has it, and carries the slot with the record
   pub took_one : (slots : ℕ) (p : P) (cs : Cs) (me : SeatView R E) (place word mark found : ℕ) (me1 : SeatView R E) → me ≡ (p ∷ [], cs) → word ≡ lock_word place → found ≡ 0 → TakesLock kept may follows (step slots word 0 mark none) me found me1
@@ -63,7 +63,7 @@ module _ {R E : Type 0} (kept : R → List E) (may : ℕ → Opt ℕ → E → T
   pub see_allowed : (slots id : ℕ) (p : P) (cs : Cs) (me : SeatView R E) (place word : ℕ) → me ≡ (p ∷ [], cs) → word ≡ lock_word place → Allows Rule slots id me word (λ z. z) (SeesLock (step slots word 0 0 none) me)
   see_allowed slots id p cs me place word is up =
       subst (λ (z : SeatView R E × ℕ). Allows Rule slots id z.0 z.1 (λ y. y) (SeesLock (step slots z.1 0 0 none) z.0)) (λ i. (sym is i, sym up i))
-      (sees_lock kept may follows settles on itself setup slots id p cs place)
+      (sees_lock kept may follows settles lawful leans on itself setup slots id p cs place)
 
   -- what a load of the lock word saw
   pub saw_it : (slots word found : ℕ) (me me1 : SeatView R E) → SeesLock (step slots word 0 0 none) me found me1 → MatchBool (eqb found 0) (me1 ≡ me) (me1 ≡ (map missed me.0, me.1))
@@ -85,7 +85,7 @@ module _ {R E : Type 0} (kept : R → List E) (may : ℕ → Opt ℕ → E → T
   park_allowed_at slots id p cs me place word r is up low inside =
       let here = some_at p.places place inside in
       subst (λ (z : SeatView R E × ℕ × ℕ). Allows Rule slots id z.0 z.1 (λ y. y) (ParksSlotAt z.2 z.0)) (λ i. (sym is i, sym up i, sym (place_back word place up) i))
-      (parks kept may follows settles on itself setup slots id (took kept place r Carried p) cs place low (place_view (kept r) r Carried, modify_here p.places place (λ t. place_view (kept r) r Carried) here.0 here.1, refl))
+      (parks kept may follows settles lawful leans on itself setup slots id (took kept place r Carried p) cs place low (place_view (kept r) r Carried, modify_here p.places place (λ t. place_view (kept r) r Carried) here.0 here.1, refl))
 
   pub park_allowed : (slots id : ℕ) (carried : Opt ℕ) (me : SeatView R E) (place word : ℕ) (r : R) → JustTook kept carried place r me → word ≡ lock_word place → place < slots
       → Allows Rule slots id me word (λ z. z) (ParksSlot (step slots word 0 0 none) me)
@@ -115,12 +115,18 @@ module _ {R E : Type 0} (kept : R → List E) (may : ℕ → Opt ℕ → E → T
   hold_at : (place : Opt ℕ) (places : List (PlaceView R E)) → IsHoldingAt place places → (n : ℕ) → is_at n place ≡ true → IsHolding n places
   hold_at place places h n there = subst (λ (z : Opt ℕ). IsHoldingAt z places) (is_at_some n place there) h
 
+  lawful_by : (place : Opt ℕ) (event : E) (places : List (PlaceView R E)) → MayStand lawful leans settles place event places → (n : ℕ) → is_at n place ≡ true → lawful (seen_at n places ++ event ∷ [])
+  lawful_by place event places h n there = subst (λ (z : Opt ℕ). MayStand lawful leans settles z event places) (is_at_some n place there) h
+
+  leans_by : (place : Opt ℕ) (event : E) (places : List (PlaceView R E)) → MayStand lawful leans settles place event places → place ≡ None → (n : ℕ) → leans event ≡ Some n → settled settles (seen_at n places) ≡ true
+  leans_by place event places h absent = subst (λ (z : Opt ℕ). MayStand lawful leans settles z event places) absent h
+
   pub draw_allowed : (slots id : ℕ) (p : P) (cs : Cs) (me : SeatView R E) (place : Opt ℕ) (event : E) (drawn : Opt (Opt ℕ × E)) → me ≡ (p ∷ [], cs) → drawn ≡ Some (place, event)
-      → may p.pass place event → length p.journal < 2 ^ 58 → IsHoldingAt place p.places
+      → may p.pass place event → length p.journal < 2 ^ 58 → IsHoldingAt place p.places → MayStand lawful leans settles place event p.places
       → Allows Rule slots id me 0 (λ z. (z + 1) % 2 ^ 64) (DrawsWhatIsSaid drawn (step slots 0 1 0 none) me)
-  draw_allowed slots id p cs me place event drawn is said may_draw room has =
+  draw_allowed slots id p cs me place event drawn is said may_draw room has stands =
       subst (λ (z : SeatView R E × Opt (Opt ℕ × E)). Allows Rule slots id z.0 0 (λ y. (y + 1) % 2 ^ 64) (DrawsWhatIsSaid z.1 (step slots 0 1 0 none) z.0)) (λ i. (sym is i, sym said i))
-      (draws kept may follows settles on itself setup slots id p cs place event may_draw room (hold_at place p.places has))
+      (draws kept may follows settles lawful leans on itself setup slots id p cs place event may_draw room (hold_at place p.places has) (lawful_by place event p.places stands) (leans_by place event p.places stands))
 
   -- what a step on the stamp word tells is what the caller said
   pub drew_said : (place : Opt ℕ) (event : E) (drawn : Opt (Opt ℕ × E)) (st : Step (Opt R)) (me : SeatView R E) (found : ℕ) (me1 : SeatView R E) → drawn ≡ Some (place, event) → DrawsWhatIsSaid drawn st me found me1 → DrawsStamp place event st me found me1
@@ -137,7 +143,7 @@ module _ {R E : Type 0} (kept : R → List E) (may : ℕ → Opt ℕ → E → T
       let apart_from = (has.is_carried place has.place has.there).0 in
       let held = at_home has.place.custody has.out (λ c. not_true (is_at place carried) not (apart_from c)) in
       subst (λ (z : SeatView R E × ℕ × ℕ). Allows Rule slots id z.0 z.1 (λ y. y) (FetchesSlotAt z.2 z.0)) (λ i. (sym has.is i, sym up i, sym (place_back word place up) i))
-      (fetches kept may follows settles on itself setup slots id has.pass (slots_of carried) place low (has.place, has.there, held))
+      (fetches kept may follows settles lawful leans on itself setup slots id has.pass (slots_of carried) place low (has.place, has.there, held))
 
   -- the empty slot of the place has come to the seat
   pub fetched : (slots : ℕ) (carried : Opt ℕ) (me : SeatView R E) (place word found : ℕ) (me1 : SeatView R E) → HasOut carried place me → is_at place carried ≡ false → word ≡ lock_word place → FetchesSlot (step slots word 0 0 none) me found me1
@@ -161,7 +167,7 @@ module _ {R E : Type 0} (kept : R → List E) (may : ℕ → Opt ℕ → E → T
       let p : P = has.pass in
       let whole : me1 ≡ (in_custody place Carried p ∷ [], (place, Some r) ∷ cs) = is ∙ ap (λ (z : SeatView R E). (map (in_custody place Carried) z.0, (place, Some r) ∷ cs)) has.is in
       subst (λ (z : SeatView R E × ℕ × ℕ). Allows Rule slots id z.0 z.1 (λ _. 0) (λ _. FreesLockAt z.2 z.0 0)) (λ i. (sym whole i, sym up i, sym (place_back word place up) i))
-      (frees kept may follows settles on itself setup slots id (in_custody place Carried p) cs place r low (restage Carried has.place) (modify_here p.places place (restage Carried) has.place has.there) refl may_return.keeps may_return.follows_last)
+      (frees kept may follows settles lawful leans on itself setup slots id (in_custody place Carried p) cs place r low (restage Carried has.place) (modify_here p.places place (restage Carried) has.place has.there) refl may_return.keeps may_return.follows_last)
 
   pub freed : (slots : ℕ) (carried : Opt ℕ) (cs : Cs) (me me1 : SeatView R E) (place word : ℕ) (r : R) (me2 : SeatView R E) → HasOut carried place me → me1 ≡ (map (in_custody place Carried) me.0, (place, Some r) ∷ cs) → word ≡ lock_word place
       → FreesLock (step slots word 0 0 none) me1 0 me2 → me2 ≡ (map (released place r) me.0, cs)

@@ -15,12 +15,12 @@ use Rattle.init_lock.specs.declared.views.PlaceView.{PlaceView}
 use Rattle.init_lock.specs.declared.views.Custody.{Custody}
 use Rattle.init_lock.specs.declared.views.Custody.TheVariants.{Away, Carried, Held}
 use Rattle.init_lock.specs.declared.journal.Stamped.{Stamped}
-use Rattle.init_lock.specs.Log.{Entry, is_at, IsPlace, events_at, journal_of, own_events, AreBelow, AllAllowed, Grew, IsWithin, stamped, settled}
+use Rattle.init_lock.specs.Log.{Entry, is_at, IsPlace, events_at, journal_of, own_events, AreBelow, AllAllowed, Grew, IsWithin, AllBacked, stamped, settled}
 use Rattle.init_lock.specs.Rule.{lock_word, done_word, element_at, place_view, FollowedBy, Knows, Fits, RuleHolds, AllSeen}
 use Rattle.init_lock.specs.Known.{look, seen_at, out_by}
 use Rattle.init_lock.specs.Steps.{restage, in_custody, took, missed, leave, released, extend, drew, Found, TakesLockAt, SeesLock, ParksSlotAt, FetchesSlotAt, FreesLockAt, DrawsStamp}
 use Rattle.init_lock.proofs.Lists.{length_snoc, low_index, said_is, length-modify, modified, unmodified, some_at, at_low}
-use Rattle.init_lock.proofs.Logs.{bool_cases, events-append, settled-append, none-append, allowed-append, allowed_after, by_others, own_within, below, short}
+use Rattle.init_lock.proofs.Logs.{bool_cases, events-append, settled-append, none-append, allowed-append, allowed_after, backed-append, is_backed, by_others, own_within, below, short}
 use Rattle.init_lock.proofs.Entries.{events_off, events_on, journal_off, journal_on, seen_on, seen_is, last_is, out_is, drawn_at, length-drawn}
 use Rattle.init_lock.proofs.Places.{IsHolding}
 use Rattle.init_lock.proofs.Spread.{others_keep, still_alone}
@@ -36,7 +36,7 @@ bool_apart : (b : Bool) → b ≡ true → b ≡ false → ⊥
 bool_apart true p q = cc
 bool_apart false p q = cc
 
-module _ {R E : Type 0} (kept : R → List E) (may : ℕ → Opt ℕ → E → Type 0) (follows : R → R → Type 0) (settles : E → Bool) (on : (x y z : R) → follows x y → follows y z → follows x z) (itself : (x : R) → follows x x) (setup : Setup R) where
+module _ {R E : Type 0} (kept : R → List E) (may : ℕ → Opt ℕ → E → Type 0) (follows : R → R → Type 0) (settles : E → Bool) (lawful : List E → Type 0) (leans : E → Opt ℕ) (on : (x y z : R) → follows x y → follows y z → follows x z) (itself : (x : R) → follows x x) (setup : Setup R) where
   abbrev P : Type 0
   P = PassView R E
 
@@ -44,7 +44,7 @@ module _ {R E : Type 0} (kept : R → List E) (may : ℕ → Opt ℕ → E → T
   St = State (Opt R) (List P)
 
   abbrev Rule : St → Type 0
-  Rule = RuleHolds kept may follows settles setup
+  Rule = RuleHolds kept may follows settles lawful leans setup
 
   abbrev K : Custody → ℕ → Option (Option (Opt R)) → List (Entry E) → Opt R → ℕ → ℕ → PlaceView R E → Type 0
   K = Knows kept may follows
@@ -126,17 +126,19 @@ module _ {R E : Type 0} (kept : R → List E) (may : ℕ → Opt ℕ → E → T
       } in record {
         log = r.log;
         now = now;
-        wide = length-set s.words (lock_word n) x ∙ wide ∙ ap (λ (z : ℕ). z * 8 + 8) (sym same_homes);
+        wide = length-set s.words (lock_word n) x ∙ wide ∙ ap (λ (z : ℕ). z * 9 + 8) (sym same_homes);
         few = r.few;
         counted = get_or-set_other s.words (lock_word n) 0 x 0 (λ e. omega arith) ∙ r.counted;
         allowed = subst (λ (z : ℕ). AllAllowed setup.threads z may r.log) (sym same_homes) r.allowed;
+        lawful_at = r.lawful_at;
+        backed = r.backed;
         bounded = r.bounded;
         alone = still_alone s.views id p w at_id same_pass r.alone;
         each = others_keep Old New s.views id p w at_id r.alone keep w_fits r.each;
         taken = λ m l. dite (ℕ_discrete m n)
             (λ is_n. let low = my.below in let e : get_or (set s.words (lock_word n) x) (lock_word m) 0 ≡ x = ap (λ (z : ℕ). get_or (set s.words (lock_word n) x) (lock_word z) 0) is_n ∙ here in ⊎_elim (λ z. omega arith) (λ z. omega arith) is)
             (λ not_n. let e = there m not_n in let b = r.taken m (omega arith) in omega arith);
-        done = λ m l busy. r.done m (omega arith) (λ zero. busy (get_or-set_other s.words (lock_word n) (done_word m) x 0 (λ e. omega arith) ∙ zero));
+        done = λ m l busy. r.done m (omega arith) (λ zero. busy (get_or-set_other s.words (lock_word n) (done_word (length homes) m) x 0 (λ e. omega arith) ∙ (ap (λ (z : ℕ). get_or s.words (done_word z m) 0) same_homes ∙ zero)));
         free = λ m l zero. dite (ℕ_discrete m n)
             (λ is_n. let e : get_or (set s.words (lock_word n) x) (lock_word m) 0 ≡ x = ap (λ (z : ℕ). get_or (set s.words (lock_word n) x) (lock_word z) 0) is_n ∙ here in
             let h = home (sym e ∙ zero) in
@@ -204,6 +206,8 @@ module _ {R E : Type 0} (kept : R → List E) (may : ℕ → Opt ℕ → E → T
         few = r.few;
         counted = r.counted;
         allowed = r.allowed;
+        lawful_at = r.lawful_at;
+        backed = r.backed;
         bounded = r.bounded;
         alone = still_alone s.views id p (missed p) at_id refl r.alone;
         each = others_keep Old Old s.views id p (missed p) at_id r.alone (λ q apart o. o) (record { below = my.below; drawn = my.drawn; places = my.places; wide = my.wide; began = my.began; looks = my.looks }) r.each;
@@ -358,9 +362,10 @@ module _ {R E : Type 0} (kept : R → List E) (may : ℕ → Opt ℕ → E → T
   -- the rule after an event is drawn
   drawn_rule : (s : St) (r : Rule s) (id : ℕ) (p : P) (place : Opt ℕ) (event : E) (x : ℕ) → get_elem? s.views id ≡ some (p ∷ []) → x ≡ suc (length r.log)
       → AllAllowed setup.threads (length s.homes) may (r.log ++ entry p.pass place event ∷ []) → ((by : ℕ) → length (journal_of by 0 (r.log ++ entry p.pass place event ∷ [])) ≤ 2 ^ 58)
+      → ((n : ℕ) → lawful (events_at n (r.log ++ entry p.pass place event ∷ []))) → AllBacked leans settles [] (r.log ++ entry p.pass place event ∷ [])
       → ((n : ℕ) → is_at n place ≡ true → HasRecord p n)
       → Rule record { words = set s.words 0 x; homes = s.homes; views = set s.views id (drew place event (length r.log) p ∷ []) }
-  drawn_rule s r id p place event x at_id up allowed bounded has =
+  drawn_rule s r id p place event x at_id up allowed bounded lawful_now backed has =
       let wide = r.wide in
       let e : Entry E = entry p.pass place event in
       let w : P = drew place event (length r.log) p in
@@ -397,19 +402,59 @@ module _ {R E : Type 0} (kept : R → List E) (may : ℕ → Opt ℕ → E → T
         few = r.few;
         counted = get_or-set_same s.words 0 x 0 (omega arith) ∙ up ∙ sym (length_snoc r.log e);
         allowed = allowed;
+        lawful_at = lawful_now;
+        backed = backed;
         bounded = bounded;
         alone = still_alone s.views id p w at_id refl r.alone;
         each = others_keep Old New s.views id p w at_id r.alone keep w_fits r.each;
         taken = λ m l. let a = there m in let b = r.taken m l in omega arith;
-        done = λ m l busy. ap (settled settles) (events-append m r.log (e ∷ [])) ∙ settled-append settles (events_at m r.log) (events_at m (e ∷ [])) (r.done m l (λ zero. busy (get_or-set_other s.words 0 (done_word m) x 0 (λ e. omega arith) ∙ zero)));
+        done = λ m l busy. ap (settled settles) (events-append m r.log (e ∷ [])) ∙ settled-append settles (events_at m r.log) (events_at m (e ∷ [])) (r.done m l (λ zero. busy (get_or-set_other s.words 0 (done_word (length s.homes) m) x 0 (λ e. omega arith) ∙ zero)));
         free = λ m l zero. let a = there m in let b = r.free m l (sym a ∙ zero) in
             record { record_now = b.record_now; is_now = b.is_now; home = b.home; keeps = b.keeps ∙ sym (events_off m e r.log (⊎_elim (λ there_is. let c = have m there_is in absurd (omega arith)) (λ not. not) (bool_cases (is_at m place)))) };
       }
 
+  -- what a pass knows of a place is a beginning of what is there
+  pub known_front : (st : Custody) (wd : ℕ) (home : Option (Option (Opt R))) (log : List (Entry E)) (now : Opt R) (q n : ℕ) (t : PlaceView R E) → K st wd home log now q n t → (more : List E) × (events_at n log ≡ t.seen ++ more)
+  known_front Away wd home log now q n t h = let saw = h.1 in (events_at n saw.after, ap (events_at n) saw.parts ∙ (events-append n saw.before saw.after ∙ ap (λ (z : List E). z ++ events_at n saw.after) (sym saw.all)))
+  known_front Carried wd home log now q n t h = ([], sym h.1 ∙ sym (append-nil t.seen))
+  known_front Held wd home log now q n t h = ([], sym h.1 ∙ sym (append-nil t.seen))
+
+  -- and all of it, where the pass has the record
+  pub known_all : (st : Custody) (wd : ℕ) (home : Option (Option (Opt R))) (log : List (Entry E)) (now : Opt R) (q n : ℕ) (t : PlaceView R E) → st ≢ Away → K st wd home log now q n t → t.seen ≡ events_at n log
+  known_all Away wd home log now q n t out h = absurd (out refl)
+  known_all Carried wd home log now q n t out h = h.1
+  known_all Held wd home log now q n t out h = h.1
+
+  -- a list with an event that settles is of a place that the pass knows
+  seen_there : (ts : List (PlaceView R E)) (n : ℕ) → settled settles (seen_at n ts) ≡ true → (t : PlaceView R E) × (get_elem? ts n ≡ some t)
+  seen_there [] n e = cc
+  seen_there (t ∷ ts) Prim.Native.Nat.zero e = (t, refl)
+  seen_there (t ∷ ts) (suc n) e = seen_there ts n e
+
+  -- a place that the pass knows as settled is settled
+  still_settled : (s : St) (r : Rule s) (id : ℕ) (p : P) (n : ℕ) → get_elem? s.views id ≡ some (p ∷ []) → settled settles (seen_at n p.places) ≡ true → settled settles (events_at n r.log) ≡ true
+  still_settled s r id p n at_id done =
+      let my = (r.each id (p ∷ []) at_id).0 in
+      let there = seen_there p.places n done in
+      let t : PlaceView R E = there.0 in
+      let f = known_front t.custody (word s n) (get_elem? s.homes n) r.log (r.now n) p.pass n t (my.places n t there.1) in
+      ap (settled settles) f.1 ∙ settled-append settles t.seen f.0 (ap (settled settles) (sym (seen_is p.places n t there.1)) ∙ done)
+
+  -- the list at each place is lawful with the event too
+  lawful_on : (s : St) (r : Rule s) (id : ℕ) (p : P) (e : Entry E) → get_elem? s.views id ≡ some (p ∷ []) → ((n : ℕ) → is_at n e.place ≡ true → HasRecord p n) → ((n : ℕ) → is_at n e.place ≡ true → lawful (seen_at n p.places ++ e.event ∷ [])) → (n : ℕ) → lawful (events_at n (r.log ++ e ∷ []))
+  lawful_on s r id p e at_id has stays_lawful n = ⊎_elim
+      (λ there_is. let h = has n there_is in
+      let t : PlaceView R E = h.0 in
+      let all = known_all t.custody (word s n) (get_elem? s.homes n) r.log (r.now n) p.pass n t h.2 ((r.each id (p ∷ []) at_id).0.places n t h.1) in
+      subst lawful (ap (λ (z : List E). z ++ e.event ∷ []) (seen_is p.places n t h.1 ∙ all) ∙ sym (events_on n e r.log there_is)) (stays_lawful n there_is))
+      (λ not. subst lawful (sym (events_off n e r.log not)) (r.lawful_at n))
+      (bool_cases (is_at n e.place))
+
   -- a stamp is drawn
   pub draws : (slots id : ℕ) (p : P) (cs : Cs) (place : Opt ℕ) (event : E) → may p.pass place event → length p.journal < 2 ^ 58 → ((n : ℕ) → is_at n place ≡ true → HasRecord p n)
+      → ((n : ℕ) → is_at n place ≡ true → lawful (seen_at n p.places ++ event ∷ [])) → (place ≡ None → (n : ℕ) → leans event ≡ Some n → settled settles (seen_at n p.places) ≡ true)
       → Allows Rule slots id (p ∷ [], cs) 0 (λ z. (z + 1) % 2 ^ 64) (DrawsStamp place event (step slots 0 1 0 none) (p ∷ [], cs))
-  draws slots id p cs place event may_draw room has s r wide at_id _ =
+  draws slots id p cs place event may_draw room has stays_lawful leaning s r wide at_id _ =
       let my = (r.each id (p ∷ []) at_id).0 in
       let e : Entry E = entry p.pass place event in
       let found : ℕ = get_or s.words 0 0 in
@@ -419,11 +464,13 @@ module _ {R E : Type 0} (kept : R → List E) (may : ℕ → Opt ℕ → E → T
       let most = short setup.threads (length s.homes) may (r.log ++ e ∷ []) r.few allowed bounded in
       let one_more = length_snoc r.log e in
       let at_found : 0 + length r.log ≡ found = omega arith in
+      let lawful_now = lawful_on s r id p e at_id has stays_lawful in
+      let backed = backed-append leans settles [] r.log e r.backed (is_backed leans settles r.log place event (λ absent n it. still_settled s r id p n at_id (leaning absent n it))) in
       let up : (found + 1) % 2 ^ 64 ≡ suc (length r.log) = mod-eq_of_lt (omega arith) ∙ (omega arith) in (
         drew place event found p ∷ [],
         keeps,
         tt,
         subst (λ (z : ℕ). Rule record { words = set s.words 0 ((found + 1) % 2 ^ 64); homes = s.homes; views = set s.views id (drew place event z p ∷ []) }) (sym c)
-            (drawn_rule s r id p place event ((found + 1) % 2 ^ 64) at_id up allowed bounded has),
+            (drawn_rule s r id p place event ((found + 1) % 2 ^ 64) at_id up allowed bounded lawful_now backed has),
         (refl, omega arith, (subst (λ (z : ℕ × List (Stamped E)). AreBelow z.0 z.1) (λ i. (at_found i, sym my.drawn i)) (below p.pass 0 r.log), tt)),
       )

@@ -4,5 +4,7 @@ pub mod Steps
 pub mod Known
 pub mod Taken
 pub mod Drawn
+pub mod Settled
 pub mod Closing
 pub mod Merging
+pub mod Packing

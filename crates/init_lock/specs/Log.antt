@@ -56,6 +56,16 @@ module _ {E : Type 0} where
   AllAllowed threads places may [] = Unit {0}
   AllAllowed threads places may (e ∷ es) = (e.by < threads) × IsPlace places e.place × may e.by e.place e.event × AllAllowed threads places may es
 
+  -- an event at no place that leans on a place comes after one that settled it
+  abbrev pub IsBacked : (E → Option ℕ) → (E → Bool) → List (Entry E) → Option ℕ → E → Type 0
+  IsBacked leans settles before (Some n) event = Unit {0}
+  IsBacked leans settles before None event = (n : ℕ) → leans event ≡ Some n → settled settles (events_at n before) ≡ true
+
+  -- so does each of these entries, which come after those before
+  abbrev pub AllBacked : (E → Option ℕ) → (E → Bool) → List (Entry E) → List (Entry E) → Type 0
+  AllBacked leans settles before [] = Unit {0}
+  AllBacked leans settles before (e ∷ es) = IsBacked leans settles before e.place e.event × AllBacked leans settles (before ++ e ∷ []) es
+
   -- each event is one that some other pass than this may draw at the place n
   abbrev pub ByOthers : (ℕ → Option ℕ → E → Type 0) → ℕ → ℕ → List E → Type 0
   ByOthers may by n [] = Unit {0}

@@ -1,6 +1,7 @@
 -- The lock's rule: what holds of the table's words, of the records in their slots and of what all passes know, between any two atomic steps.
 -- Word 0 is the next stamp. The lock word of a place is 0 while its record is free, and p + 1 while the pass p has it.
--- The done word of a place is kept for what will say that the place is settled. Eight words fill a cache line, and each place has a line of its own.
+-- The done word of a place is 0 until one of the events there settles it.
+-- Eight words fill a cache line. The stamp word has a line of its own, and so has each lock word. The done words lie packed after the last of these lines.
 use Rattle.std.specs.Prelude.{◌≡◌, ◌≢◌, ℕ, suc, ◌+◌, ◌-◌, ◌*◌, ◌/◌, ◌^◌, ◌<◌, ◌≤◌, List, [], ◌∷◌, ◌++◌, Bool, true, eqb, cond, Option as Opt, Some, None, map, length, slice_index}
 use mathlib.Core.Option.{Option, some}
 use lib.ListN.{get_elem?}
@@ -12,17 +13,22 @@ use Rattle.init_lock.specs.declared.views.PlaceView.{PlaceView}
 use Rattle.init_lock.specs.declared.views.Custody.{Custody}
 use Rattle.init_lock.specs.declared.views.Custody.TheVariants.{Away, Carried, Held}
 use Rattle.init_lock.specs.declared.journal.Stamped.{Stamped}
-use Rattle.init_lock.specs.Log.{Entry, events_at, journal_of, NoneBy, AllAllowed, settled}
+use Rattle.init_lock.specs.Log.{Entry, events_at, journal_of, NoneBy, AllAllowed, AllBacked, settled}
 
 abbrev pub lock_word : ℕ → ℕ
 lock_word n = n * 8 + 8
 
-abbrev pub done_word : ℕ → ℕ
-done_word n = n * 8 + 9
+-- in a table of so many places
+abbrev pub done_word : ℕ → ℕ → ℕ
+done_word places n = places * 8 + 8 + n
 
 -- the place whose lock word this is
 abbrev pub place_of_word : ℕ → ℕ
 place_of_word word = (word - 8) / 8
+
+-- the place whose done word this is, in a table of so many places
+abbrev pub place_of_done : ℕ → ℕ → ℕ
+place_of_done places word = word - (places * 8 + 8)
 
 -- the element of a list at a place, if there is one
 abbrev pub element_at : {A : Type 0} → ℕ → List A → Opt A
@@ -112,16 +118,18 @@ module _ {R E : Type 0} where
       pub keeps : kept record_now ≡ events_at n log
 
     -- The rule. The log has the events of all passes, and its length is the stamp word. A lock word other than 0 names one pass, and each pass has at most one view.
-    pub record RuleHolds (settles : E → Bool) (setup : Setup R) (s : State (Opt R) (List (PassView R E))) : Type 0 where
+    pub record RuleHolds (settles : E → Bool) (lawful : List E → Type 0) (leans : E → Opt ℕ) (setup : Setup R) (s : State (Opt R) (List (PassView R E))) : Type 0 where
       pub log : List (Entry E)
       pub now : ℕ → Opt R
-      pub wide : length s.words ≡ length s.homes * 8 + 8
+      pub wide : length s.words ≡ length s.homes * 9 + 8
       pub few : setup.threads ≤ 16
       pub counted : slice_index s.words 0 ≡ length log
       pub allowed : AllAllowed setup.threads (length s.homes) may log
+      pub lawful_at : (n : ℕ) → lawful (events_at n log)
+      pub backed : AllBacked leans settles [] log
       pub bounded : (by : ℕ) → length (journal_of by 0 log) ≤ 2 ^ 58
       pub alone : (by : ℕ) → total (count_of by) s.views ≤ 1
       pub each : (i : ℕ) (v : List (PassView R E)) → get_elem? s.views i ≡ some v → Each (Fits setup.threads s.words s.homes log now) v
       pub taken : (n : ℕ) → n < length s.homes → slice_index s.words (lock_word n) ≤ setup.threads
       pub free : (n : ℕ) → n < length s.homes → slice_index s.words (lock_word n) ≡ 0 → AtHome s.homes log (now n) n
-      pub done : (n : ℕ) → n < length s.homes → slice_index s.words (done_word n) ≢ 0 → settled settles (events_at n log) ≡ true
+      pub done : (n : ℕ) → n < length s.homes → slice_index s.words (done_word (length s.homes) n) ≢ 0 → settled settles (events_at n log) ≡ true

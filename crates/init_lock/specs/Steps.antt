@@ -1,5 +1,5 @@
 -- What each atomic step tells the pass that makes it.
-use Rattle.std.specs.Prelude.{◌≡◌, ◌≢◌, ℕ, suc, ◌+◌, ◌*◌, ◌^◌, ◌<◌, ◌≤◌, List, [], ◌∷◌, ◌++◌, cond, true, Option as Opt, Some, None, map, length}
+use Rattle.std.specs.Prelude.{◌≡◌, ◌≢◌, ℕ, suc, ◌+◌, ◌*◌, ◌^◌, ◌<◌, ◌≤◌, List, [], ◌∷◌, ◌++◌, Bool, cond, true, Option as Opt, Some, None, map, length}
 use mathlib.Core.Option.{some}
 use lib.ListN.{get_elem?}
 use Rattle.atomic_table.specs.Seated.{TableId}
@@ -9,8 +9,8 @@ use Rattle.init_lock.specs.declared.views.PlaceView.{PlaceView}
 use Rattle.init_lock.specs.declared.views.Custody.{Custody}
 use Rattle.init_lock.specs.declared.views.Custody.TheVariants.{Away, Carried, Held}
 use Rattle.init_lock.specs.declared.journal.Stamped.{Stamped}
-use Rattle.init_lock.specs.Log.{is_at, IsPlace, Grew, IsWithin, own_events, AreBelow, stamped}
-use Rattle.init_lock.specs.Rule.{place_view, pass_view, Each, element_at, place_of_word}
+use Rattle.init_lock.specs.Log.{is_at, IsPlace, Grew, IsWithin, own_events, AreBelow, stamped, settled}
+use Rattle.init_lock.specs.Rule.{place_view, pass_view, Each, element_at, place_of_word, place_of_done}
 use Rattle.init_lock.specs.Known.{look, seen_at, out_of, last_at, places_of, misses_of, looks_of, opening_of}
 
 abbrev pub modify : {A : Type 0} → ℕ → (A → A) → List A → List A
@@ -18,9 +18,9 @@ modify n f [] = []
 modify Prim.Native.Nat.zero f (x ∷ xs) = f x ∷ xs
 modify (suc n) f (x ∷ xs) = x ∷ modify n f xs
 
--- a place of a table of fewer than 2 ^ 58 places, with a slot and eight words for each, and eight words for the stamps
+-- a place of a table of fewer than 2 ^ 58 places, with a slot for each, eight words for the lock of each and one that says that it is done, and eight words for the stamps
 abbrev pub IsInTable : ℕ → TableId → Type 0
-IsInTable n t = (n < t.slots) × (t.words ≡ t.slots * 8 + 8) × (t.slots < 2 ^ 58)
+IsInTable n t = (n < t.slots) × (t.words ≡ t.slots * 9 + 8) × (t.slots < 2 ^ 58)
 
 -- the place whose slot a seat carries once that of the place n has gone home
 abbrev pub without : ℕ → Opt ℕ → Opt ℕ
@@ -64,6 +64,13 @@ module _ {R E : Type 0} where
   abbrev pub released : ℕ → R → PassView R E → PassView R E
   released n r p = pass_view p.pass p.misses p.journal (look n (length p.journal) (seen_at n p.places) ∷ p.looks) p.opening (modify n (leave r) p.places)
 
+  abbrev pub learn : List E → PlaceView R E → PlaceView R E
+  learn seen t = place_view seen t.last t.custody
+
+  -- the pass has seen this list at the place, and a look is noted
+  abbrev pub saw : ℕ → List E → PassView R E → PassView R E
+  saw n seen p = pass_view p.pass p.misses p.journal (look n (length p.journal) seen ∷ p.looks) p.opening (modify n (learn seen) p.places)
+
   abbrev pub extend : E → PlaceView R E → PlaceView R E
   extend event t = place_view (t.seen ++ event ∷ []) t.last t.custody
 
@@ -92,6 +99,29 @@ module _ {R E : Type 0} where
 
     abbrev pub TakesLock : Step (Opt R) → SeatView R E → ℕ → SeatView R E → Type 0
     TakesLock s v found w = TakesLockAt (place_of_word s.word) v found w
+
+  module _ (may : ℕ → Opt ℕ → E → Type 0) (settles : E → Bool) (lawful : List E → Type 0) where
+    -- what a pass finds at a settled place that it sees without the lock
+    pub record Learned (n : ℕ) (seen : List E) (p : PassView R E) : Type 0 where
+      pub inside : n < length p.places
+      pub grew : Grew may p.pass n (seen_at n p.places) seen
+      pub settled_now : settled settles seen ≡ true
+      pub lawful_now : lawful seen
+
+    -- the list that the pass has seen since, of a settled place
+    abbrev pub LearnsAt : ℕ → SeatView R E → SeatView R E → Type 0
+    LearnsAt n v w = (seen : List E) × (w ≡ (map (saw n seen) v.0, v.1)) × Each (Learned n seen) v.0
+
+    -- the done word is read
+    abbrev pub SeesDoneAt : ℕ → SeatView R E → ℕ → SeatView R E → Type 0
+    SeesDoneAt n v found w = (found ≡ 0 → w ≡ v) × (found ≢ 0 → LearnsAt n v w)
+
+    abbrev pub SeesDone : Step (Opt R) → SeatView R E → ℕ → SeatView R E → Type 0
+    SeesDone s v found w = SeesDoneAt (place_of_done s.slots s.word) v found w
+
+  -- the done word is set
+  abbrev pub SetsDone : Step (Opt R) → SeatView R E → ℕ → SeatView R E → Type 0
+  SetsDone s v found w = w ≡ v
 
   -- the lock word is read
   abbrev pub SeesLock : Step (Opt R) → SeatView R E → ℕ → SeatView R E → Type 0
@@ -161,6 +191,11 @@ module _ {R E : Type 0} where
     pub keeps : kept r ≡ has.place.seen
     pub follows_last : follows has.place.last r
 
+  -- the pass has the record of the place, at which an event settles it
+  pub record HasSettled (settles : E → Bool) (carried : Opt ℕ) (n : ℕ) (me : SeatView R E) : Type 0 where
+    pub has : HasOut carried n me
+    pub settled_now : settled settles has.place.seen ≡ true
+
   -- what is true of each pass between two calls: its seat has its one view and carries this slot, its journal leaves the stamps below 2 ^ 62, and it knows of each place of the table
   pub record PassHolds (slots number : ℕ) (carried : Opt ℕ) (journal : List (Stamped E)) (room : ℕ) (me : SeatView R E) : Type 0 where
     pub tied : me ≡ (view_of number journal me.0, slots_of carried)
@@ -182,3 +217,8 @@ module _ {R E : Type 0} where
   abbrev pub IsOutAt : Opt ℕ → List (PlaceView R E) → Type 0
   IsOutAt None places = Unit {0}
   IsOutAt (Some n) places = (r : R) × (out_of n places ≡ Some r)
+
+  -- an event may come after what the pass knows: at a place the list stays lawful, and without one the place that it leans on is settled
+  abbrev pub MayStand : (List E → Type 0) → (E → Opt ℕ) → (E → Bool) → Opt ℕ → E → List (PlaceView R E) → Type 0
+  MayStand lawful leans settles None event places = (n : ℕ) → leans event ≡ Some n → settled settles (seen_at n places) ≡ true
+  MayStand lawful leans settles (Some n) event places = lawful (seen_at n places ++ event ∷ [])

@@ -1,17 +1,17 @@
 //! How a table ends: its records and the journals of all passes.
-ghost use Rattle.std.specs.Prelude.{◌≡◌, ℕ, ◌<◌, ◌≤◌, List, [], map, vec_len, vec_capacity, Option, Some, IsSome, slice_index_or, false};
+ghost use Rattle.std.specs.Prelude.{◌≡◌, ℕ, ◌<◌, ◌≤◌, List, [], map, vec_len, vec_capacity, Some, IsSome, slice_index_or, false};
 ghost use Rattle.std.specs.List.{AllByRecursion};
 ghost use Rattle.std.specs.List.Sorted.{IsPermutation};
 ghost use Rattle.std.specs.Mem.Slots.{slots_items, slots_filled, slots_len, IsFull};
-ghost use Rattle.init_lock.specs.Log.{Entry, AllAllowed};
+ghost use Rattle.init_lock.specs.Log.{Entry, AllAllowed, AllBacked};
 ghost use Rattle.init_lock.specs.Known.{IsAway, view_of_pass};
-ghost use Rattle.init_lock.specs.Closing.{numbers, written, HasJournals, HasLooks, HasRecords, FollowsAll};
+ghost use Rattle.init_lock.specs.Closing.{numbers, written, HasJournals, HasLooks, HasSettledFirst, HasRecords, FollowsAll};
 
-use crate::block::Block;
 use crate::journal::Journal;
 use crate::keeps::Keeps;
 use crate::pass::Pass;
 use crate::rule::{LockRule, OnePass, View};
+use crate::slot::Slot;
 use crate::table::InitTable;
 use crate::views::Setup;
 use atomic_table::{Closed as Unlocked, Seat, Shared};
@@ -23,7 +23,7 @@ pub struct Closed<R: Keeps> {
     /// The records, by their places.
     pub records: Vec<R>,
     /// The journals, one a pass.
-    pub journals: Vec<Journal<R::Event>>,
+    pub journals: Vec<Journal<R>>,
 }
 
 impl<R: Keeps> InitTable<R> {
@@ -31,15 +31,17 @@ impl<R: Keeps> InitTable<R> {
     ///
     /// There was one log of all events, in which the stamp of an event is its index. The journal of each pass has that
     /// pass's entries of the log, each event one that the pass may draw at its place. What a pass had seen when it took
-    /// or gave back a record was in the log before every event that it drew afterwards. Each record keeps exactly the
-    /// events of its place, in the order of the log, and follows the record that the table began with.
+    /// or gave back a record, or saw a place done, was in the log before every event that it drew afterwards: once it
+    /// knew a place to be settled, each stamp that it drew is above that of an event that settles the place. An event at
+    /// no place that leans on a place is above such an event too. Each record keeps exactly the events of its place, in
+    /// the order of the log, and follows the record that the table began with.
     pub fn finish(self, passes: Vec<Pass<R>>) -> Closed<R>
         requires passes { IsPermutation (numbers 0 self.threads) (map (λ p. p.number) passes.items) }
         requires table { AllByRecursion (λ p. p.table ≡ self.id) passes.items }
         requires away { AllByRecursion (λ p. IsAway p.places) passes.items }
         ensures places { vec_len result.records ≡ self.places }
         ensures journals { result.journals.items ≡ map written passes.items }
-        ensures log { (log : List (Entry R.Event)) × AllAllowed self.threads self.places R.may_draw log × HasJournals log passes.items × HasLooks log passes.items × HasRecords R.kept log 0 result.records.items }
+        ensures log { (log : List (Entry R.Event)) × AllAllowed self.threads self.places R.may_draw log × HasJournals log passes.items × HasLooks log passes.items × HasRecords R.kept log 0 result.records.items × AllBacked R.leans_on R.settles [] log × HasSettledFirst R.settles log passes.items }
         ensures follows { AllByRecursion (FollowsAll R.follows result.records.items) passes.items }
     {
         let InitTable {
@@ -60,10 +62,10 @@ impl<R: Keeps> InitTable<R> {
 
 // One seat gets what all passes know, and their journals are moved out.
 fn gather<R: Keeps>(
-    shared: &Shared<Option<Block<R>>, View<R, R::Event>, Setup<R>, LockRule<R>>,
-    seat: &mut Seat<Option<Block<R>>, View<R, R::Event>>,
+    shared: &Shared<Slot<R>, View<R, R::Event>, Setup<R>, LockRule<R>>,
+    seat: &mut Seat<Slot<R>, View<R, R::Event>>,
     passes: Vec<Pass<R>>,
-    journals: &mut Vec<Journal<R::Event>>,
+    journals: &mut Vec<Journal<R>>,
 )
     requires table { (seat.old.table_id ≡ shared.now.table_id) × (0 < shared.now.table_id.words) × AllByRecursion (λ p. p.table ≡ shared.now.table_id) passes.items }
     requires away { AllByRecursion (λ p. IsAway p.places) passes.items }
@@ -87,11 +89,7 @@ fn gather<R: Keeps>(
 }
 
 // The record of each slot moves out.
-fn unload<R: Keeps>(
-    closed: &mut Unlocked<Option<Block<R>>, Global>,
-    places: usize,
-    records: &mut Vec<R>,
-)
+fn unload<R: Keeps>(closed: &mut Unlocked<Slot<R>, Global>, places: usize, records: &mut Vec<R>)
     requires full { IsFull closed.old.slots × (slots_len closed.old.slots ≡ places) }
     requires some { AllByRecursion (λ x. IsSome x) (slots_items closed.old.slots) }
     requires room { (vec_len records.old ≡ 0) × (places ≤ vec_capacity records.old) }
@@ -99,7 +97,7 @@ fn unload<R: Keeps>(
     ensures empty { (k : ℕ) → k < slots_len closed.new.slots → slice_index_or (slots_filled closed.new.slots) k false ≡ false }
 {
     for place in 0..places {
-        let Some(block) = closed.take(place) else {
+        let Some(block) = closed.take(place).into_block() else {
             unreachable!()
         };
         let pushed = records.push(block.into_record());

@@ -10,6 +10,7 @@ use crate::journal::Journal;
 use crate::keeps::Keeps;
 use crate::pass::Pass;
 use crate::rule::{LockRule, OnePass, View};
+use crate::slot::Slot;
 use crate::table::InitTable;
 use crate::views::Setup;
 use atomic_table::{Seat, Shared, Table};
@@ -17,13 +18,7 @@ use crossbeam_utils::CachePadded;
 use std::alloc::{AllocError, Global};
 use std::snapshot::Snapshot;
 
-type LockTable<R> = Table<
-    Option<Block<R>>,
-    View<R, <R as Keeps>::Event>,
-    Setup<R>,
-    LockRule<R>,
-    Global,
->;
+type LockTable<R> = Table<Slot<R>, View<R, <R as Keeps>::Event>, Setup<R>, LockRule<R>, Global>;
 
 impl<R: Keeps> InitTable<R> {
     /// A table of the records, each free, and one pass for each thread, numbered from 0 on.
@@ -58,11 +53,11 @@ fn lay<R: Keeps>(
     alloc: Global,
     records: Vec<R>,
     threads: usize,
-) -> Result<(LockTable<R>, Seat<Option<Block<R>>, View<R, R::Event>>), AllocError>
+) -> Result<(LockTable<R>, Seat<Slot<R>, View<R, R::Event>>), AllocError>
     requires threads { threads ≤ 16 }
     requires few { vec_len records < 2 ^ 58 }
     requires records { AllByRecursion (λ r. R.kept r ≡ []) records.items }
-    ensures words { IfOk result (λ t. t.0.shared.table_id.words ≡ vec_len records * 8 + 8) }
+    ensures words { IfOk result (λ t. t.0.shared.table_id.words ≡ vec_len records * 9 + 8) }
     ensures slots { IfOk result (λ t. t.0.shared.table_id.slots ≡ vec_len records) }
     ensures key { IfOk result (λ t. (t.0.shared.key.threads ≡ threads) × (t.0.shared.key.records.value ≡ records)) }
     ensures seat { IfOk result (λ t. (t.1.table_id ≡ t.0.shared.table_id) × (t.1.me ≡ (newcomers 0 threads records.items, []))) }
@@ -71,7 +66,7 @@ fn lay<R: Keeps>(
         threads,
         records: Snapshot::of(&records),
     };
-    let words = vec![in alloc; 0; records.len() * 8 + 8]?;
+    let words = vec![in alloc; 0; records.len() * 9 + 8]?;
     let slots = shelve(alloc, records)?;
     match Table::new(alloc, words.as_slice(), slots, &setup) {
         Ok(laid) => Ok(laid),
@@ -87,7 +82,7 @@ fn with_room<R: Keeps>(
     threads: usize,
 ) -> Result<InitTable<R>, AllocError>
     requires few { places < 2 ^ 58 }
-    requires words { table.shared.table_id.words ≡ places * 8 + 8 }
+    requires words { table.shared.table_id.words ≡ places * 9 + 8 }
     requires slots { table.shared.table_id.slots ≡ places }
     requires threads { table.shared.key.threads ≡ threads }
     ensures { IfOk result (λ t. t ≡ record { id = table.shared.table_id; places = places; threads = threads }) }
@@ -104,12 +99,13 @@ fn with_room<R: Keeps>(
 }
 
 // Each record in its slot, in a block of its own.
-fn shelve<R: Keeps>(alloc: Global, records: Vec<R>) -> Result<Vec<Option<Block<R>>>, AllocError>
+fn shelve<R: Keeps>(alloc: Global, records: Vec<R>) -> Result<Vec<Slot<R>>, AllocError>
     ensures { IfOk result (λ v. v.items ≡ map Some records.items) }
 {
     let mut slots = Vec::new(alloc);
     for record in records {
-        slots.push(Some(Block::new(alloc, record)?))?;
+        let block = Block::new(alloc, record)?;
+        slots.push(Slot::new(block))?;
     }
     Ok(slots)
 }
@@ -117,8 +113,8 @@ fn shelve<R: Keeps>(alloc: Global, records: Vec<R>) -> Result<Vec<Option<Block<R
 // The first seat has the views of all passes. Each pass gets its own.
 fn deal<R: Keeps>(
     alloc: Global,
-    shared: &Shared<Option<Block<R>>, View<R, R::Event>, Setup<R>, LockRule<R>>,
-    mut seat: Seat<Option<Block<R>>, View<R, R::Event>>,
+    shared: &Shared<Slot<R>, View<R, R::Event>, Setup<R>, LockRule<R>>,
+    mut seat: Seat<Slot<R>, View<R, R::Event>>,
     threads: usize,
 ) -> Result<Vec<Pass<R>>, AllocError>
     requires few { threads ≤ 16 }
@@ -135,7 +131,7 @@ fn deal<R: Keeps>(
             seat: own,
             number,
             carried: None,
-            journal: CachePadded::new(Journal::new(alloc)),
+            journal: CachePadded::new(Journal::new(alloc)?),
         })?;
     }
     Ok(passes)

@@ -7,6 +7,7 @@ use crate::block::Block;
 use crate::journal::{Journal, Stamped};
 use crate::keeps::Keeps;
 use crate::rule::View;
+use crate::slot::Slot;
 use atomic_table::Seat;
 use crossbeam_utils::CachePadded;
 use std::alloc::AllocError;
@@ -22,14 +23,14 @@ const MOST_EVENTS: usize = 1 << 58;
 /// Contracts see a pass as the record `PassFacts`.
 #[derive(Drop)]
 pub struct Pass<R: Keeps> {
-    pub(crate) seat: Seat<Option<Block<R>>, View<R, R::Event>>,
+    pub(crate) seat: Seat<Slot<R>, View<R, R::Event>>,
     pub(crate) number: usize,
     // The place whose slot the seat carries, empty, between taking its record and giving it back. A pass that has several
     // records carries the slot of the first, and the others' are at home: only for these it makes steps of their own.
     pub(crate) carried: Option<usize>,
-    // All passes are made side by side in one `Vec`, and each thread writes to the length and the room of its own
-    // journal at every draw. The padding keeps two of them off one cache line, wherever the passes lie.
-    pub(crate) journal: CachePadded<Journal<R::Event>>,
+    // All passes are made side by side in one `Vec`. The padding keeps two journals off one cache line, wherever the passes
+    // lie; what a draw writes to lies in memory of the journal's own, apart from that of other journals (`event_rows`).
+    pub(crate) journal: CachePadded<Journal<R>>,
 }
 
 impl<R: Keeps> Model for Pass<R> {

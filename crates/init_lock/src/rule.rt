@@ -1,8 +1,8 @@
 //! The lock's rule as the table is given it, and what each kind of atomic step tells the pass that makes it.
 ghost use Rattle.std.specs.Prelude.{ℕ, Option};
 
-use crate::block::Block;
 use crate::keeps::Keeps;
+use crate::slot::Slot;
 use crate::views::{PassView, Setup};
 use atomic_table::{Join, Play, Split, TableRule};
 use std::collections::LinkedList;
@@ -16,10 +16,10 @@ pub struct LockRule<R> {
     record: PhantomData<R>,
 }
 
-impl<R: Keeps> TableRule<Option<Block<R>>, View<R, R::Event>, Setup<R>> for LockRule<R> {
+impl<R: Keeps> TableRule<Slot<R>, View<R, R::Event>, Setup<R>> for LockRule<R> {
     ghost use Rattle.init_lock.specs.Rule.{RuleHolds, opened};
 
-    ghost holds = { λ setup s. RuleHolds R.kept R.may_draw R.follows R.settles setup s };
+    ghost holds = { λ setup s. RuleHolds R.kept R.may_draw R.follows R.settles R.lawful R.leans_on setup s };
 
     ghost first = { opened };
 }
@@ -29,7 +29,7 @@ pub(crate) struct TakeLock<R> {
     record: PhantomData<R>,
 }
 
-impl<R: Keeps> Play<Option<Block<R>>, View<R, R::Event>> for TakeLock<R> {
+impl<R: Keeps> Play<Slot<R>, View<R, R::Event>> for TakeLock<R> {
     ghost use Rattle.init_lock.specs.Steps.{TakesLock};
 
     ghost then = { TakesLock R.kept R.may_draw R.follows };
@@ -38,7 +38,7 @@ impl<R: Keeps> Play<Option<Block<R>>, View<R, R::Event>> for TakeLock<R> {
 // The lock word is read, to see whether it is worth trying.
 pub(crate) struct SeeLock;
 
-impl<R, E> Play<Option<Block<R>>, View<R, E>> for SeeLock {
+impl<R, E> Play<Slot<R>, View<R, E>> for SeeLock {
     ghost use Rattle.init_lock.specs.Steps.{SeesLock};
 
     ghost then = { SeesLock };
@@ -47,7 +47,7 @@ impl<R, E> Play<Option<Block<R>>, View<R, E>> for SeeLock {
 // The slot goes home empty, where the pass carries another.
 pub(crate) struct ParkSlot;
 
-impl<R, E> Play<Option<Block<R>>, View<R, E>> for ParkSlot {
+impl<R, E> Play<Slot<R>, View<R, E>> for ParkSlot {
     ghost use Rattle.init_lock.specs.Steps.{ParksSlot};
 
     ghost then = { ParksSlot };
@@ -56,16 +56,36 @@ impl<R, E> Play<Option<Block<R>>, View<R, E>> for ParkSlot {
 // The empty slot comes out again.
 pub(crate) struct FetchSlot;
 
-impl<R, E> Play<Option<Block<R>>, View<R, E>> for FetchSlot {
+impl<R, E> Play<Slot<R>, View<R, E>> for FetchSlot {
     ghost use Rattle.init_lock.specs.Steps.{FetchesSlot};
 
     ghost then = { FetchesSlot };
 }
 
+// The done word is read, to see whether its place is settled.
+pub(crate) struct SeeDone<R> {
+    record: PhantomData<R>,
+}
+
+impl<R: Keeps> Play<Slot<R>, View<R, R::Event>> for SeeDone<R> {
+    ghost use Rattle.init_lock.specs.Steps.{SeesDone};
+
+    ghost then = { SeesDone R.may_draw R.settles R.lawful };
+}
+
+// The done word is set.
+pub(crate) struct SetDone;
+
+impl<R, E> Play<Slot<R>, View<R, E>> for SetDone {
+    ghost use Rattle.init_lock.specs.Steps.{SetsDone};
+
+    ghost then = { SetsDone };
+}
+
 // The lock word is freed, and the slot goes home with the record.
 pub(crate) struct FreeLock;
 
-impl<R, E> Play<Option<Block<R>>, View<R, E>> for FreeLock {
+impl<R, E> Play<Slot<R>, View<R, E>> for FreeLock {
     ghost use Rattle.init_lock.specs.Steps.{FreesLock};
 
     ghost then = { FreesLock };
@@ -87,7 +107,7 @@ pub(crate) struct DrawStamp<J> {
     drawn: PhantomData<J>,
 }
 
-impl<R, E, J: Drawn<E>> Play<Option<Block<R>>, View<R, E>> for DrawStamp<J> {
+impl<R, E, J: Drawn<E>> Play<Slot<R>, View<R, E>> for DrawStamp<J> {
     ghost use Rattle.init_lock.specs.Steps.{DrawsWhatIsSaid};
 
     ghost then = { DrawsWhatIsSaid J.drawn };
@@ -112,7 +132,7 @@ impl<R, E> Join<View<R, E>> for OnePass {
     ghost spent = { [] };
 }
 
-impl<R, E> Play<Option<Block<R>>, View<R, E>> for OnePass {
+impl<R, E> Play<Slot<R>, View<R, E>> for OnePass {
     ghost use Rattle.std.specs.Prelude.{◌≡◌, []};
 
     ghost then = { λ s v found w. w.0 ≡ [] };

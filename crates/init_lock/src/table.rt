@@ -4,12 +4,12 @@ ghost use Rattle.init_lock.specs.Drawn.{WentBack};
 ghost use Rattle.init_lock.specs.Known.{seen_at, out_of};
 ghost use Rattle.init_lock.specs.Taken.{Taken};
 
-use crate::block::Block;
 use crate::journal::Journal;
 use crate::keeps::Keeps;
 use crate::pass::{Held, Pass};
 use crate::rule::{LockRule, View};
 use crate::seat::{put_back, see, take_out, without};
+use crate::slot::Slot;
 use crate::views::Setup;
 use atomic_table::Table;
 use std::alloc::Global;
@@ -22,12 +22,12 @@ use std::snapshot::Snapshot;
 /// Contracts see the record `TableFacts`: which table it is, how many places it has, and how many passes.
 #[derive(Drop)]
 pub struct InitTable<R: Keeps> {
-    pub(crate) table: Table<Option<Block<R>>, View<R, R::Event>, Setup<R>, LockRule<R>, Global>,
+    pub(crate) table: Table<Slot<R>, View<R, R::Event>, Setup<R>, LockRule<R>, Global>,
     pub(crate) places: usize,
     pub(crate) threads: usize,
     // Room for what `finish` gives out, so that it takes no memory.
     pub(crate) records: Vec<R>,
-    pub(crate) journals: Vec<Journal<R::Event>>,
+    pub(crate) journals: Vec<Journal<R>>,
 }
 
 impl<R: Keeps> Model for InitTable<R> {
@@ -38,22 +38,22 @@ impl<R: Keeps> Model for InitTable<R> {
 
     ghost view = { λ t. record { id = t.table.shared.table_id; places = t.places; threads = t.threads } };
 
-    ghost invariant = { λ t. (t.table.shared.table_id.words ≡ t.places * 8 + 8) × (t.table.shared.table_id.slots ≡ t.places) × (t.table.shared.key.threads ≡ t.threads) × (vec_len t.records ≡ 0) × (t.places ≤ vec_capacity t.records) × (vec_len t.journals ≡ 0) × (t.threads ≤ vec_capacity t.journals) × (t.places < 2 ^ 58) };
+    ghost invariant = { λ t. (t.table.shared.table_id.words ≡ t.places * 9 + 8) × (t.table.shared.table_id.slots ≡ t.places) × (t.table.shared.key.threads ≡ t.threads) × (vec_len t.records ≡ 0) × (t.places ≤ vec_capacity t.records) × (vec_len t.journals ≡ 0) × (t.threads ≤ vec_capacity t.journals) × (t.places < 2 ^ 58) };
 }
 
 impl<R: Keeps> InitTable<R> {
     /// Takes the record of a place if its lock is free: one try of the lock word, with no waiting and no memory.
     ///
     /// The record's events begin with all that the pass had seen at the place, its own events there included, and go on
-    /// with what other passes drew. `None` where another pass has the record, or this one: that is one more miss of this
-    /// pass.
+    /// with what other passes drew. One of them settles the place, where the pass knew it to be settled. `None` where
+    /// another pass has the record, or this one: that is one more miss of this pass.
     ///
     /// This is the taking of the initialization lock (JLS SE 8 12.4.2 step 1, JVMS SE 8 5.5 step 1), tried once.
     pub fn try_take(&self, pass: &mut Pass<R>, place: usize) -> Option<Held<R>>
         requires table { pass.old.table ≡ self.now.id }
         requires place { place < self.now.places }
         ensures misses { OnSome result (pass.new.misses ≡ pass.old.misses) }
-        ensures taken { IfSome result (Taken R.kept R.may_draw R.follows place pass.old pass.new) }
+        ensures taken { IfSome result (Taken R.kept R.may_draw R.settles R.follows place pass.old pass.new) }
         ensures none { IfNone result (pass.new ≡ record pass.old { misses = pass.old.misses + 1 }) }
     {
         let block = take_out(

@@ -6,7 +6,11 @@ use crate::keeps::Keeps;
 use crate::pass::{Held, Pass};
 use crate::table::InitTable;
 use std::sync::Wait;
-use std::thread;
+use std::{hint, thread};
+
+// How often in a row a thread looks again at a lock that it found taken, before it lets others run. A lock is mostly free
+// again after less time than it takes to ask the operating system for another thread.
+const LOOKS_IN_A_ROW: u32 = 32;
 
 /// The lock was found taken as often as the patience allows.
 #[derive(Drop)]
@@ -18,7 +22,7 @@ impl<R: Keeps> InitTable<R> {
         requires table { pass.old.table ≡ self.now.id }
         requires place { place < self.now.places }
         ensures misses { OnSome result (pass.new.misses ≡ pass.old.misses) }
-        ensures taken { IfSome result (Taken R.kept R.may_draw R.follows place pass.old pass.new) }
+        ensures taken { IfSome result (Taken R.kept R.may_draw R.settles R.follows place pass.old pass.new) }
         ensures none { IfNone result (pass.new ≡ record pass.old { misses = pass.old.misses + 1 }) }
     {
         if looks_first && !self.is_free(pass, place) {
@@ -32,8 +36,8 @@ impl<R: Keeps> InitTable<R> {
     ///
     /// `patience` is the number of tries, and 0 is without limit: then it may wait for ever, and never gives up. It gives
     /// up once it has found the lock taken exactly so often, and the pass counts these misses.
-    /// What it finds is what [`InitTable::try_take`] says. Between two tries the thread lets others run, and each try
-    /// after the first looks before it exchanges.
+    /// What it finds is what [`InitTable::try_take`] says. Each try after the first looks before it exchanges. Between two
+    /// tries the thread waits as long as the processor's hint for such loops takes, and now and then it lets others run.
     pub fn take<W: Wait>(
         &self,
         rt: &W,
@@ -43,24 +47,33 @@ impl<R: Keeps> InitTable<R> {
     ) -> Result<Held<R>, GaveUp>
         requires table { pass.old.table ≡ self.now.id }
         requires place { place < self.now.places }
-        ensures taken { IfOk result (Taken R.kept R.may_draw R.follows place pass.old pass.new) }
+        ensures taken { IfOk result (Taken R.kept R.may_draw R.settles R.follows place pass.old pass.new) }
         ensures patient { OnErr result (patience ≢ 0) }
         ensures gave_up { OnErr result (pass.new ≡ record pass.old { misses = pass.old.misses + patience }) }
         ensures misses { patience ≢ 0 → OnOk result (pass.new.misses < pass.old.misses + patience) }
     {
         let mut left = patience;
-        let mut looks_first = false;
+        let mut looks = 0;
         for _ in rt.forever() {
-            if let Some(held) = self.try_once(pass, place, looks_first) {
+            if let Some(held) = self.try_once(pass, place, looks > 0) {
                 return Ok(held);
             }
             if left == 1 {
                 return Err(GaveUp);
             }
             left = left.saturating_sub(1);
-            looks_first = true;
-            thread::yield_now();
+            looks = pause(looks);
         }
         unreachable!()
     }
+}
+
+// Lets a moment pass before the next look at a lock, after so many in a row. The answer counts that look too.
+fn pause(looks: u32) -> u32 {
+    if looks < LOOKS_IN_A_ROW {
+        hint::spin_loop();
+        return looks + 1;
+    }
+    thread::yield_now();
+    1
 }

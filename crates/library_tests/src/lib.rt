@@ -10,6 +10,8 @@
 #[cfg(test)]
 mod comparing;
 #[cfg(test)]
+mod elided;
+#[cfg(test)]
 mod frame_runs;
 #[cfg(test)]
 mod frame_steps;
@@ -45,6 +47,8 @@ mod records;
 mod refusals;
 #[cfg(test)]
 mod resolved;
+#[cfg(test)]
+mod rows;
 #[cfg(test)]
 mod runs;
 #[cfg(test)]

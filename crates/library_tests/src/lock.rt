@@ -8,7 +8,7 @@ use std::alloc::{AllocError, Global};
 use std::sync::Wait;
 use std::thread::{Threads, join};
 
-/// A record that keeps a list of numbers. Every pass may draw every number.
+/// A record that keeps a list of numbers. Every pass may draw every number, and 9 settles its place.
 #[derive(Drop)]
 pub struct Numbers {
     pub events: Vec<u64>,
@@ -17,19 +17,41 @@ pub struct Numbers {
 impl Keeps for Numbers {
     type Event = u64;
 
-    ghost use Rattle.std.specs.Prelude.{false};
+    type Text = ();
+
+    ghost use Rattle.std.specs.Prelude.{eqb, None};
+
+    ghost unpacked = { λ word text. word };
+
+    ghost is_packed = { λ word text. Unit {0} };
 
     ghost kept = { λ r. r.events.items };
 
     ghost may_draw = { λ by place event. Unit {0} };
 
-    ghost settles = { λ event. false };
+    ghost settles = { λ event. eqb event 9 };
+
+    ghost lawful = { λ events. Unit {0} };
+
+    ghost lawful_at_first = { tt };
+
+    ghost leans_on = { λ event. None };
 
     ghost follows = { λ x y. Unit {0} };
 
     ghost follows_itself = { λ x. tt };
 
     ghost follows_on = { λ x y z p q. tt };
+
+    fn pack(event: u64) -> (u64, Option<()>) {
+        (event, None)
+    }
+
+    fn unpack(word: u64, _text: Option<()>) -> u64
+        ensures { result ≡ word }
+    {
+        word
+    }
 }
 
 fn empty(alloc: Global) -> Numbers
@@ -131,7 +153,7 @@ fn finish_both(
     Ok(table.finish(passes))
 }
 
-// Draws on the first record by both passes, and then on no record by both.
+// Draws on the first record by the first pass, on none by it, and then on the first record by the second pass.
 fn draws(table: &InitTable<Numbers>, first: &mut Pass<Numbers>, second: &mut Pass<Numbers>) -> bool
     requires places { table.now.places ≡ 2 }
     requires first { (first.old.table ≡ table.now.id) × (first.old.room ≡ 4) × IsAway first.old.places }
@@ -140,16 +162,16 @@ fn draws(table: &InitTable<Numbers>, first: &mut Pass<Numbers>, second: &mut Pas
     ensures second { IsSamePass second.old second.new × IsAway second.new.places }
 {
     let is_first = draw_on(table, first, 0, 5) == Some(0);
-    let is_second = draw_on(table, second, 0, 7) == Some(1);
-    let are_alone = table.draw(second, 6) == 2 && table.draw(first, 8) == 3;
-    is_first && is_second && are_alone
+    let is_next = table.draw(first, 6) == 1;
+    let is_last = draw_on(table, second, 0, 7) == Some(1);
+    is_first && is_next && is_last
 }
 
 // An event as it was drawn: its stamp, the place of its record, and the number.
 type Drawn = (u64, Option<usize>, u64);
 
 // Whether a journal has these events alone, from the last one.
-fn is_of(journal: &mut Journal<u64>, drawn: &[Drawn]) -> bool {
+fn is_of(journal: &mut Journal<Numbers>, drawn: &[Drawn]) -> bool {
     if journal.len() != drawn.len() || journal.is_empty() {
         return false;
     }
@@ -163,7 +185,7 @@ fn is_of(journal: &mut Journal<u64>, drawn: &[Drawn]) -> bool {
 }
 
 // Whether the journals are those of these passes.
-fn are_of(journals: &mut [Journal<u64>], first: &[Drawn], second: &[Drawn]) -> bool {
+fn are_of(journals: &mut [Journal<Numbers>], first: &[Drawn], second: &[Drawn]) -> bool {
     match journals {
         [one, other] => is_of(one, first) && is_of(other, second),
         _ => false,
@@ -189,8 +211,8 @@ fn two_passes_draw(alloc: Global) -> Result<bool, AllocError> {
             && are_kept(&closed.records, &[5, 7])
             && are_of(
                 &mut closed.journals,
-                &[(3, None, 8), (0, Some(0), 5)],
-                &[(2, None, 6), (1, Some(0), 7)],
+                &[(1, None, 6), (0, Some(0), 5)],
+                &[(2, Some(0), 7)],
             ),
     )
 }
@@ -200,7 +222,99 @@ fn are_merged(alloc: Global) -> Result<bool, AllocError> {
     let are_drawn = draws(&table, &mut first, &mut second);
     let closed = finish_both(alloc, table, first, second)?;
     let merged = merge(alloc, closed.journals)?;
-    Ok(are_drawn && merged.as_slice() == [5, 7, 6, 8].as_slice())
+    Ok(are_drawn && merged.as_slice() == [5, 6, 7].as_slice())
+}
+
+// Whether a place is done, as a pass sees it.
+fn asks(table: &InitTable<Numbers>, pass: &mut Pass<Numbers>, place: usize) -> bool
+    requires table { pass.old.table ≡ table.now.id }
+    requires place { place < table.now.places }
+    requires away { IsAway pass.old.places }
+    ensures pass { IsSamePass pass.old pass.new }
+    ensures away { IsAway pass.new.places }
+    ensures room { pass.new.room ≡ pass.old.room }
+{
+    if table.is_done(pass, place) {
+        return true;
+    }
+    false
+}
+
+// Whether the lock of a place is taken, as one try finds it. A record that is got goes back.
+fn is_taken(table: &InitTable<Numbers>, pass: &mut Pass<Numbers>, place: usize) -> bool
+    requires table { pass.old.table ≡ table.now.id }
+    requires place { place < table.now.places }
+    requires away { IsAway pass.old.places }
+    ensures pass { IsSamePass pass.old pass.new }
+    ensures away { IsAway pass.new.places }
+    ensures room { pass.new.room ≡ pass.old.room }
+{
+    match table.try_take(pass, place) {
+        Some(held) => {
+            table.give_back(pass, held);
+            false
+        }
+        None => true,
+    }
+}
+
+// Draws 9 on a record that the pass has, says to all that its place is done, and goes on having the record.
+// The answer is false where the record had no memory: then nothing is drawn.
+fn publish_on(
+    table: &InitTable<Numbers>,
+    pass: &mut Pass<Numbers>,
+    held: &mut Held<Numbers>,
+) -> bool
+    requires table { pass.old.table ≡ table.now.id }
+    requires room { 0 < pass.old.room }
+    requires out { out_of held.old.place pass.old.places ≡ Some held.old.taken }
+    requires untouched { held.old.kept.events.items ≡ seen_at held.old.place pass.old.places }
+    ensures held { (held.new.place ≡ held.old.place) × (held.new.taken ≡ held.old.taken) }
+    ensures keeps { held.new.kept.events.items ≡ seen_at held.old.place pass.new.places }
+    ensures pass { IsSamePass pass.old pass.new }
+    ensures out { out_of held.old.place pass.new.places ≡ out_of held.old.place pass.old.places }
+    ensures away { IsAwayBut held.old.place pass.old.places → IsAwayBut held.old.place pass.new.places }
+{
+    if held.kept().events.push(9).is_err() {
+        return false;
+    }
+    table.draw_held(pass, held, 9);
+    table.publish(pass, held);
+    true
+}
+
+// Whether the second pass sees the first place done while the first pass still has its record, and not before.
+fn is_seen_early(
+    table: &InitTable<Numbers>,
+    first: &mut Pass<Numbers>,
+    second: &mut Pass<Numbers>,
+) -> bool
+    requires places { table.now.places ≡ 2 }
+    requires first { (first.old.table ≡ table.now.id) × (first.old.room ≡ 4) × IsAway first.old.places }
+    requires second { (second.old.table ≡ table.now.id) × (second.old.room ≡ 4) × IsAway second.old.places }
+    ensures first { IsSamePass first.old first.new × IsAway first.new.places }
+    ensures second { IsSamePass second.old second.new × IsAway second.new.places }
+{
+    let was_done = asks(table, second, 0);
+    let Some(mut held) = table.try_take(first, 0) else {
+        return false;
+    };
+    let is_published = publish_on(table, first, &mut held);
+    let is_passed = is_taken(table, second, 0) && asks(table, second, 0);
+    let is_next = table.draw(second, 6) == 1;
+    table.give_back(first, held);
+    !was_done && is_published && is_passed && is_next
+}
+
+fn is_published_early(alloc: Global) -> Result<bool, AllocError> {
+    let (table, mut first, mut second) = two_of_each(alloc, 4)?;
+    let is_seen = is_seen_early(&table, &mut first, &mut second);
+    let mut closed = finish_both(alloc, table, first, second)?;
+    Ok(
+        is_seen
+            && are_kept(&closed.records, &[9])
+            && are_of(&mut closed.journals, &[(0, Some(0), 9)], &[(1, None, 6)]),
+    )
 }
 
 // Takes the second record, and says whether it was free. Where it was, it goes back.
@@ -299,4 +413,9 @@ fn two_passes(rt: HostRuntime) {
     assert!(rt; are_merged(rt.alloc()) == Ok(true));
     assert!(rt; gives_up(&rt, rt.alloc()) == Ok(true));
     assert!(rt; two_take(&rt, rt.alloc()) == Ok(true));
+}
+
+#[test]
+fn published_early(rt: HostRuntime) {
+    assert!(rt; is_published_early(rt.alloc()) == Ok(true));
 }

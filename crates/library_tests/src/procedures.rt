@@ -26,12 +26,27 @@ fn refuses(alloc: Global, program: &Program, procedure: &mut Procedure) -> Resul
     procedure.request(CLASS)?;
     let waits = Answer::Decided(Decision::Waits { first: true });
     let next = procedure.advance(alloc, program, waits)?;
+    let has_waited = procedure.has_waited();
     procedure.advance(alloc, program, Answer::Decided(Decision::FindsErroneous))?;
     let refused = program.built_in(BuiltIn::NoClassDefFoundError);
     let was_completed = is_completed(procedure, Outcome::Abrupt(refused));
     procedure.forget_last();
     let is_forgotten = procedure.last().is_none();
-    Ok(idle == Next::Idle && next == Next::Look(CLASS) && was_completed && is_forgotten)
+    let is_asked = idle == Next::Idle && next == Next::Look(CLASS) && has_waited;
+    Ok(is_asked && was_completed && is_forgotten)
+}
+
+/// A request that hasn't waited is completed by a step 4 without a look.
+fn passes_by(procedure: &mut Procedure) -> Result<bool, AllocError>
+    requires { procedure.old ≡ standing [] None }
+{
+    procedure.request(CLASS)?;
+    let has_waited = procedure.has_waited();
+    let Next::Look(_) = procedure.next() else {
+        return Ok(false);
+    };
+    procedure.complete_by_step_4();
+    Ok(!has_waited && is_completed(procedure, Outcome::Normal))
 }
 
 /// Memory runs out after step 6.
@@ -91,6 +106,7 @@ fn begins(alloc: Global, program: &Program, procedure: &mut Procedure) -> Result
 #[derive(Clone, Copy)]
 pub(crate) enum Course {
     Refuses,
+    PassesBy,
     GivesUp,
     WaitsAndGivesUp,
     Throws,
@@ -107,6 +123,7 @@ fn goes(
 {
     match course {
         Course::Refuses => refuses(alloc, program, procedure),
+        Course::PassesBy => passes_by(procedure),
         Course::GivesUp => gives_up(alloc, program, procedure),
         Course::WaitsAndGivesUp => waits_and_gives_up(alloc, program, procedure),
         Course::Throws => begins(alloc, program, procedure),
@@ -129,6 +146,10 @@ pub(crate) const COURSES: &[Row] = &[
     Row {
         files: SOLO,
         question: Question::Procedure(Course::Refuses),
+    },
+    Row {
+        files: SOLO,
+        question: Question::Procedure(Course::PassesBy),
     },
     Row {
         files: SOLO,

@@ -10,7 +10,7 @@ use crate::heaps::{PARTS, Part, is_right};
 use crate::in_order::{IN_ORDER, is_in_order};
 use crate::prints::{PRINTS, Printed, is_printed};
 use crate::procedures::{COURSES, Course, is_gone};
-use crate::records::{STORIES, Story, is_told};
+use crate::records::{STORIES, Story, is_told, takes_two_blocks};
 use crate::resolved::{RESOLVED, resolved};
 use crate::runs::{CROWDS, Crowd, is_run};
 use crate::scripted::{SCRIPTS, Script, is_scripted};
@@ -28,6 +28,8 @@ use std::thread::Threads;
 pub(crate) enum Question {
     /// What is done to the record of a class.
     Record(Story),
+    /// The blocks of a class's history.
+    Blocks,
     /// One thread's procedure for one class.
     Procedure(Course),
     /// Handler tables, and step 11.
@@ -67,6 +69,7 @@ fn answers<R: Threads + Wait + Sync + Clock>(
 ) -> bool {
     match question {
         Question::Record(story) => is_told(alloc, program, story),
+        Question::Blocks => takes_two_blocks(alloc, program),
         Question::Procedure(course) => is_gone(alloc, program, *course) == Ok(true),
         Question::Handlers => handlers(program),
         Question::Frames(deed) => is_done(alloc, program, deed),

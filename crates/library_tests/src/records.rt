@@ -19,8 +19,6 @@ const ERROR: ClassId = ClassId { number: 7 };
 
 /// What is done to a record, where it may be done.
 enum Deed {
-    /// Room is made for an event.
-    Reserves,
     /// This thread looks at the class, and finds this.
     Finds(usize, Decision),
     /// The owner ends the class so.
@@ -56,9 +54,9 @@ const PREPARED: Story = Story {
     trace: b"",
 };
 
-/// A thread has begun to initialize the class in reserved room.
+/// A thread has begun to initialize the class.
 const BEGUN: Story = Story {
-    deeds: &[Deed::Reserves, Deed::Finds(0, Decision::Begins)],
+    deeds: &[Deed::Finds(0, Decision::Begins)],
     label: Label::InProgress(0),
     owner: Some(0),
     trace: b"0 t0 step6 Solo\n",
@@ -200,6 +198,10 @@ pub(crate) const STORIES: &[Row] = &[
         files: FILES,
         question: Question::Record(WRITTEN),
     },
+    Row {
+        files: FILES,
+        question: Question::Blocks,
+    },
 ];
 
 /// The owner ends the class, where it fails by the error.
@@ -232,7 +234,6 @@ fn use_field(record: &mut ClassRecord, place: usize, value: Value, is_write: boo
 /// Whether this can be done, and comes to what it must.
 fn does(record: &mut ClassRecord, deed: &Deed) -> bool {
     match deed {
-        Deed::Reserves => record.reserve().is_ok(),
         Deed::Finds(thread, decision) => {
             *thread < THREADS && record.enter(*thread) == Ok(*decision)
         }
@@ -279,7 +280,7 @@ fn is_traced(
 ) -> Result<bool, AllocError> {
     let mut events = Vec::new(alloc);
     for place in 0..record.len() {
-        events.push(record.event(place)?)?;
+        events.push(record.event(place))?;
     }
     let text = write_trace(alloc, program, events.as_slice())?;
     Ok(text.as_slice() == story.trace)
@@ -303,6 +304,39 @@ pub(crate) fn is_told(alloc: Global, program: &Program, story: &Story) -> bool {
     }
 }
 
+/// Whether thread 0 reads the first static field of a class that is initialized, and gets its constant.
+fn reads_constant(record: &mut ClassRecord) -> bool {
+    match record.label() {
+        Label::Initialized if record.static_fields() > 0 => {
+            record.read_static(0, 0) == Ok(Value::Int(5))
+        }
+        _ => false,
+    }
+}
+
+fn reads_often(record: &mut ClassRecord, count: usize) -> bool {
+    for _ in 0..count {
+        if !reads_constant(record) {
+            return false;
+        }
+    }
+    true
+}
+
+/// Whether the history of the third class, after steps 6 and 10 and 1,023 reads, takes two blocks.
+pub(crate) fn takes_two_blocks(alloc: Global, program: &Program) -> bool {
+    let made = ClassRecord::new(alloc, program, ClassId { number: 2 });
+    let Ok(mut record) = made else {
+        return false;
+    };
+    does(&mut record, &Deed::Finds(0, Decision::Begins))
+        && does(&mut record, &Deed::Ends(Ending::Completes))
+        && record.history_blocks() == 1
+        && reads_often(&mut record, 1_023)
+        && record.len() == 1_025
+        && record.history_blocks() == 2
+}
+
 /// Whether these are both ends by one throwable, or both prints of one text.
 fn are_alike(one: &Kind, other: &Kind) -> bool {
     match (one, other) {
@@ -312,22 +346,30 @@ fn are_alike(one: &Kind, other: &Kind) -> bool {
     }
 }
 
-/// Whether the copy of an event is like it.
-fn is_copied(event: &Event) -> Result<bool, AllocError> {
-    let copy = event.clone()?;
-    let is_alike = are_alike(&copy.kind()?, &event.kind()?);
-    Ok(is_alike && copy.thread() == event.thread() && copy.class() == event.class())
+/// Whether two events, which are alike, are of one thread and one class.
+fn is_like(one: &Event, other: &Event) -> Result<bool, AllocError> {
+    let is_alike = are_alike(&one.kind()?, &other.kind()?);
+    Ok(is_alike && one.thread() == other.thread() && one.class() == other.class())
 }
 
-/// Whether a print of a text is copied.
-fn is_print_copied(alloc: Global) -> Result<bool, AllocError> {
+/// Whether the copy of an event is like it, and so is the event that is taken apart and put together again.
+fn is_kept(event: Event) -> Result<bool, AllocError> {
+    let copy = event.clone()?;
+    let is_copied = is_like(&copy, &event)?;
+    let (word, text) = event.into_parts();
+    Ok(is_copied && is_like(&Event::from_parts(word, text), &copy)?)
+}
+
+/// Whether a print of a text is kept.
+fn is_print_kept(alloc: Global) -> Result<bool, AllocError> {
     let text = Text::copied(alloc, b"2\n")?;
     let printed = Event::print(alloc, 2, text)?;
-    Ok(is_copied(&printed)? && printed.text() == Some(b"2\n".as_slice()))
+    let is_shown = printed.text() == Some(b"2\n".as_slice());
+    Ok(is_shown && is_kept(printed)?)
 }
 
 #[test]
-fn events_are_copied(rt: HostRuntime) {
-    assert!(rt; is_print_copied(rt.alloc()) == Ok(true));
-    assert!(rt; is_copied(&Event::new(1, ClassId { number: 0 }, Kind::Fails(ERROR))) == Ok(true));
+fn events_are_kept(rt: HostRuntime) {
+    assert!(rt; is_print_kept(rt.alloc()) == Ok(true));
+    assert!(rt; is_kept(Event::new(1, ClassId { number: 0 }, Kind::Fails(ERROR))) == Ok(true));
 }

@@ -4,6 +4,7 @@ ghost use Rattle.std.specs.Prelude.{◌≡◌, ◌<◌, true};
 ghost use Rattle.std.specs.List.{AllByRecursion};
 ghost use Rattle.init_core.specs.ProcedureWord.{IsOfFiles};
 
+use crate::elided::is_passed;
 use crate::long_chain::{CLASSES, INTERFACES};
 use crate::programs::{Question, Row};
 use crate::steps::{Step, Steps, step_of, steps_of};
@@ -31,6 +32,8 @@ pub(crate) enum Crowd {
     Apart,
     /// One at the last class of a long chain.
     OverAll,
+    /// One at a class whose record another has, which has initialized it.
+    PassesBy,
 }
 
 /// Whether each main class is one of the files.
@@ -326,6 +329,7 @@ pub(crate) fn is_run<R: Threads + Wait + Sync + Clock>(
         Crowd::OneWaits => is_waited_for(rt, alloc, program),
         Crowd::Apart => is_at_once(rt, alloc, program),
         Crowd::OverAll => is_over_all(rt, alloc, program),
+        Crowd::PassesBy => is_passed(rt, alloc, program),
     }
 }
 
@@ -352,5 +356,9 @@ pub(crate) const CROWDS: &[Row] = &[
     Row {
         files: &[b".class A", b".class B"],
         question: Question::Ran(Crowd::Apart),
+    },
+    Row {
+        files: &[b".class A"],
+        question: Question::Ran(Crowd::PassesBy),
     },
 ];

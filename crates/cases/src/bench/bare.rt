@@ -1,5 +1,5 @@
 //! Rounds by the bare steps that a lock makes: an exchange on its word, a `fetch_add` on the counter, and a store that frees
-//! the word.
+//! the word. Passes by theirs: a load of a word, and a `fetch_add` on the counter.
 
 ghost use Rattle.std.specs.Prelude.{◌<◌, ◌≤◌};
 
@@ -70,4 +70,35 @@ pub(crate) fn time<R: Clock + Threads + Sync>(
         { rounds_of(words, number % locks, rounds) },
     )?;
     watch.share(rt, rounds)
+}
+
+// The passes of one thread. The word that it loads says by 0 that it may pass.
+fn passes_of(words: &[AtomicU64], times: usize) {
+    let (Some(counter), Some(word)) = (words.first(), words.get(8)) else {
+        return;
+    };
+    for _ in 0..times {
+        if word.load(Ordering::SeqCst) == 0 {
+            counter.fetch_add(1, Ordering::SeqCst);
+        }
+    }
+}
+
+/// The time of a pass by bare steps, where so many threads, 1 to 4, make so many passes each.
+pub(crate) fn pass_time<R: Clock + Threads + Sync>(
+    rt: &R,
+    alloc: Global,
+    threads: usize,
+    times: usize,
+) -> Result<u128, Failure> {
+    let kept = four_locks(alloc)?;
+    let words = kept.as_slice();
+    let watch = Watch::start(rt);
+    let _ends = thread::map_indices(
+        rt,
+        alloc,
+        threads.min(4),
+        &|_number: usize| { passes_of(words, times) },
+    )?;
+    watch.share(rt, times)
 }

@@ -4,7 +4,7 @@
 //! that a busy minute of the machine meets all three. The rounds are spread over several sweeps through all lines, so that such
 //! a minute doesn't meet all rounds of a line. The first round of each sweep warms up and doesn't count.
 //!
-//! The ratio of a line is that of the least times. In a contest for locks (`Sample::Lock`) the least time is that of a
+//! The ratio of a line is that of the least times. In a contest (`Sample::is_contest`) the least time is that of a
 //! lucky round, and the sample's may be luckier than the unit's: there it is the middle one of the ratios of all rounds.
 
 use crate::bench::sample::Sample;
@@ -107,14 +107,14 @@ pub(crate) struct Row {
     pub repeats: usize,
 }
 
-// The time of one of many `fetch_add`s on a word of their own.
-fn add_time(rt: &impl Clock) -> Result<u128, Failure> {
+/// The time of one of so many `fetch_add`s on a word of their own.
+pub(crate) fn add_time(rt: &impl Clock, adds: usize) -> Result<u128, Failure> {
     let word = AtomicU64::new(0);
     let watch = Watch::start(rt);
-    for _ in 0..ADDS {
+    for _ in 0..adds {
         word.fetch_add(1, Ordering::SeqCst);
     }
-    watch.share(rt, ADDS)
+    watch.share(rt, adds)
 }
 
 /// A number with two decimals.
@@ -175,7 +175,7 @@ impl Line<'_> {
         for number in 0..self.row.repeats.saturating_add(WARM_UPS) {
             let sample = self.row.sample.time(rt, alloc, self.size)?;
             let unit = self.row.unit.time(rt, alloc, self.unit_size)?;
-            let add = add_time(rt)?;
+            let add = add_time(rt, ADDS)?;
             if number >= WARM_UPS {
                 self.note(sample, unit, add)?;
             }
@@ -185,15 +185,13 @@ impl Line<'_> {
 
     // How often the time of the unit is in that of the sample.
     fn beside(&mut self) -> Figure {
-        match &self.row.sample {
-            Sample::Lock(..) => {
-                self.ratios.sort_unstable();
-                let middle = self.ratios.len() / 2;
-                let hundredths = self.ratios.get(middle).copied().unwrap_or_default();
-                Figure { hundredths }
-            }
-            _ => ratio(self.sample, self.unit),
+        if !self.row.sample.is_contest() {
+            return ratio(self.sample, self.unit);
         }
+        self.ratios.sort_unstable();
+        let middle = self.ratios.len() / 2;
+        let hundredths = self.ratios.get(middle).copied().unwrap_or_default();
+        Figure { hundredths }
     }
 
     // Prints how often the time of the unit is in that of the sample, the time of the sample, how often that of a `fetch_add` is in

@@ -11,6 +11,38 @@ use std::sync::Wait;
 use std::thread;
 use std::thread::Threads;
 
+/// On which of 32 records up to four threads draw.
+pub(crate) enum Records {
+    /// All on the first.
+    One,
+    /// Each on one of its own, and these are neighbours.
+    Neighbours,
+    /// Each on one of its own, and these are eight places apart.
+    Apart,
+}
+
+impl Records {
+    // The place of the record on which the pass of a number draws.
+    fn place(&self, number: usize) -> usize
+        ensures { result < 32 }
+    {
+        let nth = number % 4;
+        match self {
+            Records::One => 0,
+            Records::Neighbours => nth,
+            Records::Apart => nth * 8,
+        }
+    }
+
+    /// How many of so many threads draw on each record that is drawn on.
+    pub(crate) fn sharers(&self, threads: usize) -> usize {
+        match self {
+            Records::One => threads,
+            Records::Neighbours | Records::Apart => 1,
+        }
+    }
+}
+
 // Draws an event on a record that the pass has, and gives the record back.
 fn tick(table: &InitTable<History>, pass: &mut Pass<History>, mut held: Held<History>, event: u64)
     requires table { pass.old.table ≡ table.now.id }
@@ -52,19 +84,19 @@ fn often<W: Wait>(
     }
 }
 
-// The rounds of one thread, on one of so many records, which lie eight places apart: the slots of eight places fill a cache line.
+// The rounds of one thread, on its record.
 fn rounds_of<W: Wait>(
     rt: &W,
     table: &InitTable<History>,
     mut pass: Pass<History>,
-    records: usize,
+    records: &Records,
     rounds: usize,
 ) -> Result<(), AllocError>
     requires pass { IsReady table.now.id pass }
-    requires records { (table.now.places ≡ 32) × (0 < records) × (records ≤ 4) }
+    requires places { table.now.places ≡ 32 }
 {
     pass.reserve(rounds)?;
-    let place = pass.number() % records * 8;
+    let place = records.place(pass.number());
     often(rt, table, &mut pass, place, rounds);
     Ok(())
 }
@@ -74,17 +106,17 @@ pub(crate) fn in_threads<R: Threads + Wait + Sync>(
     rt: &R,
     table: &InitTable<History>,
     passes: Vec<Pass<History>>,
-    records: usize,
+    records: &Records,
     rounds: usize,
 ) -> Result<(), AllocError>
     requires passes { AllByRecursion (IsReady table.now.id) passes.items }
-    requires records { (table.now.places ≡ 32) × (0 < records) × (records ≤ 4) }
+    requires places { table.now.places ≡ 32 }
 {
     let ends = thread::map_vec(
         rt,
         passes,
         &|pass: Pass<History>| -> Result<(), AllocError>
-            requires { IsReady table.now.id pass × (table.now.places ≡ 32) × (0 < records) × (records ≤ 4) }
+            requires { IsReady table.now.id pass × (table.now.places ≡ 32) }
         { rounds_of(rt, table, pass, records, rounds) },
     )?;
     for end in ends {

@@ -1,13 +1,15 @@
 //! What is timed, over all benchmarks.
 
+use crate::bench::beside::{self, Other};
 use crate::bench::files::Files;
-use crate::bench::harness::Failure;
+use crate::bench::harness::{self, Failure};
 use crate::bench::judging::{self, Story, Work};
 use crate::bench::link::{self, Shape};
 use crate::bench::looks::{self, Use};
 use crate::bench::reader::{self, Part};
+use crate::bench::rounds::Records;
 use crate::bench::threads::{self, Chains};
-use crate::bench::{bare, lock, needs, turns};
+use crate::bench::{bare, lock, merging, needs, passes, turns};
 use hierarchy::Program;
 use std::alloc::Global;
 use std::rt::Clock;
@@ -21,10 +23,20 @@ const MEAN_OF: usize = 20;
 pub(crate) enum Sample {
     /// Pushes of 24 bytes on a list.
     Pushes,
-    /// Rounds under the lock of so many threads, so many in each, on so many records, 1 to 4: a round.
-    Lock(usize, usize),
-    /// The same by the bare steps of a lock.
+    /// `fetch_add`s on a word of their own.
+    Adds,
+    /// Rounds under the lock of so many threads, so many in each, on these records: a round.
+    Lock(usize, Records),
+    /// So many rounds by the bare steps of a lock in each of so many threads, on so many locks, 1 to 4.
     Bare(usize, usize),
+    /// Passes of one settled place by so many threads, so many by each: a pass.
+    Passes(usize),
+    /// The same by the bare steps of a pass.
+    BarePasses(usize),
+    /// Passes of a settled place by one thread while another does this.
+    PassesBeside(Other),
+    /// Merging of sixteen journals with so many events each: an event.
+    Merge,
     /// Reading a file: a part of it, or a byte.
     Read(&'static Part),
     /// One pass over the bytes of that file: a byte.
@@ -74,8 +86,13 @@ impl Sample {
     ) -> Result<u128, Failure> {
         match self {
             Sample::Pushes => looks::push_time(rt, alloc, size),
-            Sample::Lock(threads, records) => lock::time(rt, alloc, *threads, *records, size),
+            Sample::Adds => harness::add_time(rt, size),
+            Sample::Lock(threads, records) => lock::time(rt, alloc, *threads, records, size),
             Sample::Bare(threads, records) => bare::time(rt, alloc, *threads, *records, size),
+            Sample::Passes(threads) => passes::time(rt, alloc, *threads, size),
+            Sample::BarePasses(threads) => bare::pass_time(rt, alloc, *threads, size),
+            Sample::PassesBeside(other) => beside::time(rt, alloc, other, size),
+            Sample::Merge => merging::time(rt, alloc, size),
             Sample::Read(part) => reader::time(rt, alloc, part, size),
             Sample::Pass(part) => reader::pass_time(rt, alloc, part, size),
             Sample::Link(shape) => link::time(rt, alloc, shape, size),
@@ -93,8 +110,17 @@ impl Sample {
         }
     }
 
+    /// Whether it is a contest, of which the least time is that of a lucky one.
+    pub(crate) fn is_contest(&self) -> bool {
+        match self {
+            Sample::Lock(..) | Sample::Bare(..) | Sample::PassesBeside(_) => true,
+            Sample::Passes(threads) | Sample::BarePasses(threads) => *threads > 1,
+            _ => false,
+        }
+    }
+
     // The same; for what several threads contend for, of which each time is another, the mean of some times, taken one after another
-    // after one that doesn't count: the least of single times is that of a lucky one.
+    // after one that doesn't count.
     fn mean_time<R: Clock + Threads + Wait + Sync>(
         &self,
         rt: &R,
@@ -103,7 +129,7 @@ impl Sample {
         size: usize,
     ) -> Result<u128, Failure> {
         let first = self.time_once(rt, alloc, program, size)?;
-        if !matches!(self, Sample::Lock(..) | Sample::Bare(..) | Sample::Run(_)) {
+        if !self.is_contest() && !matches!(self, Sample::Run(_)) {
             return Ok(first);
         }
         let mut sum: u128 = 0;

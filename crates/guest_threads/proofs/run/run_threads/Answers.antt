@@ -3,7 +3,7 @@ use Rattle.init_core.specs.declared.event.TheConstants.{THREADS}
 use Rattle.guest_threads.specs.AllWork.{PlanFacts, IsPlan}
 use Rattle.bodies.specs.Runs.{AreMains, IsRunOf}
 use Rattle.guest_threads.specs.Working.{IsTableOf}
-use Rattle.guest_threads.proofs.Joining.{none_kept, new_passes, new_count, jobs_may_work, jobs_numbers, are_back}
+use Rattle.guest_threads.proofs.Joining.{none_kept, new_passes, new_count, jobs_may_work, jobs_numbers, are_back, journal_count}
 use Rattle.guest_threads.proofs.run.run_threads.Goals as goal
 
 pub new-requires-clause-records : goal.new-requires-clause-records
@@ -41,7 +41,13 @@ pub returns : goal.returns
 returns g c =
     let k : PlanFacts = record { program = c.args.program.now; table = c.in_ok-table.table; mains = c.args.mains.now; limits = c.args.limits } in
     let plan = plan_of k c.requires.mains (c.in_ok-table.ensures.places ∙ c.in_ok-records.ensures.count) c.in_ok-table.ensures.threads in
+    let starts = map (λ j. j.bodies) c.in_ok-jobs.jobs.items in
+    let reports = c.in_ok-report.ensures.reports k starts refl plan c.in_ok-done.ensures.done in
     record {
-      ran = subst (λ (starts : List g.row.B.Denot). IsRunOf k.program (g.B.Bodies.making k.program) starts k.mains k.limits c.in_ok-report.field-0) c.in_ok-jobs.ensures.bodies
-          (c.in_ok-report.ensures.reports k (map (λ j. j.bodies) c.in_ok-jobs.jobs.items) refl plan c.in_ok-done.ensures.done).1;
+      merged = record {
+        journals = map (λ w. w.pass.journal) c.in_ok-done.done.items;
+        count = journal_count g.B.Bodies.making k starts c.in_ok-done.done.items c.in_ok-done.ensures.done;
+        merge = reports.0;
+      };
+      ran = subst (λ (starts : List g.row.B.Denot). IsRunOf k.program (g.B.Bodies.making k.program) starts k.mains k.limits c.in_ok-report.field-0) c.in_ok-jobs.ensures.bodies reports.1;
     }

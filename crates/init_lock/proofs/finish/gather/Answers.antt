@@ -16,7 +16,7 @@ join_seat-requires g c =
       ap (λ z. z.table) c.pass.view_is ∙ all_middle (λ p. p.table ≡ c.args.shared.now.table_id) c.loop-pass.yielded _ c.in-Some.pass (subst (AllByRecursion (λ p. p.table ≡ c.args.shared.now.table_id)) whole c.requires.table.2),
       carries_none _ _ _ _ _ _ c.pass.invariant (subst IsAway (ap (λ z. z.places) (sym c.pass.view_is)) (all_middle (λ p. IsAway p.places) c.loop-pass.yielded _ c.in-Some.pass (subst (AllByRecursion (λ p. IsAway p.places)) whole c.requires.away))),
       c.requires.table.1,
-      joins g.R.Keeps.kept g.R.Keeps.may_draw g.R.Keeps.follows g.R.Keeps.settles _ _ _ _ _,
+      joins g.R.Keeps.kept g.R.Keeps.may_draw g.R.Keeps.follows g.R.Keeps.settles g.R.Keeps.lawful g.R.Keeps.leans_on _ _ _ _ _,
     )
 
 pub loop-pass-preserved : goal.loop-pass-preserved

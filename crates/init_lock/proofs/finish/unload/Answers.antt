@@ -20,7 +20,7 @@ loop-place-preserved g c =
     let t = c.take.ensures.others in
     let p = c.in-Ok.ensures in
     let w = c.requires.full.1 in
-    let here = got_or (slots_items c.loop-place.closed.slots) c.loop-place.place c.take.result None c.take.ensures.value ∙ c.in-Some.is in (
+    let here = got_or (slots_items c.loop-place.closed.slots) c.loop-place.place c.take.result None c.take.ensures.value ∙ (sym c.into_block.ensures ∙ c.in-Some.is) in (
       t.0 ∙ i.0,
       t.2 ∙ i.1,
       p.len ∙ (let a = i.2 in omega arith),

@@ -19,7 +19,7 @@ loop-number-init g c =
     )
 
 pub split_seat-own-requires : goal.split_seat-own-requires
-split_seat-own-requires g c = let i = c.loop-number.invariant in (i.0 ∙ c.requires.table.0, c.requires.table.1, splits g.R.Keeps.kept g.R.Keeps.may_draw g.R.Keeps.follows g.R.Keeps.settles _ _ _)
+split_seat-own-requires g c = let i = c.loop-number.invariant in (i.0 ∙ c.requires.table.0, c.requires.table.1, splits g.R.Keeps.kept g.R.Keeps.may_draw g.R.Keeps.follows g.R.Keeps.settles g.R.Keeps.lawful g.R.Keeps.leans_on _ _ _)
 
 pub invariant_of-push : goal.invariant_of-push
 invariant_of-push g c =
@@ -29,7 +29,7 @@ invariant_of-push g c =
     let e = s.4 ∙ ap (λ z. (z, [])) d.0 in
     let slots = ap (λ z. z.slots) (s.3 ∙ (i.0 ∙ c.requires.table.0)) in
     let few = c.requires.few in
-    new_holds _ _ _ _ c.args.shared.now.key.records.value.items _ e (ap (λ j. j.events) c.new-in-loop-number.ensures ∙ c.new.ensures.events) (ap (λ j. j.room) c.new-in-loop-number.ensures ∙ c.new.ensures.room) (let l = c.loop-number-test.true in omega arith) (sym c.requires.slots ∙ sym slots)
+    new_holds _ _ _ _ c.args.shared.now.key.records.value.items _ e (ap (λ j. j.events) c.new-in-loop-number.ensures ∙ c.in_ok-new.ensures.events) (ap (λ j. j.room) c.new-in-loop-number.ensures ∙ c.in_ok-new.ensures.room) (let l = c.loop-number-test.true in omega arith) (sym c.requires.slots ∙ sym slots)
 
 pub loop-number-preserved : goal.loop-number-preserved
 loop-number-preserved g c =
@@ -44,7 +44,7 @@ loop-number-preserved g c =
       ap (λ z. map (λ p. p.number) z) p ∙ (map_snoc (λ p. p.number) c.loop-number.passes.items _ ∙ (ap (λ z. z ++ c.loop-number.number ∷ []) i.2 ∙ sym (numbers_snoc c.loop-number.number))),
       subst (λ z. AllByRecursion (IsNewPass c.args.shared.now.table_id rs) z) (sym p)
           (all_snoc (IsNewPass c.args.shared.now.table_id rs) c.loop-number.passes.items _ i.3
-          (is_new c.args.shared.now.table_id rs _ c.split_seat-own.result.me c.loop-number.number e (s.3 ∙ (i.0 ∙ c.requires.table.0)) (ap (λ j. j.events) c.new-in-loop-number.ensures ∙ c.new.ensures.events) (ap (λ j. j.room) c.new-in-loop-number.ensures ∙ c.new.ensures.room) refl refl refl)),
+          (is_new c.args.shared.now.table_id rs _ c.split_seat-own.result.me c.loop-number.number e (s.3 ∙ (i.0 ∙ c.requires.table.0)) (ap (λ j. j.events) c.new-in-loop-number.ensures ∙ c.in_ok-new.ensures.events) (ap (λ j. j.room) c.new-in-loop-number.ensures ∙ c.in_ok-new.ensures.room) refl refl refl)),
     )
 
 pub returns-clause-numbers : goal.returns-clause-numbers

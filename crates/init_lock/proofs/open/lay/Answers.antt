@@ -11,11 +11,11 @@ new-requires g c =
     let a = ap length c.in_ok-slots.ensures ∙ length_map Some c.args.records.items in
     let b = c.in_ok-words.ensures.len in
     let d = c.as_slice.ensures.len in
-    opens g.R.Keeps.kept g.R.Keeps.may_draw g.R.Keeps.follows g.R.Keeps.settles (record { threads = c.args.threads; records = c.of.result }) g.R.Keeps.follows_itself c.as_slice.result.now c.in_ok-slots.slots.items
-    (let e = a in omega arith) (zeros (c.len.result * 8 + 8) c.as_slice.result.now (c.as_slice.ensures.value ∙ (search rules))) (c.in_ok-slots.ensures ∙ ap (λ z. map Some z) (sym same)) (subst (λ z. AllByRecursion (λ r. g.R.Keeps.kept r ≡ []) z) (sym same) c.requires.records) c.requires.threads
+    opens g.R.Keeps.kept g.R.Keeps.may_draw g.R.Keeps.follows g.R.Keeps.settles g.R.Keeps.lawful g.R.Keeps.leans_on (record { threads = c.args.threads; records = c.of.result }) g.R.Keeps.follows_itself c.as_slice.result.now c.in_ok-slots.slots.items
+    (let e = a in omega arith) (zeros (c.len.result * 9 + 8) c.as_slice.result.now (c.as_slice.ensures.value ∙ (search rules))) (c.in_ok-slots.ensures ∙ ap (λ z. map Some z) (sym same)) (subst (λ z. AllByRecursion (λ r. g.R.Keeps.kept r ≡ []) z) (sym same) c.requires.records) c.requires.threads g.R.Keeps.lawful_at_first
 
 pub returns-in-Ok-clause-words : goal.returns-in-Ok-clause-words
-returns-in-Ok-clause-words g c = c.in-Ok.ensures.ok.0 ∙ (c.as_slice.ensures.len ∙ (c.in_ok-words.ensures.len ∙ ap (λ z. z * 8 + 8) c.len.ensures))
+returns-in-Ok-clause-words g c = c.in-Ok.ensures.ok.0 ∙ (c.as_slice.ensures.len ∙ (c.in_ok-words.ensures.len ∙ ap (λ z. z * 9 + 8) c.len.ensures))
 
 pub returns-in-Ok-clause-slots : goal.returns-in-Ok-clause-slots
 returns-in-Ok-clause-slots g c =

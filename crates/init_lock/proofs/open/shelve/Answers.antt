@@ -9,8 +9,8 @@ loop-record-preserved g c =
     let r = c.in-Some.record in (
       tt,
       tt,
-      c.in_ok-push.ensures.items ∙ (ap (λ z. z ++ Some c.in_ok-new.field-0 ∷ []) i.2
-          ∙ (ap (λ z. map Some rs ++ Some z ∷ []) c.in_ok-new.ensures ∙ sym (map_snoc Some rs r))),
+      c.in_ok-push.ensures.items ∙ (ap (λ z. c.loop-record.slots.items ++ z ∷ []) c.new-in-loop-record.ensures ∙ (ap (λ z. z ++ Some c.in_ok-block.block ∷ []) i.2
+          ∙ (ap (λ z. map Some rs ++ Some z ∷ []) c.in_ok-block.ensures ∙ sym (map_snoc Some rs r)))),
       append_assoc rs (r ∷ []) c.next.new.self.rest.items ∙ (ap (λ z. rs ++ z) (sym c.in-Some.ensures.steps.0) ∙ i.3),
     )
 

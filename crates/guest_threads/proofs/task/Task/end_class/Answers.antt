@@ -23,6 +23,9 @@ end-requires-clause-throwable g c = end_range _ _ c.args.work.now c.args.class c
 pub new-event-requires-clause-kind : goal.new-event-requires-clause-kind
 new-event-requires-clause-kind g c = subst IsInRange (sym c.kind.ensures) (end_range _ _ c.args.work.now c.args.class c.args.ending c.requires.next (working_at g.B.Bodies.making (sym c.self.view_is) c.requires.working))
 
+pub new-requires-clause-kind : goal.new-requires-clause-kind
+new-requires-clause-kind g c = subst IsInRange (sym c.kind-2.ensures) (end_range _ _ c.args.work.now c.args.class c.args.ending c.requires.next (working_at g.B.Bodies.making (sym c.self.view_is) c.requires.working))
+
 pub returns : goal.returns
 returns g c =
     let took = c.in-Ok.ensures.took in

@@ -1,9 +1,10 @@
-use Rattle.std.proofs.Common.{rules, ◌-◌, length, refl, sym, subst, ap, ◌∙◌, ◌++◌, ◌∷◌, [], List, append-nil, arith}
+use Rattle.std.proofs.Common.{rules, ◌≡◌, ◌-◌, refl, sym, subst, ap, ◌∙◌, ◌++◌, ◌∷◌, [], List, append-nil, arith}
 use Rattle.init_core.specs.declared.event.Event.{Event}
 use Rattle.init_core.specs.declared.event.Kind.{Kind}
 use Rattle.init_core.specs.Decisions.{event, kind_of}
 use Rattle.init_core.specs.Standing.{Standing}
 use Rattle.guest_threads.specs.declared.guarded.Guarded.{Guarded}
+use Rattle.guest_threads.specs.Tasks.{room_of}
 use Rattle.guest_threads.specs.Working.{Working, drawn}
 use Rattle.bodies.proofs.Asking.{looks_at, in_files}
 use Rattle.guest_threads.proofs.Passing.{roomier}
@@ -31,7 +32,7 @@ returns-then-waits_again-clause-working g c = working_at g.B.Bodies.making c.sel
     looked _ _ c.args.work.now c.look_at-told.new.self c.args.work.now.slack c.args.class c.take_record-taken.new.pass c.give_back_asleep.new.pass c.in-Ok.held c.in-Ok.held.place c.in-Ok-told.decision c.kept.result.now.record c.look_at-told.new.class_record.events
     c.requires.next took.place took (ap (λ (x : Guarded). x.record) c.kept.ensures.record) e.decision e.standing e.events c.give_back_asleep.ensures.back
     (ap drawn c.give_back_asleep.ensures.journal ∙ (sym (append-nil (drawn c.take_record-taken.new.pass.journal)) ∙ ap (λ (es : List Event). drawn c.take_record-taken.new.pass.journal ++ es) (sym none)))
-    (λ few. let n = ap length none in let r = (working_at g.B.Bodies.making (sym c.self.view_is) c.requires.working).room in let s = took.room in let t = c.give_back_asleep.ensures.room in omega arith) (working_at g.B.Bodies.making (sym c.self.view_is) c.requires.working))
+    (λ few. let n : room_of c.in-Ok-told.decision ≡ 1 = ap room_of (c.if-waits_again.ensures.yes refl) in let r = (working_at g.B.Bodies.making (sym c.self.view_is) c.requires.working).room in let s = took.room in let t = c.give_back_asleep.ensures.room in omega arith) (working_at g.B.Bodies.making (sym c.self.view_is) c.requires.working))
 
 pub give_back_with-requires-clause-back : goal.give_back_with-requires-clause-back
 give_back_with-requires-clause-back g c =
@@ -46,10 +47,10 @@ pub returns-clause-working : goal.returns-clause-working
 returns-clause-working g c = working_at g.B.Bodies.making c.self.view_is (let took = c.in-Ok.ensures.took in
     let e = c.in-Ok-told.ensures in
     let once = entered_once c.self.inside.number c.args.class c.in-Ok-told.decision (c.if-waits_again.ensures.no refl) in
-    looked _ _ c.args.work.now c.look_at-told.new.self (c.args.work.now.slack - 2) c.args.class c.take_record-taken.new.pass c.give_back_with.new.pass c.in-Ok.held c.in-Ok.held.place c.in-Ok-told.decision c.kept.result.now.record c.look_at-told.new.class_record.events
+    looked _ _ c.args.work.now c.look_at-told.new.self (c.args.work.now.slack - c.room_of.result) c.args.class c.take_record-taken.new.pass c.give_back_with.new.pass c.in-Ok.held c.in-Ok.held.place c.in-Ok-told.decision c.kept.result.now.record c.look_at-told.new.class_record.events
     c.requires.next took.place took (ap (λ (x : Guarded). x.record) c.kept.ensures.record) e.decision e.standing e.events c.give_back_with.ensures.back
     (c.give_back_with.ensures.journal ∙ (ap (λ (x : Event). drawn c.take_record-taken.new.pass.journal ++ x ∷ []) (c.new-event.ensures ∙ ap (λ (j : Kind). event c.self.inside.number c.args.class j) c.kind.ensures) ∙ ap (λ (es : List Event). drawn c.take_record-taken.new.pass.journal ++ es) (sym once)))
-    (λ few. let n = ap length once in let r = (working_at g.B.Bodies.making (sym c.self.view_is) c.requires.working).room in let s = took.room in let t = c.give_back_with.ensures.room in let u = c.requires.room in omega arith) (working_at g.B.Bodies.making (sym c.self.view_is) c.requires.working))
+    (λ few. let n = c.room_of.ensures.room in let m = c.room_of.ensures.few in let r = (working_at g.B.Bodies.making (sym c.self.view_is) c.requires.working).room in let s = took.room in let t = c.give_back_with.ensures.room in let u = c.requires.room in omega arith) (working_at g.B.Bodies.making (sym c.self.view_is) c.requires.working))
 
 pub returns-then-waits_again-clause-waits : goal.returns-then-waits_again-clause-waits
 returns-then-waits_again-clause-waits g c = λ e. record {

@@ -11,7 +11,7 @@ try_once-requires-clause-place g c = c.requires.place
 
 pub returns-in-Some-try_once-clause-taken : goal.returns-in-Some-try_once-clause-taken
 returns-in-Some-try_once-clause-taken g c =
-    taken_later g.R.Keeps.kept g.R.Keeps.may_draw g.R.Keeps.follows c.loop.invariant.0 c.in-Some-try_once.ensures.taken
+    taken_later g.R.Keeps.kept g.R.Keeps.may_draw g.R.Keeps.settles g.R.Keeps.follows c.loop.invariant.0 c.in-Some-try_once.ensures.taken
 
 pub returns-in-Some-try_once-clause-misses : goal.returns-in-Some-try_once-clause-misses
 returns-in-Some-try_once-clause-misses g c =

@@ -4,6 +4,7 @@ use Rattle.crossbeam_utils.specs.Padded.{padded_value}
 use Rattle.init_lock.specs.Known.{looks_of, opening_of, view_of_pass}
 use Rattle.init_lock.specs.Rule.{Each, place_view}
 use Rattle.init_lock.specs.Steps.{Found, PassHolds, modify, custody_beside, took}
+use Rattle.init_lock.proofs.Logs.{settled_on}
 use Rattle.init_lock.proofs.Passes.{taken, found_free}
 use Rattle.init_lock.proofs.Places.{others_same, took_away}
 use Rattle.init_lock.proofs.table.InitTable.try_take.Goals as goal
@@ -27,6 +28,7 @@ returns-clause-taken g c =
       free = f.free;
       grew = f.grew;
       own = f.own;
+      still_settled = settled_on g.R.Keeps.settles g.R.Keeps.may_draw _ _ _ _ f.grew;
       follows_last = f.last;
       follows_opening = f.opening;
       seen = t.seen;

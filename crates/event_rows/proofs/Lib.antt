@@ -1,0 +1,4 @@
+pub mod RowsInColumns
+pub mod Laying
+pub mod Lists
+pub mod Texts

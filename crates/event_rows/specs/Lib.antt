@@ -1,0 +1,5 @@
+pub mod Blocks
+pub mod Columns
+pub mod Laid
+pub mod Rows
+pub mod WordList
