@@ -4,3 +4,9 @@
 test:
 	@gate/edits_fit
 	@python3 gate/run.py $(FLAGS)
+
+# Puts into dist/ what can be installed: a tarball, a Debian package and the built libraries. The program is built first where it isn't.
+.PHONY: package
+package:
+	@./jinit --version > /dev/null
+	@package/make

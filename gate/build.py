@@ -59,36 +59,41 @@ def along_the_graph():
     held = rtlib.lock(crates)
     done = []
     is_new = not any(it.has_kept() for it in crates)
-
-    def is_built(crate):
-        """Whether the crate is built, and after all that it stands on: statements fit no later build of the crates below."""
-        built = [os.path.getmtime(f"{it.folder}/out/rlib/stamp") for it in [*crate.below(), crate] if it.is_built()]
-        return crate.is_built() and built[-1] == max(built)
-
+    stamps = kit.stamps(crates)
+    made = {it.name: os.path.getmtime(kit.stamp_file(it)) for it in crates if kit.is_built(rt, it, stamps[it.name])}
+    # What is built, and after all that it stands on, which is kept too: statements fit no later build of the crates below.
     kept = set()
     for it in crates:
-        if not it.is_program and kept.issuperset(below.name for below in it.below()) and is_built(it):
+        below = {one.name for one in it.below()}
+        if it.name in made and below <= kept and made[it.name] >= max((made[one] for one in below), default=0):
             kept.add(it.name)
+
+    def prove(crate, flags):
+        if not crate.is_program:
+            return crate.build_rlib(flags, anew=False)
+        program = f"out/{crate.name}"
+        status = crate.compile(flags, f"{program}.o") or crate.link(f"{program}.o", program)
+        if not status and kit.stamps(crates) == stamps:
+            with open(kit.stamp_file(crate), "w", encoding="utf-8") as it:
+                it.write(kit.stamp_of_program(rt, crate, stamps[crate.name]))
+        return status
 
     def build(crate, jobs):
         crate = copy.copy(crate)
-        if not crate.is_program and crate.name not in kept:
-            shutil.rmtree(f"{crate.folder}/out/rlib", ignore_errors=True)
-        if is_new:
-            # (of a library only its statements are built, which are loaded sooner than its proofs. With several jobs a proof from nothing
-            # takes up to a quarter less time where nothing is kept of its parts. The program comes last, when no library is built any more)
-            rtlib.KEPT = [] if crate.is_program else ["--statements"]
         start = time.time()
         log = f"{crate.folder}/out/build.log"
-        os.makedirs(os.path.dirname(log), exist_ok=True)
-        with open(log, "w", errors="replace") as crate.out:
-            flags = ["--jobs", str(jobs)]
+        if crate.name not in kept:
             if not crate.is_program:
-                status = crate.build_rlib(flags, anew=False)
-            else:
-                status = crate.compile(flags, "out/jinit.o") or crate.link("out/jinit.o", "out/jinit")
-        if status:
-            stop(crate.name, log)
+                shutil.rmtree(f"{crate.folder}/out/rlib", ignore_errors=True)
+            if is_new:
+                # (of a library only its statements are built, which are loaded sooner than its proofs. With several jobs a proof from nothing
+                # takes up to a quarter less time where nothing is kept of its parts. The program comes last, when no library is built any more)
+                rtlib.KEPT = [] if crate.is_program else ["--statements"]
+            os.makedirs(os.path.dirname(log), exist_ok=True)
+            with open(log, "w", errors="replace") as crate.out:
+                status = prove(crate, ["--jobs", str(jobs)])
+            if status:
+                stop(crate.name, log)
         done.append(crate.name)
         how = "was built before" if crate.name in kept else f"is proved and built in {time.time() - start:.0f} s"
         say(f"{len(done)} of {len(crates)}: {crate.name} {how}, {time.time() - began:.0f} s so far")

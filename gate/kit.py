@@ -51,3 +51,31 @@ def lanes(rt):
     """How many processors there are to use, and how much memory."""
     fixed = os.environ.get("RT_JOBS", "")
     return int(fixed) if fixed.isdigit() and int(fixed) else rt.processors(), 0.85 * rt.free()
+
+
+def stamps(crates):
+    """By name what `stamp()` answers for each of these crates, which come after those that they stand on. (The kit's own takes the stamps of
+    all crates below anew for each crate, which here takes many seconds.)"""
+    found = {}
+    for it in crates:
+        found[it.name] = it.stamp()
+        it.stamp = functools.partial(str, found[it.name])
+    for it in crates:
+        del it.stamp
+    return found
+
+
+def is_built(rt, crate, stamp):
+    """Whether the crate was proved and built from the sources that have this stamp; of the program, whether the file is the one that was."""
+    if not crate.is_program:
+        return os.path.isdir(crate.rlib) and rt.rtlib.text_of(stamp_file(crate)) == stamp
+    return rt.rtlib.text_of(stamp_file(crate)) == stamp_of_program(rt, crate, stamp)
+
+
+def stamp_file(crate):
+    """The file that says from what the crate was built, which the kit's script reads too."""
+    return f"{crate.folder}/out/{crate.name}.stamp" if crate.is_program else f"{crate.folder}/out/rlib/stamp"
+
+
+def stamp_of_program(rt, crate, stamp):
+    return stamp + rt.rtlib.sum_of(f"{crate.folder}/out/{crate.name}")

@@ -101,8 +101,13 @@ class Gate:
                 if self.out is not sys.stdout:
                     self.out.flush()
                     self.out.seek(0)
-                    found = re.findall(rf"^fn ({self.name}::\S+):", self.out.read(), re.M)
+                    said = self.out.read()
+                    found = re.findall(rf"^fn ({self.name}::\S+):", said, re.M)
                     gate.functions.setdefault(self.name, set()).update(found)
+                    if not status and "--test" not in commands[0]:
+                        # (what a package says of the crate; the store keeps it with what was built)
+                        with open(f"{self.folder}/out/verdict", "w", encoding="utf-8") as it:
+                            it.write("".join(f"{line}\n" for line in re.findall(r"^logic=proved .*$", said, re.M)[-1:]))
                 return status
 
             def ci(self, flags, tests):

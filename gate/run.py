@@ -88,12 +88,20 @@ def main(words):
     cases_of(tally)
     if os.path.isfile(CASES):
         counted(tally, "cases", ["tests/archives/run", "--cases", CASES])
+        if shutil.which("cc"):
+            counted(tally, "calls", ["tests/refuse_memory/calls"])
     if os.path.isfile(PROGRAM):
         counted(tally, "archives", ["tests/archives/run", PROGRAM])
+        if kit.version() in kit.KNOWN:
+            counted(tally, "package", ["package/test", PROGRAM])
+        seed = str(int(time.time()))
+        say(f"damages: seed {seed}")
+        counted(tally, "damages", ["tests/archives/damage.py", "--seed", seed])
         counted(tally, "threads", ["tests/threads/run"])
         counted(tally, "random", ["tests/code/run", RANDOM_RUNS])
         if shutil.which("cc"):
             counted(tally, "memory", ["tests/refuse_memory/run"])
+            counted(tally, "traces", ["tests/refuse_memory/traces"])
         if shutil.which("java") and shutil.which("javac"):
             counted(tally, "HotSpot", ["tests/java/run", COMPARED_RUNS])
     return tally.show()

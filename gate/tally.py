@@ -4,7 +4,7 @@ import sys
 import threading
 import time
 
-KINDS = "proofs tests edits programs cases archives threads random memory HotSpot".split()
+KINDS = "proofs tests edits programs cases calls archives package damages threads random memory traces HotSpot".split()
 BEGAN = time.time()
 
 

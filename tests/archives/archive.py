@@ -8,6 +8,7 @@ import os
 import re
 import subprocess
 import tempfile
+from dataclasses import dataclass
 from pathlib import Path
 
 TOP = Path(__file__).resolve().parents[2]
@@ -72,17 +73,39 @@ def quoted(content):
     return text if not text or text.endswith("\n") else text + "«»\n"
 
 
+@dataclass
+class Page:
+    """What the README.md of an example shows: its first command, and what comes of it."""
+
+    words: list
+    printed: str
+    said: str
+    status: int
+
+
+def page_of(folder):
+    """The page of a folder of examples/: the first block has the command and what it prints; a block after the line 'Standard error has:' has
+    that, and where there is none it is empty; the first 'its status is' has the exit status."""
+    text = (folder / "README.md").read_text()
+    command, printed = re.search(r"^```\n\./(jinit .*)\n((?:.*\n)*?)```$", text, re.MULTILINE).groups()
+    said = re.search(r"^Standard error has:\n\n```\n((?:.*\n)*?)```$", text, re.MULTILINE)
+    status = re.search(r"\b[Ii]ts status is ([0-9]+)\b", text)
+    return Page(command.split(), printed, said[1] if said else "", int(status[1]))
+
+
 def example_text(folder):
-    """The archive of a folder of examples/: the command of its page with what it prints, its files and its trace."""
-    page = (folder / "README.md").read_text()
-    command, printed = re.search(r"^```\n\./(jinit .*\n)((?:.*\n)*?)```$", page, re.MULTILINE).groups()
-    parts = [("command", command.encode())]
-    for word in command.split():
-        if word.endswith(".j"):
-            parts.append((f"file {word}", (TOP / word).read_bytes()))
-    parts.append(("stdout", printed.encode()))
-    for trace in sorted(folder.glob("*.trace")):
-        parts.append((f"left {trace.name}", trace.read_bytes()))
+    """The archive of a folder of examples/: the command of its page with what comes of it, the files that it names and the trace that it writes."""
+    page = page_of(folder)
+    named = [word for word in page.words if word.startswith("examples/")]
+    written = [trace for trace in sorted(folder.glob("*.trace")) if f"examples/{folder.name}/{trace.name}" not in named]
+    parts = [
+        ("command", f"{' '.join(page.words)}\n".encode()),
+        *((f"file {word}", (TOP / word).read_bytes()) for word in named),
+        ("stdout", page.printed.encode()),
+        ("stderr", page.said.encode()),
+        ("status", f"{page.status}\n".encode()),
+        *((f"left {trace.name}", trace.read_bytes()) for trace in written),
+    ]
     bodies = [f"-- {head} --\n{quoted(content)}" for head, content in parts]
     return "".join([f"examples/{folder.name}/README.md says what this case shows.\n", *bodies]).encode()
 
@@ -101,7 +124,7 @@ def all_paths():
 
 
 def paths_of_program():
-    """The archives that only the built program can run."""
+    """The archives that the built program alone runs."""
     return sorted(Path(__file__).resolve().parent.glob("*.txtar"))
 
 

@@ -11,7 +11,7 @@ import instructions
 from arithmetic import JUMPS, SWITCHES, narrowed
 from hierarchy import Program
 from machine import Machine, Thrown
-from objects import NULL, OUT, Reference
+from objects import NO_CLASS, NULL, OUT, Reference
 from program import INTS, LIBRARY, STREAM, Class, Field, Method, Refused, signature
 
 sys.setrecursionlimit(100_000)
@@ -144,6 +144,12 @@ class Watched(Machine):
             return is_held
 
         self.heap.enter, self.heap.exit = count_enter, count_exit
+
+    def step(self, frame):
+        word = frame.method.code[frame.place][0] if frame.place < len(frame.method.code) else ""
+        if word.startswith("if_acmp") and frame.stack[-2:] == [NO_CLASS, NO_CLASS]:
+            self.notes.add("two NoClassDefFoundErrors that are compared")
+        return super().step(frame)
 
     def catch(self, frame, error):
         for class_name, first, last, _ in frame.method.handlers:

@@ -22,7 +22,7 @@ const NO_MEMORY: ReadFault = ReadFault {
 
 /// Adds a fault of a file in the Jasmin form, with its line.
 pub(crate) fn push_fault(text: &mut Text, fault: ReadFault) {
-    text.show(&fault.kind);
+    text.show_code(&fault.kind);
     text.push(b" in line ");
     text.show(&fault.line);
 }
@@ -37,7 +37,7 @@ pub(crate) fn push_linked(text: &mut Text, linked: &Result<Program, LinkFault>) 
         }
         Err(fault) => {
             text.push(b"refused: ");
-            text.show(&fault.kind);
+            text.show_code(&fault.kind);
             text.push(b" ");
             text.push(fault.class.as_slice());
         }

@@ -1,6 +1,7 @@
 //! Judges the cases of files: `cases FILE..`. See [`archive`] for their form. A file's folder says what its cases
 //! are: files in the Jasmin form (`jasmin`), classes (`classes`), traces (`traces`), and a file `NAME.txtar` is a
-//! whole command line with its files (`programs`). `cases bench NAME` measures times ([`bench`]).
+//! whole command line with its files (`programs`). `cases bench NAME` measures times ([`bench`]), and `cases call NAME ..` makes
+//! one call of a library ([`calls`]).
 //!
 //! The number of cases of each file, and each case that failed, is reported on standard output. The exit status is 0
 //! where all files could be read and all cases passed, else 1.
@@ -11,6 +12,7 @@
 
 mod archive;
 mod bench;
+mod calls;
 mod classes;
 mod classes_fields;
 mod classes_hierarchy;
@@ -125,6 +127,9 @@ fn answer<R: Files + Alloc + Clock + Print + Eprint + Threads + Wait + Sync>(
     match args {
         [_, word, name, details @ ..] if word.as_str() == "bench" => {
             bench::answer(rt, alloc, benchmarks, name.as_str(), details)
+        }
+        [_, word, name, files @ ..] if word.as_str() == "call" => {
+            calls::answer(rt, alloc, name.as_str(), files)
         }
         _ => judge_all(rt, alloc, args, benchmarks),
     }

@@ -44,6 +44,19 @@ impl Text {
             self.is_refused = true;
         }
     }
+
+    /// Adds the code of a kind of fault, as `J5`: what it is shown as, up to a colon.
+    pub(crate) fn show_code(&mut self, kind: &impl fmt::Display) {
+        let mut shown = Text::new(*self.bytes.allocator());
+        shown.show(kind);
+        for byte in &shown.bytes {
+            if *byte == b':' {
+                break;
+            }
+            self.push(&[*byte]);
+        }
+        self.is_refused = self.is_refused || shown.is_refused;
+    }
 }
 
 impl fmt::Write for Text {

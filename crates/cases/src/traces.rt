@@ -54,7 +54,7 @@ fn judge_case(
     match read_trace(alloc, program, setting.threads, text) {
         Ok(events) => push_read(alloc, &mut report.came, program, &events, text),
         Err(fault) => {
-            report.came.show(&fault.kind);
+            report.came.show_code(&fault.kind);
             report.came.push(b" in line ");
             report.came.show(&fault.line);
         }

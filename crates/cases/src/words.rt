@@ -31,7 +31,7 @@ fn push_token(list: &mut Text, token: &Token<'_>) {
         }
         Token::BadText(kind) => {
             list.push(b"bad string ");
-            list.show(kind);
+            list.show_code(kind);
         }
     }
     list.push(b"\n");

@@ -28,5 +28,5 @@ nothing (Some xs) (Some ys) appended = appended ∙ append-nil xs
 pub quiet : (before after : Surroundings) (errors errors_after : Option (List ℕ)) (request : Request) → IsServed before after errors errors_after request 0 → Keeps errors errors_after
 quiet before after errors errors_after (run words) done = nothing errors errors_after (subst (Appends errors errors_after) (silent done.program 0 done.report.outcomes (none_by (list_any is_abrupt done.report.outcomes) done.ended)) done.told)
 quiet before after errors errors_after (check words) done = done.quiet
-quiet before after errors errors_after (needs files) done = done.1
+quiet before after errors errors_after (needs words) done = done.1
 quiet before after errors errors_after unfit done = absurd done

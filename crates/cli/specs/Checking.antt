@@ -2,6 +2,7 @@
 use Rattle.std.specs.Prelude.{◌≡◌, ◌+◌, ◌++◌, ℕ, Bool, false, List, [], Option, Some, None, Err, codes, decimal, length, take}
 use Rattle.std.specs.Borrow.{Bor}
 use Rattle.hierarchy.specs.declared.class.ClassId.{ClassId}
+use Rattle.hierarchy.specs.declared.edition.Edition.{Edition}
 use Rattle.hierarchy.specs.LinkedProgram.{LinkedProgram}
 use Rattle.init_core.specs.declared.event.Event.{Event}
 use Rattle.judge.specs.declared.verdict.Rule.{Rule}
@@ -30,9 +31,9 @@ pub record IsJudgedOf (known : Option Files) (p : LinkedProgram) (mains : Option
   pub traced : TraceHolds known trace p (length classes) events
   pub judged : IsVerdict p classes events verdict
 
--- and the program is linked from the classes that the files spell
-pub record IsJudged (known : Option Files) (files : List (List ℕ)) (mains : Option (List ℕ)) (trace : List ℕ) (p : LinkedProgram) (classes : List ClassId) (events : List Event) (verdict : Verdict) : Type 0 where
-  pub linked : IsLinkedFrom known files p
+-- and the program is linked from the classes that the files spell, in this edition
+pub record IsJudged (known : Option Files) (files : List (List ℕ)) (edition : Edition) (mains : Option (List ℕ)) (trace : List ℕ) (p : LinkedProgram) (classes : List ClassId) (events : List Event) (verdict : Verdict) : Type 0 where
+  pub linked : IsLinkedFrom known files edition p
   pub of_program : IsJudgedOf known p mains trace classes events verdict
 
 -- Why a file's trace isn't had: the file can't be had, or has this fault as its first, of which what lies further than a byte
@@ -49,10 +50,10 @@ pub data IsJudgeRefusal (known : Option Files) (p : LinkedProgram) (mains : Opti
   no_trace : {classes : List ClassId} {f : Fault} → mains_in p mains ≡ Some classes → IsTraceRefusal known trace p (length classes) f → IsJudgeRefusal known p mains trace f
   no_memory : IsJudgeRefusal known p mains trace fault.Memory
 
--- the same, where the program comes from files
-pub data IsCheckRefusal (known : Option Files) (files : List (List ℕ)) (mains : Option (List ℕ)) (trace : List ℕ) : Fault → Type 0 where
-  no_program : {f : Fault} → AreUnlinked known files f → IsCheckRefusal known files mains trace f
-  not_judged : {p : LinkedProgram} {f : Fault} → IsLinkedFrom known files p → IsJudgeRefusal known p mains trace f → IsCheckRefusal known files mains trace f
+-- the same, where the program comes from files, in this edition
+pub data IsCheckRefusal (known : Option Files) (files : List (List ℕ)) (edition : Edition) (mains : Option (List ℕ)) (trace : List ℕ) : Fault → Type 0 where
+  no_program : {f : Fault} → AreUnlinked known files f → IsCheckRefusal known files edition mains trace f
+  not_judged : {p : LinkedProgram} {f : Fault} → IsLinkedFrom known files edition p → IsJudgeRefusal known p mains trace f → IsCheckRefusal known files edition mains trace f
 
 abbrev pub rule_text : Rule → List ℕ
 rule_text Word = codes "word"

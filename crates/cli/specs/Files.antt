@@ -4,7 +4,8 @@ use Rattle.std.specs.List.{AllZip}
 use Rattle.jasmin_text.specs.Grammar.{Spells}
 use Rattle.jasmin_text.specs.declared.class_text.ClassParts.{ClassParts}
 use Rattle.jasmin_text.specs.Lines.{lines_of}
-use Rattle.hierarchy.specs.FirstFault.{LinksTo}
+use Rattle.hierarchy.specs.declared.edition.Edition.{Edition}
+use Rattle.hierarchy.specs.FirstFault.{LinksAs}
 use Rattle.hierarchy.specs.LinkedProgram.{LinkedProgram}
 use Rattle.cli.specs.declared.files.TheConstants.{MOST_BYTES, MOST_FILES}
 
@@ -35,8 +36,8 @@ pub record AreClassesOf (known : Option Files) (files : List (List ℕ)) (texts 
   pub few : length files ≤ MOST_FILES
   pub spelled : AreSpelled known files texts
 
--- the program is linked from the classes of the files
-pub record IsLinkedFrom (known : Option Files) (files : List (List ℕ)) (program : LinkedProgram) : Type 0 where
+-- the program is linked from the classes of the files, in this edition
+pub record IsLinkedFrom (known : Option Files) (files : List (List ℕ)) (edition : Edition) (program : LinkedProgram) : Type 0 where
   pub texts : List ClassParts
   pub classes : AreClassesOf known files texts
-  pub linked : LinksTo texts program
+  pub linked : LinksAs edition texts program

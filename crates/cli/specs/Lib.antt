@@ -5,6 +5,7 @@ pub mod Files
 pub mod NeedsText
 pub mod Limits
 pub mod Orders
+pub mod Editions
 pub mod FaultText
 pub mod ReadRefusals
 pub mod Outcomes

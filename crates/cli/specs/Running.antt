@@ -2,8 +2,9 @@
 use Rattle.std.specs.Prelude.{◌≡◌, ℕ, zero, suc, Bool, true, false, ◌++◌, List, [], ◌∷◌, Option, Some, None, if◌then◌else◌, length, nat_eq, nat_lt, option_and_then}
 use Rattle.jasmin_text.specs.declared.class_text.ClassParts.{ClassParts}
 use Rattle.hierarchy.specs.declared.class.ClassId.{ClassId}
+use Rattle.hierarchy.specs.declared.edition.Edition.{Edition}
 use Rattle.hierarchy.specs.declared.fault.LinkFault.{LinkFault}
-use Rattle.hierarchy.specs.FirstFault.{IsFirstFault, LinksTo}
+use Rattle.hierarchy.specs.FirstFault.{IsFirstFault, LinksAs}
 use Rattle.hierarchy.specs.LinkedProgram.{LinkedProgram, class_named}
 use Rattle.bodies.specs.declared.report.Limits.{Limits}
 use Rattle.bodies.specs.declared.report.Report.{Report}
@@ -91,7 +92,7 @@ pub data IsRunRefusal (p : LinkedProgram) (mains : Option (List ℕ)) (order : O
   no_thread : {classes : List ClassId} → mains_in p mains ≡ Some classes → order ≡ None → IsRunRefusal p mains order Threads
   no_memory : IsRunRefusal p mains order Memory
 
--- why class texts, a text of `--mains` and an order aren't run: the first fault, in this order, or being out of memory or of threads
-pub data IsRefusal (texts : List ClassParts) (mains : Option (List ℕ)) (order : Option (List ℕ)) : Fault → Type 0 where
-  unlinked : {f : Fault} → IsLinkRefusal texts f → IsRefusal texts mains order f
-  not_run : {p : LinkedProgram} {f : Fault} → LinksTo texts p → IsRunRefusal p mains order f → IsRefusal texts mains order f
+-- why class texts, in an edition, a text of `--mains` and an order aren't run: the first fault, in this order, or being out of memory or of threads
+pub data IsRefusal (texts : List ClassParts) (edition : Edition) (mains : Option (List ℕ)) (order : Option (List ℕ)) : Fault → Type 0 where
+  unlinked : {f : Fault} → IsLinkRefusal texts f → IsRefusal texts edition mains order f
+  not_run : {p : LinkedProgram} {f : Fault} → LinksAs edition texts p → IsRunRefusal p mains order f → IsRefusal texts edition mains order f

@@ -4,7 +4,8 @@ use Rattle.std.specs.Io.KnownBytes.{Appends, Keeps}
 use Rattle.clap.specs.Words.{IsAmong, Text}
 use Rattle.clap.specs.declared.error.kind.ErrorKind.TheVariants.{DisplayHelp, DisplayVersion}
 use Rattle.jasmin_text.specs.declared.class_text.ClassParts.{ClassParts}
-use Rattle.hierarchy.specs.FirstFault.{LinksTo}
+use Rattle.hierarchy.specs.declared.edition.Edition.{Edition}
+use Rattle.hierarchy.specs.FirstFault.{LinksAs}
 use Rattle.hierarchy.specs.LinkedProgram.{LinkedProgram}
 use Rattle.trace.specs.TraceText.{trace_of}
 use Rattle.bodies.specs.declared.report.Limits.{Limits}
@@ -13,7 +14,8 @@ use Rattle.hierarchy.specs.declared.class.ClassId.{ClassId}
 use Rattle.init_core.specs.declared.event.Event.{Event}
 use Rattle.judge.specs.declared.verdict.Verdict.{Verdict}
 use Rattle.cli.specs.Checking.{IsJudged, TellsVerdict, status_by}
-use Rattle.command_line.specs.CommandLine.{CheckWords, Request, RunWords, check, faults_in, needs, request_in, run, unfit}
+use Rattle.command_line.specs.CommandLine.{CheckWords, NeedsWords, Request, RunWords, check, faults_in, needs, request_in, run, unfit}
+use Rattle.cli.specs.Editions.{edition_in}
 use Rattle.cli.specs.Files.{AreClassesOf, FileHolds, Files, KeepsAllBut}
 use Rattle.cli.specs.Limits.{AreLimits}
 use Rattle.cli.specs.NeedsText.{needs_text}
@@ -34,7 +36,7 @@ pub record HasWritten (before after : Surroundings) (trace : Option Text) (progr
   pub output : Appends before.output after.output report.output
   pub traced : IfSome trace (λ name. FileHolds after.files name (λ bytes. bytes ≡ trace_of program report.events))
 
--- The classes that the files spell were linked, and the main classes were run, in the order and within the limits that are said. The output is
+-- The classes that the files spell were linked, in the edition that is said, and the main classes were run, in the order and within the limits. The output is
 -- that of the run, the trace file, where one is asked for, holds its trace, and standard error, known before and after, and the
 -- status tell how the threads ended.
 pub record HasRun (before after : Surroundings) (errors errors_after : Option (List ℕ)) (words : RunWords) (status : ℕ) : Type 0 where
@@ -42,9 +44,11 @@ pub record HasRun (before after : Surroundings) (errors errors_after : Option (L
   pub program : LinkedProgram
   pub order : Option (List ℕ)
   pub limits : Limits
+  pub edition : Edition
   pub report : Report
   pub classes : AreClassesOf before.files words.files texts
-  pub linked : LinksTo texts program
+  pub edition_said : edition_in words.edition ≡ Some edition
+  pub linked : LinksAs edition texts program
   pub ordered : order_in words.mains words.order ≡ Some order
   pub said : AreLimits words.steps words.patience limits
   pub ran : IsRunOfNamed words.mains order limits program report
@@ -52,24 +56,28 @@ pub record HasRun (before after : Surroundings) (errors errors_after : Option (L
   pub told : Appends errors errors_after (outcomes_text program report.outcomes)
   pub ended : status ≡ status_after report.outcomes
 
--- the classes that the files spell were linked, and what each needs was written
-pub record HasToldNeeds (before after : Surroundings) (files : List Text) : Type 0 where
+-- the classes that the files spell were linked, in the edition that is said, and what each needs was written
+pub record HasToldNeeds (before after : Surroundings) (words : NeedsWords) : Type 0 where
   pub texts : List ClassParts
+  pub edition : Edition
   pub program : LinkedProgram
-  pub classes : AreClassesOf before.files files texts
-  pub linked : LinksTo texts program
+  pub classes : AreClassesOf before.files words.files texts
+  pub edition_said : edition_in words.edition ≡ Some edition
+  pub linked : LinksAs edition texts program
   pub output : Appends before.output after.output (needs_text program)
 
 -- the verdict was written, and where it is to be explained further words
 abbrev pub HasToldVerdict : Option (List ℕ) → Option (List ℕ) → Verdict → Bool → Type 0
 HasToldVerdict before after v explains = (text : List ℕ) × TellsVerdict v explains text × Appends before after text
 
--- the trace was judged against the classes that the files spell, and the verdict was written
+-- the trace was judged against the classes that the files spell, in the edition that is said, and the verdict was written
 pub record IsToldVerdict (before after : Surroundings) (words : CheckWords) (verdict : Verdict) : Type 0 where
+  pub edition : Edition
   pub program : LinkedProgram
   pub classes : List ClassId
   pub events : List Event
-  pub judged : IsJudged before.files words.files words.mains words.trace program classes events verdict
+  pub edition_said : edition_in words.edition ≡ Some edition
+  pub judged : IsJudged before.files words.files edition words.mains words.trace program classes events verdict
   pub told : HasToldVerdict before.output after.output verdict words.explains
 
 -- so it was, with nothing on standard error, and the status tells the verdict too
@@ -83,7 +91,7 @@ pub record HasChecked (before after : Surroundings) (errors errors_after : Optio
 abbrev pub IsServed : Surroundings → Surroundings → Option (List ℕ) → Option (List ℕ) → Request → ℕ → Type 0
 IsServed before after errors errors_after (run words) status = HasRun before after errors errors_after words status
 IsServed before after errors errors_after (check words) status = HasChecked before after errors errors_after words status
-IsServed before after errors errors_after (needs files) status = (status ≡ 0) × Keeps errors errors_after × HasToldNeeds before after files
+IsServed before after errors errors_after (needs words) status = (status ≡ 0) × Keeps errors errors_after × HasToldNeeds before after words
 IsServed before after errors errors_after unfit status = ⊥
 
 -- the words ask for help or for the version, or they are words of the command line and what they ask for is done
@@ -100,5 +108,5 @@ pub record IsUntouched (before after : Surroundings) : Type 0 where
 abbrev pub trace_in : Request → Option Text
 trace_in (run words) = words.trace
 trace_in (check words) = None
-trace_in (needs files) = None
+trace_in (needs words) = None
 trace_in unfit = None

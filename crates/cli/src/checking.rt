@@ -11,7 +11,7 @@ ghost use Rattle.cli.specs.Files.{KeepsAllBut};
 use crate::fault::Fault;
 use crate::files::{Named, NamedFault};
 use crate::running::{link_files, mains_of};
-use hierarchy::{ClassId, Program};
+use hierarchy::{ClassId, Edition, Program};
 use init_core::Event;
 use jasmin_words::integer::push_decimal;
 use judge::{Rule, Verdict, check, explain};
@@ -119,8 +119,8 @@ fn judge_trace<'a, N: Named>(
     }
 }
 
-/// Links the classes of the files, and judges the trace in a file against them, with a thread for each class that the text
-/// of `--mains` names, 1 to 16, separated by commas.
+/// Links the classes of the files in this edition, and judges the trace in a file against them, with a thread for each class that
+/// the text of `--mains` names, 1 to 16, separated by commas.
 ///
 /// The trace is judged by [`check`]: whatever the bodies of the initializers and of `main` do (JLS SE 8 12.4.2).
 ///
@@ -134,14 +134,15 @@ pub fn check_named<'a, N: Named>(
     alloc: Global,
     named: &mut N,
     files: &[&'a str],
+    edition: Edition,
     mains: Option<&str>,
     trace: &'a str,
 ) -> Result<Judged, Fault<'a>>
-    ensures judged { IfOk result (λ j. IsJudged (N.held named.old) (texts files.now) (text_of mains.entry) trace.now j.program j.mains.items j.events.items j.verdict) }
-    ensures refused { IfErr result (IsCheckRefusal (N.held named.old) (texts files.now) (text_of mains.entry) trace.now) }
+    ensures judged { IfOk result (λ j. IsJudged (N.held named.old) (texts files.now) edition (text_of mains.entry) trace.now j.program j.mains.items j.events.items j.verdict) }
+    ensures refused { IfErr result (IsCheckRefusal (N.held named.old) (texts files.now) edition (text_of mains.entry) trace.now) }
     ensures files { KeepsAllBut None (N.held named.old) (N.held named.new) }
 {
-    match link_files(alloc, files, named) {
+    match link_files(alloc, files, edition, named) {
         Ok(program) => judge_trace(alloc, named, program, mains, trace),
         Err(fault) => Err(fault),
     }

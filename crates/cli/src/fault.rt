@@ -10,35 +10,61 @@ use hierarchy::{LinkFault, LinkFaultKind};
 use jasmin_reader::ReadFault;
 use std::alloc::{AllocError, AllocFailed};
 use std::io;
+use thiserror::Error;
 use trace_reader::TraceFault;
 
 /// Why the program stops, once its command line has been read.
+#[derive(Debug, Error)]
 pub enum Fault<'a> {
     /// An option with a subcommand that doesn't take it.
+    #[error("an option with a subcommand that doesn't take it")]
     Words,
     /// More than 256 files, or one over 1 MiB.
+    #[error("more than 256 files, or one over 1 MiB")]
     Files,
     /// A file can't be read, or the trace can't be written.
+    #[error("{0}: the file can't be read or written")]
     Io(&'a str),
     /// A file isn't in the Jasmin form that is read.
-    Jasmin { file: &'a str, fault: ReadFault },
+    #[error("{file}: {fault}")]
+    Jasmin {
+        file: &'a str,
+        #[source]
+        fault: ReadFault,
+    },
     /// A file's text is no trace of the classes and their threads.
-    Trace { file: &'a str, fault: TraceFault },
+    #[error("{file}: {fault}")]
+    Trace {
+        file: &'a str,
+        #[source]
+        fault: TraceFault,
+    },
     /// The classes can't be linked, for another reason than being out of memory.
-    Link(LinkFault),
+    #[error(transparent)]
+    Link(#[source] LinkFault),
     /// The order has an entry that is no number of a main class, or there are no main classes.
+    #[error("bad order")]
     Order,
     /// The steps are no decimal number from 1 to 100,000,000.
+    #[error("bad number of steps")]
     Steps,
     /// The patience is no decimal number up to 1,000,000,000.
+    #[error("bad patience")]
     Patience,
+    /// The edition is neither 7 nor 8.
+    #[error("bad edition")]
+    Edition,
     /// A main class is unknown, there is none, or more than 16 are named.
+    #[error("no main class, an unknown one, or more than 16")]
     Mains,
     /// A thread of the machine can't be started.
+    #[error("a thread of the machine can't be started")]
     Threads,
     /// Out of memory.
+    #[error("out of memory")]
     Memory,
     /// The output, or the lines that say how threads ended, can't be written.
+    #[error("the output can't be written")]
     Output,
 }
 
@@ -46,6 +72,7 @@ impl Drop for Fault<'_> {
     fn drop(self) {
         match self {
             Fault::Words | Fault::Files | Fault::Order | Fault::Steps | Fault::Patience => {}
+            Fault::Edition => {}
             Fault::Io(_) => {}
             Fault::Jasmin { file: _, fault: _ } => {}
             Fault::Trace { file: _, fault: _ } => {}
@@ -78,7 +105,7 @@ impl Fault<'_> {
     {
         match self {
             Fault::Words | Fault::Files | Fault::Jasmin { .. } | Fault::Trace { .. } => 2,
-            Fault::Order | Fault::Steps | Fault::Patience => 2,
+            Fault::Order | Fault::Steps | Fault::Patience | Fault::Edition => 2,
             Fault::Link(_) | Fault::Mains => 2,
             Fault::Io(_) | Fault::Threads | Fault::Memory | Fault::Output => 3,
         }
@@ -94,6 +121,7 @@ impl Fault<'_> {
             Fault::Order => "cli: order\n",
             Fault::Steps => "cli: steps\n",
             Fault::Patience => "cli: patience\n",
+            Fault::Edition => "cli: edition\n",
             Fault::Mains => "cli: mains\n",
             Fault::Threads => "threads\n",
             Fault::Memory => "memory\n",

@@ -10,6 +10,7 @@ use jasmin_reader::read_class;
 use jasmin_text::ClassText;
 use jasmin_words::FaultKind;
 use std::alloc::Global;
+use thiserror::Error;
 
 /// How many files a program may have.
 pub const MOST_FILES: usize = 256;
@@ -18,11 +19,13 @@ pub const MOST_FILES: usize = 256;
 pub const MOST_BYTES: usize = 1_048_576;
 
 /// Why a file by name can't be read or written.
-#[derive(Clone, Copy)]
+#[derive(Clone, Copy, Debug, Error)]
 pub enum NamedFault {
     /// The file's own fault: it isn't there, can't be read, or can't be written.
+    #[error("the file can't be read or written")]
     Io,
     /// Out of memory.
+    #[error("out of memory")]
     Memory,
 }
 

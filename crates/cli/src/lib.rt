@@ -6,6 +6,7 @@
 #![tactic(auto)]
 
 pub mod checking;
+pub mod editions;
 pub mod fault;
 pub mod files;
 pub mod limits;

@@ -4,7 +4,7 @@ ghost use Rattle.std.specs.Prelude.{◌≡◌, ◌⊎◌, ◌<◌, ◌≤◌, �
 ghost use Rattle.std.specs.List.{AllByRecursion};
 ghost use Rattle.std.specs.Option.{option_map};
 ghost use Rattle.clap.specs.Walk.{texts as texts_of};
-ghost use Rattle.hierarchy.specs.FirstFault.{LinksTo};
+ghost use Rattle.hierarchy.specs.FirstFault.{LinksAs};
 ghost use Rattle.init_core.specs.ProcedureWord.{IsOfFiles};
 ghost use Rattle.interpreter.specs.CodeRun.{code_bodies, interpreter_at_start};
 ghost use Rattle.interpreter.specs.SharedRun.{shared_bodies};
@@ -24,7 +24,7 @@ use crate::files::{Named, read_texts};
 use crate::orders::fits;
 use bodies::{Limits, Report};
 use guest_threads::{NoGate, RunFault, run_threads};
-use hierarchy::{ClassId, LinkFaultKind, Program, link};
+use hierarchy::{ClassId, Edition, LinkFaultKind, Program, link_as};
 use interpreter::{Interpreter, Objects, SharedInterpreter, SharedObjects, TurnInterpreter};
 use jasmin_text::ClassText;
 use replayer::run_ordered;
@@ -32,12 +32,16 @@ use std::alloc::{AllocError, Global};
 use std::sync::Wait;
 use std::thread::Threads;
 
-/// The program of all class texts. Being out of memory is reported in its own way.
-fn link_texts<'a>(alloc: Global, texts: Vec<ClassText>) -> Result<Program, Fault<'a>>
-    ensures linked { IfOk result (LinksTo texts.items) }
+/// The program of all class texts, in this edition. Being out of memory is reported in its own way.
+fn link_texts<'a>(
+    alloc: Global,
+    texts: Vec<ClassText>,
+    edition: Edition,
+) -> Result<Program, Fault<'a>>
+    ensures linked { IfOk result (LinksAs edition texts.items) }
     ensures refused { IfErr result (IsLinkRefusal texts.items) }
 {
-    match link(alloc, texts) {
+    match link_as(alloc, texts, edition) {
         Ok(program) => Ok(program),
         Err(fault) => match fault.kind {
             LinkFaultKind::NoMemory => Err(Fault::Memory),
@@ -46,13 +50,14 @@ fn link_texts<'a>(alloc: Global, texts: Vec<ClassText>) -> Result<Program, Fault
     }
 }
 
-/// Reads and links the classes of the files.
+/// Reads and links the classes of the files, in this edition.
 pub(crate) fn link_files<'a, N: Named>(
     alloc: Global,
     files: &[&'a str],
+    edition: Edition,
     named: &mut N,
 ) -> Result<Program, Fault<'a>>
-    ensures linked { IfOk result (IsLinkedFrom (N.held named.old) (texts_of files.now)) }
+    ensures linked { IfOk result (IsLinkedFrom (N.held named.old) (texts_of files.now) edition) }
     ensures refused { IfErr result (AreUnlinked (N.held named.old) (texts_of files.now)) }
     ensures files { KeepsAllBut None (N.held named.old) (N.held named.new) }
 {
@@ -60,7 +65,7 @@ pub(crate) fn link_files<'a, N: Named>(
         Ok(texts) => texts,
         Err(fault) => return Err(fault),
     };
-    link_texts(alloc, texts)
+    link_texts(alloc, texts, edition)
 }
 
 /// The class of the files of that name.
@@ -331,8 +336,8 @@ pub struct ProgramRun {
     pub report: Report,
 }
 
-/// Links the classes and runs the main classes that the text of `--mains` names, 1 to 16, separated by commas: in this order, or
-/// where there is none, one on the calling thread, several each on a thread of the machine.
+/// Links the classes in this edition and runs the main classes that the text of `--mains` names, 1 to 16, separated by commas:
+/// in this order, or where there is none, one on the calling thread, several each on a thread of the machine.
 ///
 /// The program is what linking makes of the class texts. The report is that of [`run_ordered`] where there is an order or one class
 /// is named, and else that of [`run_threads`]; the code may begin so many instructions on each thread. Without an order it may
@@ -347,15 +352,16 @@ pub fn run_texts<'a, R: Threads + Wait + Sync>(
     rt: &R,
     alloc: Global,
     texts: Vec<ClassText>,
+    edition: Edition,
     mains: Option<&str>,
     order: Option<&[usize]>,
     limits: Limits,
 ) -> Result<ProgramRun, Fault<'a>>
-    ensures linked { IfOk result (λ ran. LinksTo texts.items ran.program) }
+    ensures linked { IfOk result (λ ran. LinksAs edition texts.items ran.program) }
     ensures ran { IfOk result (λ ran. IsRunOfNamed (text_of mains.entry) (numbers_of order.entry) limits ran.program ran.report) }
-    ensures refused { IfErr result (IsRefusal texts.items (text_of mains.entry) (numbers_of order.entry)) }
+    ensures refused { IfErr result (IsRefusal texts.items edition (text_of mains.entry) (numbers_of order.entry)) }
 {
-    let program = link_texts(alloc, texts)?;
+    let program = link_texts(alloc, texts, edition)?;
     let report = match run_program(rt, alloc, &program, mains, order, limits) {
         Ok(report) => report,
         Err(fault) => return Err(fault),

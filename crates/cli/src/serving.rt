@@ -6,21 +6,21 @@ ghost use Rattle.clap.specs.Walk.{texts};
 ghost use Rattle.clap.specs.Words.{kind_of};
 ghost use Rattle.clap.specs.declared.error.kind.ErrorKind.TheVariants.{DisplayHelp, DisplayVersion, OutOfMemory};
 ghost use Rattle.trace.specs.TraceText.{trace_of};
-ghost use Rattle.cli.specs.Checking.{IsCheckRefusal};
-ghost use Rattle.command_line.specs.CommandLine.{check_words_of, request_in, request_of, run_words_of, text_of};
+ghost use Rattle.command_line.specs.CommandLine.{check_words_of, needs_words_of, request_in, request_of, run_words_of, text_of};
+ghost use Rattle.cli.specs.Editions.{edition_in};
 ghost use Rattle.cli.specs.FaultText.{fault_line};
 ghost use Rattle.cli.specs.Files.{FileHolds, IsLinkedFrom, KeepsAllBut};
 ghost use Rattle.cli.specs.Limits.{AreLimits};
 ghost use Rattle.cli.specs.NeedsText.{needs_text};
 ghost use Rattle.cli.specs.Orders.{numbers_of, order_in};
 ghost use Rattle.cli.specs.Outcomes.{outcomes_text, status_after};
-ghost use Rattle.cli.specs.ReadRefusals.{AreUnlinked};
-ghost use Rattle.cli.specs.Refusals.{AreWordsRefused, IsFaultOf, IsFilesRefusal, IsRefusedBy, IsRunFault};
+ghost use Rattle.cli.specs.Refusals.{AreWordsRefused, IsCheckFault, IsFaultOf, IsFilesRefusal, IsNeedsFault, IsRefusedBy, IsRunFault};
 ghost use Rattle.cli.specs.Running.{IsRunOfNamed};
 ghost use Rattle.cli.specs.Serving.{HasRun, HasToldNeeds, HasToldVerdict, HasWritten, IsDone, IsServed, IsToldVerdict, IsUntouched, around, trace_in};
 ghost use Rattle.cli.specs.Status.{IsStatus, status_of};
 
 use crate::checking::{Judged, check_named, status_of_verdict, write_judged};
+use crate::editions::edition_of;
 use crate::fault::Fault;
 use crate::files::{Named, NamedFault, read_texts};
 use crate::limits::limits_of;
@@ -30,8 +30,8 @@ use crate::outcomes::{status_of_outcomes, write_outcomes};
 use crate::running::{ProgramRun, link_files, run_texts};
 use bodies::Limits;
 use clap::error::ErrorKind;
-use command_line::{Asked, Check, Run, parse};
-use hierarchy::Program;
+use command_line::{Asked, Check, Needs, Run, parse};
+use hierarchy::{Edition, Program};
 use judge::Verdict;
 use std::alloc::Global;
 use std::io;
@@ -90,24 +90,25 @@ fn tell_outcomes<'a, E: io::Write>(
     write_output(err, &text)
 }
 
-/// Reads and links the classes of the files, and runs the main classes, in this order where there is one.
+/// Reads and links the classes of the files in this edition, and runs the main classes, in this order where there is one.
 fn run_files<'a, R: Threads + Wait + Sync, N: Named>(
     rt: &R,
     alloc: Global,
     files: &[&'a str],
+    edition: Edition,
     mains: Option<&str>,
     order: Option<&[usize]>,
     limits: Limits,
     named: &mut N,
 ) -> Result<ProgramRun, Fault<'a>>
     ensures files { KeepsAllBut None (N.held named.old) (N.held named.new) }
-    ensures linked { IfOk result (λ ran. IsLinkedFrom (N.held named.old) (texts files.now) ran.program) }
+    ensures linked { IfOk result (λ ran. IsLinkedFrom (N.held named.old) (texts files.now) edition ran.program) }
     ensures ran { IfOk result (λ ran. IsRunOfNamed (text_of mains.entry) (numbers_of order.entry) limits ran.program ran.report) }
-    ensures refused { IfErr result (IsFilesRefusal (N.held named.old) (texts files.now) (text_of mains.entry) (numbers_of order.entry)) }
+    ensures refused { IfErr result (IsFilesRefusal (N.held named.old) (texts files.now) edition (text_of mains.entry) (numbers_of order.entry)) }
 {
     match read_texts(alloc, named, files) {
         Ok(texts) => {
-            let ran = run_texts(rt, alloc, texts, mains, order, limits);
+            let ran = run_texts(rt, alloc, texts, edition, mains, order, limits);
             ran
         }
         Err(fault) => Err(fault),
@@ -136,28 +137,31 @@ fn report_run<'a, N: Named, O: io::Write, E: io::Write>(
     Ok(status_of_outcomes(ran.report.outcomes.as_slice()))
 }
 
-/// Runs what the words ask for, in this order, where there is one, and within these limits, writes the output and the trace, tells
-/// how the threads ended, and answers the exit status.
+/// Runs what the words ask for, in this order, where there is one, within these limits and in this edition, writes the output and
+/// the trace, tells how the threads ended, and answers the exit status.
 fn run_within<'a, R: Threads + Wait + Sync, N: Named, O: io::Write, E: io::Write>(
     rt: &R,
     alloc: Global,
     words: &Run<'a>,
     order: Option<&[usize]>,
     limits: Limits,
+    edition: Edition,
     named: &mut N,
     out: &mut O,
     err: &mut E,
 ) -> Result<u8, Fault<'a>>
     requires order { order_in (text_of words.now.mains) (text_of words.now.order) ≡ Some (numbers_of order) }
     requires said { AreLimits (text_of words.now.steps) (text_of words.now.patience) limits }
+    requires edition_said { edition_in (text_of words.now.edition) ≡ Some edition }
     ensures files { KeepsAllBut (text_of words.now.trace) (N.held named.old) (N.held named.new) }
     ensures ran { IfOk result (HasRun (around (N.held named.old) (O.contents out.old)) (around (N.held named.new) (O.contents out.new))
         (E.contents err.old) (E.contents err.new) (run_words_of words.now)) }
     ensures untouched { IfErr result (λ f. status_of f ≡ 2 → IsUntouched (around (N.held named.old) (O.contents out.old)) (around (N.held named.new) (O.contents out.new))) }
-    ensures refused { IfErr result (λ f. status_of f ≡ 2 → IsFilesRefusal (N.held named.old) (run_words_of words.now).files (text_of words.now.mains) (numbers_of order.entry) f) }
+    ensures refused { IfErr result (λ f. status_of f ≡ 2 → IsFilesRefusal (N.held named.old) (run_words_of words.now).files edition (text_of words.now.mains) (numbers_of order.entry) f) }
     ensures silent { IfErr result (λ f. status_of f ≡ 2 → Keeps (E.contents err.old) (E.contents err.new)) }
 {
-    match run_files(rt, alloc, &words.files, words.mains, order, limits, named) {
+    let files = &words.files;
+    match run_files(rt, alloc, files, edition, words.mains, order, limits, named) {
         Ok(ran) => report_run(alloc, &ran, words.trace, named, out, err),
         Err(fault) => Err(fault),
     }
@@ -183,10 +187,16 @@ fn run<'a, R: Threads + Wait + Sync, N: Named, O: io::Write, E: io::Write>(
         Ok(order) => order,
         Err(fault) => return Err(fault),
     };
-    match limits_of(words.steps, words.patience) {
-        Ok(limits) => run_within(rt, alloc, words, order.as_deref(), limits, named, out, err),
-        Err(fault) => Err(fault),
-    }
+    let limits = match limits_of(words.steps, words.patience) {
+        Ok(limits) => limits,
+        Err(fault) => return Err(fault),
+    };
+    let edition = match edition_of(words.edition) {
+        Ok(edition) => edition,
+        Err(fault) => return Err(fault),
+    };
+    let order = order.as_deref();
+    run_within(rt, alloc, words, order, limits, edition, named, out, err)
 }
 
 /// Writes what each class needs.
@@ -202,19 +212,23 @@ fn write_needed<'a, O: io::Write>(
     write_output(out, &text)
 }
 
-/// Tells what each class of the files needs.
+/// Tells what each class of the files needs, in the edition that the words say.
 fn tell_needs<'a, N: Named, O: io::Write>(
     alloc: Global,
-    files: &[&'a str],
+    words: &Needs<'a>,
     named: &mut N,
     out: &mut O,
 ) -> Result<(), Fault<'a>>
     ensures files { KeepsAllBut None (N.held named.old) (N.held named.new) }
-    ensures told { OnOk result (HasToldNeeds (around (N.held named.old) (O.contents out.old)) (around (N.held named.new) (O.contents out.new)) (texts files.now)) }
+    ensures told { OnOk result (HasToldNeeds (around (N.held named.old) (O.contents out.old)) (around (N.held named.new) (O.contents out.new)) (needs_words_of words.now)) }
     ensures untouched { IfErr result (λ f. status_of f ≡ 2 → IsUntouched (around (N.held named.old) (O.contents out.old)) (around (N.held named.new) (O.contents out.new))) }
-    ensures refused { IfErr result (λ f. status_of f ≡ 2 → AreUnlinked (N.held named.old) (texts files.now) f) }
+    ensures refused { IfErr result (λ f. status_of f ≡ 2 → IsNeedsFault (N.held named.old) (needs_words_of words.now) f) }
 {
-    let program = match link_files(alloc, files, named) {
+    let edition = match edition_of(words.edition) {
+        Ok(edition) => edition,
+        Err(fault) => return Err(fault),
+    };
+    let program = match link_files(alloc, &words.files, edition, named) {
         Ok(program) => program,
         Err(fault) => return Err(fault),
     };
@@ -245,9 +259,14 @@ fn tell_judged<'a, N: Named, O: io::Write>(
     ensures files { KeepsAllBut None (N.held named.old) (N.held named.new) }
     ensures judged { IfOk result (IsToldVerdict (around (N.held named.old) (O.contents out.old)) (around (N.held named.new) (O.contents out.new)) (check_words_of words.now)) }
     ensures untouched { IfErr result (λ f. status_of f ≡ 2 → IsUntouched (around (N.held named.old) (O.contents out.old)) (around (N.held named.new) (O.contents out.new))) }
-    ensures refused { IfErr result (λ f. status_of f ≡ 2 → IsCheckRefusal (N.held named.old) (texts words.now.files.items) (text_of words.now.mains) words.now.trace.now f) }
+    ensures refused { IfErr result (λ f. status_of f ≡ 2 → IsCheckFault (N.held named.old) (check_words_of words.now) f) }
 {
-    let judged = match check_named(alloc, named, &words.files, words.mains, words.trace) {
+    let edition = match edition_of(words.edition) {
+        Ok(edition) => edition,
+        Err(fault) => return Err(fault),
+    };
+    let files = &words.files;
+    let judged = match check_named(alloc, named, files, edition, words.mains, words.trace) {
         Ok(judged) => judged,
         Err(fault) => return Err(fault),
     };
@@ -277,8 +296,8 @@ fn answer<'a, R: Threads + Wait + Sync, N: Named, O: io::Write, E: io::Write>(
             let verdict = tell_judged(alloc, words, named, out)?;
             Ok(status_of_verdict(verdict))
         }
-        Asked::Needs(files) => {
-            tell_needs(alloc, files, named, out)?;
+        Asked::Needs(words) => {
+            tell_needs(alloc, words, named, out)?;
             Ok(0)
         }
         Asked::Unfit => Err(Fault::Words),

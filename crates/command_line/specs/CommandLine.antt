@@ -11,6 +11,7 @@ use Rattle.clap.specs.declared.builder.action.ArgAction.TheVariants.{Append, Set
 use Rattle.clap.specs.declared.parser.matches.Found.{Found}
 use Rattle.command_line.specs.declared.Asked.{Asked}
 use Rattle.command_line.specs.declared.Check.{Check}
+use Rattle.command_line.specs.declared.Needs.{Needs}
 use Rattle.command_line.specs.declared.Run.{Run}
 use Rattle.command_line.specs.declared.Asked.TheVariants as asked
 
@@ -40,7 +41,7 @@ with_trace app = with_rule (with_rule (with_rule app (option_named (codes "mains
 
 -- a subcommand: each has all options
 unfoldable pub subcommand_named : Text → App
-subcommand_named name = with_rule (with_run_options (with_trace (new_app name))) file_words
+subcommand_named name = with_rule (with_rule (with_run_options (with_trace (new_app name))) (option_named (codes "edition"))) file_words
 
 -- the command line without its subcommands
 unfoldable pub bare_line : App
@@ -57,6 +58,7 @@ pub record RunWords : Type 0 where
   pub order : Option Text
   pub steps : Option Text
   pub patience : Option Text
+  pub edition : Option Text
   pub files : List Text
 
 -- what `check` is given: the texts of its options, whether it explains, and the names of the files
@@ -64,13 +66,19 @@ pub record CheckWords : Type 0 where
   pub mains : Option Text
   pub trace : Text
   pub explains : Bool
+  pub edition : Option Text
+  pub files : List Text
+
+-- what `needs` is given: the text of its option, and the names of the files
+pub record NeedsWords : Type 0 where
+  pub edition : Option Text
   pub files : List Text
 
 -- what is asked for, as texts
 pub data Request : Type 0 where
   run : RunWords → Request
   check : CheckWords → Request
-  needs : List Text → Request
+  needs : NeedsWords → Request
   unfit : Request
 
 -- the text of an option
@@ -78,15 +86,18 @@ abbrev pub text_of : Option (Bor Text) → Option Text
 text_of o = option_map (λ s. s.now) o
 
 abbrev pub run_words_of : Run → RunWords
-run_words_of r = record { mains = text_of r.mains; trace = text_of r.trace; order = text_of r.order; steps = text_of r.steps; patience = text_of r.patience; files = texts r.files.items }
+run_words_of r = record { mains = text_of r.mains; trace = text_of r.trace; order = text_of r.order; steps = text_of r.steps; patience = text_of r.patience; edition = text_of r.edition; files = texts r.files.items }
 
 abbrev pub check_words_of : Check → CheckWords
-check_words_of c = record { mains = text_of c.mains; trace = c.trace.now; explains = c.explains; files = texts c.files.items }
+check_words_of c = record { mains = text_of c.mains; trace = c.trace.now; explains = c.explains; edition = text_of c.edition; files = texts c.files.items }
+
+abbrev pub needs_words_of : Needs → NeedsWords
+needs_words_of n = record { edition = text_of n.edition; files = texts n.files.items }
 
 abbrev pub request_of : Asked → Request
 request_of (asked.Run r) = run (run_words_of r)
 request_of (asked.Check c) = check (check_words_of c)
-request_of (asked.Needs files) = needs (texts files.items)
+request_of (asked.Needs n) = needs (needs_words_of n)
 request_of asked.Unfit = unfit
 
 -- whether an option without a value is given, by the text that `clap` has for it
@@ -100,15 +111,18 @@ pub record Options : Type 0 where
   pub files : List Text
 
 abbrev pub run_by : Options → Request
-run_by o = run (record { mains = o.text (codes "mains"); trace = o.text (codes "trace"); order = o.text (codes "order"); steps = o.text (codes "steps"); patience = o.text (codes "patience"); files = o.files })
+run_by o = run (record { mains = o.text (codes "mains"); trace = o.text (codes "trace"); order = o.text (codes "order"); steps = o.text (codes "steps"); patience = o.text (codes "patience"); edition = o.text (codes "edition"); files = o.files })
 
 -- `check` has a trace
-abbrev pub check_with : Option Text → Option Text → Bool → List Text → Request
-check_with mains None explains files = unfit
-check_with mains (Some trace) explains files = check (record { mains = mains; trace = trace; explains = explains; files = files })
+abbrev pub check_with : Option Text → Option Text → Bool → Option Text → List Text → Request
+check_with mains None explains edition files = unfit
+check_with mains (Some trace) explains edition files = check (record { mains = mains; trace = trace; explains = explains; edition = edition; files = files })
 
 abbrev pub check_by : Options → Request
-check_by o = check_with (o.text (codes "mains")) (o.text (codes "trace")) (is_set (o.text (codes "explain"))) o.files
+check_by o = check_with (o.text (codes "mains")) (o.text (codes "trace")) (is_set (o.text (codes "explain"))) (o.text (codes "edition")) o.files
+
+abbrev pub needs_by : Options → Request
+needs_by o = needs (record { edition = o.text (codes "edition"); files = o.files })
 
 -- what is given that not all subcommands take
 abbrev pub has_explain : Options → Bool
@@ -120,11 +134,11 @@ has_run_options o = is_some (o.text (codes "order")) || (is_some (o.text (codes 
 abbrev pub has_mains_or_trace : Options → Bool
 has_mains_or_trace o = is_some (o.text (codes "mains")) || is_some (o.text (codes "trace"))
 
--- `run` doesn't explain, `check` takes no order and no limits, and `needs` takes no option
+-- `run` doesn't explain, `check` takes no order and no limits, and `needs` takes none of these options
 abbrev pub request_to : Text → Options → Request
 request_to name o = if bytes_eq name (codes "run") && not (has_explain o) then run_by o
     else (if bytes_eq name (codes "check") && not (has_run_options o) then check_by o
-    else (if bytes_eq name (codes "needs") && (not (has_explain o) && (not (has_run_options o) && not (has_mains_or_trace o))) then needs o.files else unfit))
+    else (if bytes_eq name (codes "needs") && (not (has_explain o) && (not (has_run_options o) && not (has_mains_or_trace o))) then needs_by o else unfit))
 
 -- what the subcommand of that name asks for, with the rows that `clap` finds in the words
 abbrev pub options_in : List Row → Options
@@ -158,6 +172,9 @@ run_found f = run_by (options_found f)
 
 abbrev pub check_found : Found → Request
 check_found f = check_by (options_found f)
+
+abbrev pub needs_found : Found → Request
+needs_found f = needs_by (options_found f)
 
 abbrev pub run_options_found : Found → Bool
 run_options_found f = has_run_options (options_found f)

@@ -7,7 +7,7 @@ ghost use Rattle.std.specs.Prelude.{◌≡◌, IfOk, false};
 ghost use Rattle.clap.specs.Walk.{texts};
 ghost use Rattle.clap.specs.Words.{FailsBy, app_of, first_value, found_of, rule_of, subcommand_rows_of, with_rule, with_subcommand};
 ghost use Rattle.clap.specs.declared.builder.command.Command.TheViews.{out-Command as fields_of};
-ghost use Rattle.command_line.specs.CommandLine.{bare_line, check_found, command_line, faults_in, file_words, files_found, flag_named, is_set, mains_or_trace_found, option_named, request_found, request_in, request_of, rows_in, run_found, run_options_found, subcommand_named, with_run_options as with_options_of_run, with_trace as with_trace_options};
+ghost use Rattle.command_line.specs.CommandLine.{bare_line, check_found, command_line, faults_in, file_words, files_found, flag_named, is_set, mains_or_trace_found, needs_found, option_named, request_found, request_in, request_of, rows_in, run_found, run_options_found, subcommand_named, with_run_options as with_options_of_run, with_trace as with_trace_options};
 
 use clap::{Arg, ArgAction, ArgMatches, Command, Error};
 use std::alloc::{AllocError, Global};
@@ -25,6 +25,8 @@ pub struct Run<'a> {
     pub steps: Option<&'a str>,
     /// The text of `--patience`: how often a thread looks at what another holds.
     pub patience: Option<&'a str>,
+    /// The text of `--edition`: the edition of JVMS by which classes are initialized.
+    pub edition: Option<&'a str>,
     /// The Jasmin files, in order.
     pub files: Vec<&'a str>,
 }
@@ -38,6 +40,17 @@ pub struct Check<'a> {
     pub trace: &'a str,
     /// Whether `--explain` is given: what is illegal is reported in words too.
     pub explains: bool,
+    /// The text of `--edition`: the edition of JVMS by which classes are initialized.
+    pub edition: Option<&'a str>,
+    /// The Jasmin files, in order.
+    pub files: Vec<&'a str>,
+}
+
+/// What `jinit needs` asks for.
+#[derive(Drop)]
+pub struct Needs<'a> {
+    /// The text of `--edition`: the edition of JVMS by which classes are initialized.
+    pub edition: Option<&'a str>,
     /// The Jasmin files, in order.
     pub files: Vec<&'a str>,
 }
@@ -49,8 +62,8 @@ pub enum Asked<'a> {
     Run(Run<'a>),
     /// `jinit check`.
     Check(Check<'a>),
-    /// `jinit needs`, with the Jasmin files in order.
-    Needs(Vec<&'a str>),
+    /// `jinit needs`.
+    Needs(Needs<'a>),
     /// Nothing that can be done: an option of one subcommand with another, which doesn't take it, or `check` without a trace.
     Unfit,
 }
@@ -189,6 +202,8 @@ fn subcommand<'a>(
     let command = Command::new(alloc, name).about(about);
     let command = with_trace(alloc, command, trace, explain)?;
     let command = with_run_options(alloc, command, !run_options)?;
+    let help = "JVMS edition: 7 initializes no superinterface before a class; 8 if not given";
+    let command = with_option(alloc, command, "edition", "7|8", help, false)?;
     with_argument(command, files_argument(alloc))
 }
 
@@ -286,6 +301,7 @@ fn check_of<'a>(alloc: Global, matches: &ArgMatches<'a>) -> Result<Asked<'a>, Al
         mains: matches.get_str("mains"),
         trace,
         explains: is_given(matches, "explain"),
+        edition: matches.get_str("edition"),
         files: files_of(alloc, matches)?,
     }))
 }
@@ -300,6 +316,17 @@ fn run_of<'a>(alloc: Global, matches: &ArgMatches<'a>) -> Result<Asked<'a>, Allo
         order: matches.get_str("order"),
         steps: matches.get_str("steps"),
         patience: matches.get_str("patience"),
+        edition: matches.get_str("edition"),
+        files: files_of(alloc, matches)?,
+    }))
+}
+
+/// What is asked for of `needs`.
+fn needs_of<'a>(alloc: Global, matches: &ArgMatches<'a>) -> Result<Asked<'a>, AllocError>
+    ensures { IfOk result (λ asked. request_of asked ≡ needs_found (found_of matches.now)) }
+{
+    Ok(Asked::Needs(Needs {
+        edition: matches.get_str("edition"),
         files: files_of(alloc, matches)?,
     }))
 }
@@ -336,7 +363,7 @@ fn asked_of<'a>(
         return check_of(alloc, matches);
     }
     if name == "needs" && !explains && !run_options && !has_mains_or_trace(matches) {
-        return Ok(Asked::Needs(files_of(alloc, matches)?));
+        return needs_of(alloc, matches);
     }
     Ok(Asked::Unfit)
 }
@@ -352,8 +379,8 @@ fn matches_of<'a>(alloc: Global, words: &'a [&'a str]) -> Result<ArgMatches<'a>,
 /// What the words ask for; the first word is the program's name.
 ///
 /// Subcommand, options and files are those that `clap` finds in the words: `run`, `check` and `needs` with any number of files, and
-/// with the options `--mains`, `--trace`, `--explain`, `--order`, `--steps` and `--patience`. Of these `run` takes all but `--explain`, `check`
-/// all but the last three, and `--trace` always, and `needs` none.
+/// with the options `--mains`, `--trace`, `--explain`, `--order`, `--steps`, `--patience` and `--edition`. Of these `run` takes all but
+/// `--explain`, `check` all but `--order`, `--steps` and `--patience`, and `--trace` always, and `needs` `--edition` alone.
 ///
 /// # Errors
 ///

@@ -3,11 +3,11 @@
 ghost use Rattle.std.specs.Prelude.{◌≡◌};
 ghost use Rattle.descriptors.specs.Messages.{message_of};
 
-use std::error::Error;
 use std::fmt;
+use thiserror::Error;
 
 /// Why a text is no descriptor: the first fault that is met from the left.
-#[derive(Clone, Copy, Debug)]
+#[derive(Clone, Copy, Debug, Error)]
 pub enum DescriptorFault {
     /// The text is empty.
     Empty,
@@ -38,7 +38,7 @@ impl DescriptorFault {
             DescriptorFault::UnknownLetter => "unknown letter in a descriptor",
             DescriptorFault::Unfinished => "unfinished descriptor",
             DescriptorFault::TooManyDimensions => "more than 255 dimensions",
-            DescriptorFault::BytesLeftOver => "bytes left over behind a descriptor",
+            DescriptorFault::BytesLeftOver => "bytes left over after a descriptor",
             DescriptorFault::LeftOut => "long, float or double in a descriptor",
             DescriptorFault::TooManyParameters => "more than 255 parameters",
         }
@@ -46,9 +46,11 @@ impl DescriptorFault {
 }
 
 impl fmt::Display for DescriptorFault {
+    ghost use Rattle.std.specs.Prelude.{Some};
+
+    ghost output = { λ fault. Some (message_of fault) };
+
     fn fmt<W: fmt::Write>(&self, f: &mut fmt::Formatter<W>) -> fmt::Result {
         f.write_str(self.message())
     }
 }
-
-impl Error for DescriptorFault {}

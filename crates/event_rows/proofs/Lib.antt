@@ -1,4 +1,4 @@
-pub mod RowsInColumns
 pub mod Laying
 pub mod Lists
+pub mod RowsInBlocks
 pub mod Texts

@@ -3,14 +3,9 @@ ghost use Rattle.std.specs.Prelude.{◌≡◌, ℕ, ◌+◌, ◌-◌, ◌*◌, �
 ghost use Rattle.event_rows.specs.WordList.{blocks_for};
 ghost use Rattle.event_rows.specs.Rows.{RowList, text_at, AreRising};
 
-use crate::columns::{pop_each, push_each, read_each, reserve_each};
-use crate::words::Words;
+use crate::blocks::Blocks;
 use std::alloc::{AllocError, Global};
 use std::marker::Model;
-
-// So many columns' memory after the last one stays unused: a push writes to its columns, and threads with a list each, made one after
-// the other, are to share no cache line.
-const UNUSED: usize = 2;
 
 /// A text, and the number of the row that it belongs to.
 #[derive(Drop)]
@@ -24,8 +19,8 @@ pub(crate) struct RowText<T> {
 /// Contracts see how many words a row has (`width`), the rows, and how many more go in without memory (`room`). These tell
 /// how many blocks there are.
 pub struct Rows<T: Drop> {
-    /// A list of words for each word of a row.
-    columns: Vec<Words>,
+    /// The words of the rows.
+    blocks: Blocks,
     /// The texts of those rows that have one, in the order of the rows.
     texts: Vec<RowText<T>>,
 }
@@ -33,21 +28,20 @@ pub struct Rows<T: Drop> {
 impl<T: Drop> Drop for Rows<T> {
     fn drop(self) {
         let Self {
-            columns: _,
+            blocks: _,
             texts: _,
         } = self;
     }
 }
 
 impl<T: Drop> Model for Rows<T> {
-    ghost use Rattle.std.specs.Prelude.{◌+◌, ◌≤◌, vec_len, vec_capacity, length};
-    ghost use Rattle.event_rows.specs.Rows.{RowList, AreColumns, rows_of, first_column};
+    ghost use Rattle.event_rows.specs.Rows.{RowList, AreRowsWithTexts, rows_of};
 
     ghost Value = { RowList T };
 
-    ghost view = { λ r. record { width = length r.columns.items; rows = rows_of r.columns.items r.texts.items; room = (first_column r.columns.items).room } };
+    ghost view = { λ r. record { width = r.blocks.width; rows = rows_of r.blocks r.texts.items; room = r.blocks.room } };
 
-    ghost invariant = { λ r. AreColumns r.columns.items r.texts.items × (vec_len r.texts + (first_column r.columns.items).room ≤ vec_capacity r.texts) };
+    ghost invariant = { λ r. AreRowsWithTexts r.blocks r.texts };
 }
 
 impl<T: Drop> Rows<T> {
@@ -57,12 +51,8 @@ impl<T: Drop> Rows<T> {
         requires few { width ≤ 2 ^ 12 }
         ensures { IfOk result (λ made. made ≡ record { width = width; rows = []; room = 0 }) }
     {
-        let mut columns = Vec::with_capacity(alloc, width + UNUSED)?;
-        for _ in 0..width {
-            columns.push_reserved(Words::new(alloc));
-        }
         Ok(Rows {
-            columns,
+            blocks: Blocks::new(alloc, width),
             texts: Vec::new(alloc),
         })
     }
@@ -75,8 +65,8 @@ impl<T: Drop> Rows<T> {
         ensures err { OnErr result (self.new ≡ self.old) }
         ensures refused { OnErr result (0 < count) }
     {
-        self.texts.reserve(self.columns[0].room() + count)?;
-        reserve_each(&mut self.columns, count)?;
+        self.texts.reserve(self.blocks.room() + count)?;
+        self.blocks.reserve(count)?;
         Ok(())
     }
 
@@ -89,8 +79,8 @@ impl<T: Drop> Rows<T> {
         ensures width { self.new.width ≡ self.old.width }
         ensures room { self.new.room + 1 ≡ self.old.room }
     {
-        push_text(&mut self.texts, self.columns[0].len(), text);
-        push_each(&mut self.columns, words);
+        push_text(&mut self.texts, self.blocks.len(), text);
+        self.blocks.push(words);
     }
 
     /// Takes the last row out: writes its words into `words`, and answers its text.
@@ -102,8 +92,8 @@ impl<T: Drop> Rows<T> {
         ensures width { self.new.width ≡ self.old.width }
         ensures room { self.new.room ≡ self.old.room }
     {
-        pop_each(&mut self.columns, words);
-        pop_text(&mut self.texts, self.columns[0].len())
+        self.blocks.pop(words);
+        pop_text(&mut self.texts, self.blocks.len())
     }
 
     /// The row at that index: writes its words into `words`, and answers its text.
@@ -113,7 +103,7 @@ impl<T: Drop> Rows<T> {
         requires within { index < length self.now.rows }
         ensures { slice_get self.now.rows index ≡ Some (record { words = words.new; text = option_copied result }) }
     {
-        read_each(&self.columns, index, words);
+        self.blocks.get(index, words);
         find_text(&self.texts, index)
     }
 
@@ -123,7 +113,7 @@ impl<T: Drop> Rows<T> {
         requires { column < self.now.width }
         ensures { result ≡ option_map (λ row. slice_index row.words column) (slice_get self.now.rows (length self.now.rows - 1)) }
     {
-        self.columns[column].last()
+        self.blocks.last(column)
     }
 
     /// How many words a row has.
@@ -131,7 +121,7 @@ impl<T: Drop> Rows<T> {
     pub fn width(&self) -> usize
         ensures { result ≡ self.now.width }
     {
-        self.columns.len()
+        self.blocks.width()
     }
 
     /// How many rows there are.
@@ -139,7 +129,7 @@ impl<T: Drop> Rows<T> {
     pub fn len(&self) -> usize
         ensures { result ≡ length self.now.rows }
     {
-        self.columns[0].len()
+        self.blocks.len()
     }
 
     /// Whether there is no row.
@@ -147,7 +137,7 @@ impl<T: Drop> Rows<T> {
     pub fn is_empty(&self) -> bool
         ensures { IsTrue result ↔ self.now.rows ≡ [] }
     {
-        self.columns[0].is_empty()
+        self.blocks.is_empty()
     }
 
     /// How many more rows go in without memory.
@@ -155,18 +145,15 @@ impl<T: Drop> Rows<T> {
     pub fn room(&self) -> usize
         ensures { result ≡ self.now.room }
     {
-        self.columns[0].room()
+        self.blocks.room()
     }
 
-    /// How many blocks there are, with those that are kept ahead: for each word of a row as many as the rows and the room need.
+    /// How many blocks of 1,024 words there are, with those that are kept ahead. Each 1,024 rows lie in one piece, which counts as one block
+    /// for each word of a row.
     pub fn blocks(&self) -> usize
         ensures { result ≡ self.now.width * blocks_for (length self.now.rows + self.now.room) }
     {
-        let mut total = 0;
-        for at in 0..self.columns.len() {
-            total += self.columns[at].blocks();
-        }
-        total
+        self.width() * self.blocks.count()
     }
 }
 

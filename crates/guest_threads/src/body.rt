@@ -15,7 +15,6 @@ use bodies::{Bodies, Does, Limit};
 use hierarchy::{ClassId, Value};
 use init_core::{Event, Kind, Outcome};
 use sequence::Text;
-use std::alloc::AllocError;
 use std::sync::Wait;
 use std::thread;
 
@@ -157,14 +156,10 @@ impl<'a, G: Gate, B: Bodies> Task<'a, G, B> {
         let Ok(event) = made else {
             return self.leave_at(work, Limit::Memory);
         };
-        let copied: Result<Event, AllocError> = event.clone();
-        let Ok(copy) = copied else {
-            return self.leave_at(work, Limit::Memory);
-        };
         self.table.draw(&mut work.pass, event);
         work.procedure.forget_last();
         work.slack -= 1;
-        self.gate.at(&copy);
+        self.gate.at_print(self.number);
         None
     }
 

@@ -16,13 +16,16 @@ use init_lock::InitTable;
 use std::alloc::{AllocError, Global};
 use std::sync::Wait;
 use std::thread::Threads;
+use thiserror::Error;
 
 /// Why there is no run.
-#[derive(Clone, Copy)]
+#[derive(Clone, Copy, Debug, Error)]
 pub enum RunFault {
     /// A host thread can't be started.
+    #[error("a thread can't be started")]
     NoThread,
     /// Memory was refused before the threads began, or after they ended.
+    #[error("out of memory")]
     NoMemory,
 }
 

@@ -3,15 +3,17 @@ use Rattle.std.proofs.Common.{◌≡◌, ℕ, zero, suc, ◌+◌, ◌<◌, ◌�
 use Rattle.std.proofs.lemmas.Bool.{cases_Bool}
 use Rattle.std.proofs.lemmas.List.{length-set, take_all}
 use Rattle.std.proofs.lemmas.Option.{slice_get_past, slice_get_within}
+use Rattle.std.specs.List.{flat_map}
 use Rattle.std.specs.Option.{unwrap_or}
-use Rattle.std.specs.Prelude.{filter}
+use Rattle.std.specs.Prelude.{filter, reverse}
 use Rattle.hierarchy.specs.declared.class.Class.{Class}
 use Rattle.hierarchy.specs.declared.class.ClassId.{ClassId}
-use Rattle.hierarchy.specs.Ancestry.{superclass_of, superclass_alone, superclass_in}
+use Rattle.hierarchy.specs.declared.edition.Edition.{Edition}
+use Rattle.hierarchy.specs.Ancestry.{superclass_of, superclass_alone, superclass_in, superclasses}
 use Rattle.hierarchy.specs.BuiltIn.{built_ins}
 use Rattle.hierarchy.specs.ClassLists.{Among, first, same_class}
 use Rattle.hierarchy.specs.Hierarchy.{IsAcyclic, IsWithin, height, supers, supers_in}
-use Rattle.hierarchy.specs.LinkedProgram.{id, linked}
+use Rattle.hierarchy.specs.LinkedProgram.{id, linked, linked_as}
 use Rattle.hierarchy.specs.Objects.{HaveFewFields, cells_in, is_instance_field, instance_fields_from, own_instance_fields, object_fields}
 use Rattle.hierarchy.specs.OwnNames.{fields_in}
 use Rattle.hierarchy.specs.Superinterfaces.{IsTable}
@@ -24,6 +26,14 @@ use Rattle.hierarchy.proofs.ObjectCells.{all_cells, cells_none, cells_some, cell
 use Rattle.hierarchy.proofs.PlaceTables.{one_more}
 use Rattle.hierarchy.proofs.Positions.{Some_same}
 use Rattle.hierarchy.proofs.Searches.{among_one, length-get_none}
+
+own_alike : (edition : Edition) (classes : List Class) (cs : List ClassId) → flat_map (own_instance_fields (linked classes)) cs ≡ flat_map (own_instance_fields (linked_as edition classes)) cs
+own_alike edition classes [] = refl
+own_alike edition classes (c ∷ cs) = ap (λ fs. own_instance_fields (linked classes) c ++ fs) (own_alike edition classes cs)
+
+-- an object has the same fields in either edition
+pub fields_alike : (edition : Edition) (classes : List Class) (c : ClassId) → object_fields (linked classes) c ≡ object_fields (linked_as edition classes) c
+fields_alike edition classes c = own_alike edition classes (reverse (superclasses classes c))
 
 past_within : (classes : List Class) → IsAcyclic classes → (d : ℕ) (c : ClassId) → IsWithin d classes c → length classes ≤ c.number → object_fields (linked classes) c ≡ []
 past_within classes a zero c w h = absurd w

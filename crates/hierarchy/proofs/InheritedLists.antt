@@ -3,12 +3,13 @@ use Rattle.std.proofs.Common.{◌≡◌, ◌<◌, ◌≤◌, arith, Option, Some
 use Rattle.std.specs.List.{flat_map}
 use Rattle.hierarchy.specs.declared.class.Class.{Class}
 use Rattle.hierarchy.specs.declared.class.ClassId.{ClassId}
+use Rattle.hierarchy.specs.declared.edition.Edition.{Edition}
 use Rattle.hierarchy.specs.Ancestry.{superclass_of, superclasses}
 use Rattle.hierarchy.specs.ClassLists.{Among, first, add_all}
 use Rattle.hierarchy.specs.FinishedLists.{AreFinished, listed}
 use Rattle.hierarchy.specs.Hierarchy.{interfaces_of, Reaches, direct, IsAcyclic}
 use Rattle.hierarchy.specs.InheritedLists.{or_other, unless_none, above, inherited}
-use Rattle.hierarchy.specs.LinkedProgram.{LinkedProgram, linked}
+use Rattle.hierarchy.specs.LinkedProgram.{LinkedProgram, linked_as}
 use Rattle.hierarchy.specs.Methods.{enumeration_of_all, all_superinterfaces}
 use Rattle.hierarchy.specs.Superinterfaces.{enumeration, superinterfaces, IsTable}
 use Rattle.hierarchy.proofs.Ancestries.{superclass_upward}
@@ -54,7 +55,7 @@ all_kept classes a tables all P c p t f =
     ap (or_other (superinterfaces classes c)) (listed_is f c p (inherited_none_past classes a c)) ∙ inherited_is classes a c
 
 -- the superinterfaces of a class of a program that keeps both tables
-pub table_kept : {p : LinkedProgram} {classes : List Class} {tables all own list : List (List ClassId)} → linked classes ≡ p → IsAcyclic classes → own ≡ tables → list ≡ all → IsTable (superinterfaces classes) (length classes) tables →
+pub table_kept : {p : LinkedProgram} {edition : Edition} {classes : List Class} {tables all own list : List (List ClassId)} → linked_as edition classes ≡ p → IsAcyclic classes → own ≡ tables → list ≡ all → IsTable (superinterfaces classes) (length classes) tables →
     IsTable (inherited classes) (length classes) all → (c : ClassId) → or_other (listed own c.number) (listed list c.number) ≡ all_superinterfaces p.classes c
 table_kept {classes = classes} {tables = tables} {all = all} {list = list} v a o l t f c =
     ap (λ z. or_other (listed z c.number) (listed list c.number)) o ∙ ap (λ z. or_other (listed tables c.number) (listed z c.number)) l ∙

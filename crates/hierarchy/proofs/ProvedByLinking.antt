@@ -5,7 +5,8 @@ use Rattle.std.specs.List.{All, IsDistinct}
 use Rattle.hierarchy.specs.declared.class.Class.{Class}
 use Rattle.hierarchy.specs.declared.class.ClassId.{ClassId}
 use Rattle.hierarchy.specs.declared.built_in.TheConstants.{BUILT_IN_COUNT}
-use Rattle.hierarchy.specs.LinkedProgram.{LinkedProgram, linked, id}
+use Rattle.hierarchy.specs.declared.edition.Edition.{Edition}
+use Rattle.hierarchy.specs.LinkedProgram.{LinkedProgram, linked_as, id}
 use Rattle.hierarchy.specs.ClassLists.{add_all, is_among, same_class}
 use Rattle.hierarchy.specs.Hierarchy.{supers, IsInRange, AreSupertypes, IsCyclic, IsAcyclic}
 use Rattle.hierarchy.specs.Linking.{names_of, kinds_of}
@@ -54,11 +55,11 @@ pub resolved_in_range : (classes : List Class) → IsResolved classes → IsInRa
 resolved_in_range classes h = in_range_all h.texts classes h.supertypes
 
 -- without a fault of the classes themselves, resolved classes are a linked program
-pub resolved_linked : (classes : List Class) → IsResolved classes → HasNoCycle classes → HasDistinctMembers classes → FitsHeap classes → IsLinked (linked classes)
-resolved_linked classes h cycles members heap = record {
+pub resolved_linked : (edition : Edition) (classes : List Class) → IsResolved classes → HasNoCycle classes → HasDistinctMembers classes → FitsHeap classes → IsLinked (linked_as edition classes)
+resolved_linked edition classes h cycles members heap = record {
   texts = h.texts;
   spellable = h.spellable;
-  links = record { names = h.names; supertypes = h.supertypes; cycles = cycles; members = members; heap = heap };
+  links = record { edition_is = refl; names = h.names; supertypes = h.supertypes; cycles = cycles; members = members; heap = heap };
 }
 
 pub linked_resolved : (p : LinkedProgram) → IsLinked p → IsResolved p.classes

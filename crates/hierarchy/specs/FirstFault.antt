@@ -4,6 +4,8 @@
 use Rattle.std.specs.Prelude.{◌≡◌, ℕ, ◌<◌, ◌≤◌, List, Option, Some, None, Ok, Err, length, position, slice_get}
 use Rattle.jasmin_text.specs.declared.class_text.ClassParts.{ClassParts}
 use Rattle.hierarchy.specs.declared.class.Class.{Class}
+use Rattle.hierarchy.specs.declared.edition.Edition.{Edition}
+use Rattle.hierarchy.specs.declared.edition.Edition.TheVariants.{Eight}
 use Rattle.hierarchy.specs.declared.fault.LinkFault.{LinkFault}
 use Rattle.hierarchy.specs.declared.fault.LinkFaultKind.{LinkFaultKind}
 use Rattle.hierarchy.specs.declared.fault.LinkFaultKind.TheVariants.{RepeatedName, Cycle, ReservedName, RepeatedMember, TooMany, NoMemory}
@@ -70,13 +72,18 @@ pub data IsFirstFault (texts : List ClassParts) : LinkFault → Type 0 where
   of_classes : {classes : List Class} {kind : LinkFaultKind} {i : ℕ} {name : List ℕ} → HasNames texts → classes_of texts ≡ Ok classes → IsClassFault classes kind i →
       name_in_class (slice_get classes i) ≡ Some name → IsFirstFault texts (fault kind name)
 
--- the texts have no fault, and p is the program that they make
-pub record LinksTo (texts : List ClassParts) (p : LinkedProgram) : Type 0 where
+-- the texts have no fault, and p is the program that they make in this edition
+pub record LinksAs (edition : Edition) (texts : List ClassParts) (p : LinkedProgram) : Type 0 where
+  pub edition_is : p.edition ≡ edition
   pub names : HasNames texts
   pub supertypes : classes_of texts ≡ Ok p.classes
   pub cycles : HasNoCycle p.classes
   pub members : HasDistinctMembers p.classes
   pub heap : FitsHeap p.classes
+
+-- .. in edition 8
+abbrev pub LinksTo : List ClassParts → LinkedProgram → Type 0
+LinksTo texts p = LinksAs Eight texts p
 
 abbrev pub IsMemory : LinkFault → Type 0
 IsMemory f = f.kind ≡ NoMemory

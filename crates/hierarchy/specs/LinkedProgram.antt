@@ -1,17 +1,24 @@
--- A program: its linked classes in file order (JVMS SE 8 5.4), and the built-in ones after them.
+-- A program: its linked classes in file order (JVMS SE 8 5.4), the built-in ones after them, and the edition of JVMS
+-- whose 5.5 says what a class needs first.
 use Rattle.std.specs.Prelude.{ℕ, ◌+◌, ◌-◌, List, Option, Some, None, map, length, slice_get, position}
 use Rattle.std.specs.Option.{option_map, option_or}
 use Rattle.std.specs.Str.{bytes_eq}
 use Rattle.hierarchy.specs.declared.class.Class.{Class}
 use Rattle.hierarchy.specs.declared.class.ClassId.{ClassId}
 use Rattle.hierarchy.specs.declared.built_in.BuiltIn.{BuiltIn}
+use Rattle.hierarchy.specs.declared.edition.Edition.{Edition}
+use Rattle.hierarchy.specs.declared.edition.Edition.TheVariants.{Eight}
 use Rattle.hierarchy.specs.BuiltIn.{number_of, built_in_names, place_of}
 
 pub record LinkedProgram : Type 0 where
   pub classes : List Class
+  pub edition : Edition
+
+abbrev pub linked_as : Edition → List Class → LinkedProgram
+linked_as edition classes = record { classes = classes; edition = edition }
 
 abbrev pub linked : List Class → LinkedProgram
-linked classes = record { classes = classes }
+linked classes = linked_as Eight classes
 
 abbrev pub id : ℕ → ClassId
 id n = record { number = n }

@@ -5,7 +5,7 @@ use Rattle.hierarchy.specs.declared.code.ClassCode.{ClassCode}
 use Rattle.hierarchy.specs.declared.tables.Tables.{Tables}
 use Rattle.hierarchy.specs.ClassLists.{distinct}
 use Rattle.hierarchy.specs.Code.{code_at}
-use Rattle.hierarchy.specs.LinkedProgram.{linked}
+use Rattle.hierarchy.specs.LinkedProgram.{LinkedProgram, linked}
 use Rattle.hierarchy.specs.Superinterfaces.{IsTable, superinterfaces}
 use Rattle.hierarchy.specs.Fields.{field_order}
 use Rattle.hierarchy.specs.InheritedLists.{inherited}
@@ -13,7 +13,7 @@ use Rattle.hierarchy.specs.MemberPlaces.{HavePlaces}
 use Rattle.hierarchy.specs.Objects.{object_fields}
 use Rattle.hierarchy.specs.Quoted.{quoted_texts, cells_of}
 
--- the tables are those of these classes
+-- the tables are those of these classes, in either edition
 pub record AreTables (classes : List Class) (t : Tables) : Type 0 where
   pub superinterfaces : IsTable (superinterfaces classes) (length classes) t.superinterfaces.items
   pub field_orders : IsTable (λ c. distinct (field_order classes c)) (length classes) t.field_orders.items
@@ -24,5 +24,5 @@ pub record AreTables (classes : List Class) (t : Tables) : Type 0 where
   pub members : HavePlaces classes t.members.items
 
 -- each entry is that of its class
-abbrev pub AreCodeOf : List Class → List ClassCode → Type 0
-AreCodeOf classes code = (n : ℕ) (found : ClassCode) → slice_get code n ≡ Some found → code_at (linked classes) n ≡ Some found
+abbrev pub AreCodeOf : LinkedProgram → List ClassCode → Type 0
+AreCodeOf p code = (n : ℕ) (found : ClassCode) → slice_get code n ≡ Some found → code_at p n ≡ Some found

@@ -1,12 +1,12 @@
 //! Linked classes.
 //!
-//! Enter by [`link`]: it takes the class texts of all files, in order, and answers the [`Program`] that they
-//! make, or the first fault with its class (JVMS SE 8 5.3.5, 5.4). A program numbers its classes in file order
-//! and the built-in ones after them; a [`ClassId`] is such a number, and everything above speaks of classes
-//! by it.
+//! Enter by [`link_as`], or by [`link`] for edition 8 of JVMS: it takes the class texts of all files, in order, and
+//! answers the [`Program`] that they make, or the first fault with its class (JVMS SE 8 5.3.5, 5.4). A program numbers
+//! its classes in file order and the built-in ones after them; a [`ClassId`] is such a number, and everything above
+//! speaks of classes by it.
 //!
-//! Contracts see a program as one value, the list of its linked classes. In every program each way up the
-//! hierarchy ends, which [`Program::is_linked`] says. What linking found out beside the classes, as the
+//! Contracts see a program as one value, the list of its linked classes and the edition. In every program each way up
+//! the hierarchy ends, which [`Program::is_linked`] says. What linking found out beside the classes, as the
 //! superinterfaces of each and the classes in which its fields are looked up, is kept in the program and is no part
 //! of that value: so no call goes up the hierarchy by more than one way, that of the superclasses, and what is
 //! resolved later can be kept there too.
@@ -29,6 +29,7 @@ pub mod class_list;
 mod class_set;
 pub mod code;
 pub mod declared_method;
+pub mod edition;
 pub mod fault;
 mod field_ops;
 mod field_order;
@@ -66,6 +67,7 @@ pub use class::{Class, ClassId};
 pub use class_list::ClassList;
 pub use code::{ClassCode, Element, MethodCode, ResolvedType};
 pub use declared_method::MethodId;
+pub use edition::Edition;
 pub use fault::{LinkFault, LinkFaultKind};
 pub use fields::{FieldId, FieldKind, static_count};
 pub use laws::{
@@ -73,7 +75,7 @@ pub use laws::{
     members_are_looked_up_upward, members_have_own_descriptors, texts_have_own_references,
     throwables_are_subclasses,
 };
-pub use linking::link;
+pub use linking::{link, link_as};
 pub use methods::Invoke;
 pub use op::{ElementKind, Op};
 pub use program::Program;

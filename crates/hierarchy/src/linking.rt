@@ -3,7 +3,7 @@
 ghost use Rattle.std.specs.Prelude.{◌≡◌, ◌⊎◌, ℕ, ◌<◌, ◌≤◌, Some, IfOk, IfErr, length, position, slice_get, vec_len};
 ghost use Rattle.std.specs.List.{All};
 ghost use Rattle.jasmin_text.specs.Spellable.{IsSpellable};
-ghost use Rattle.hierarchy.specs.LinkedProgram.{linked, class_names};
+ghost use Rattle.hierarchy.specs.LinkedProgram.{linked_as, class_names};
 ghost use Rattle.hierarchy.specs.Hierarchy.{IsAcyclic, IsInRange};
 ghost use Rattle.hierarchy.specs.UpwardOrder.{IsUpwardOrder};
 ghost use Rattle.hierarchy.specs.Quoted.{quoted_texts, cells_of, FillsHeap};
@@ -15,13 +15,14 @@ ghost use Rattle.hierarchy.specs.Tables.{AreTables};
 ghost use Rattle.hierarchy.specs.Code.{code_of as code_of_program};
 ghost use Rattle.hierarchy.specs.SelectionTable.{AreSelectionsOf};
 ghost use Rattle.hierarchy.specs.Linking.{names_of, kinds_of, IsFirst};
-ghost use Rattle.hierarchy.specs.FirstFault.{HasNames, IsNameFault, HasNoCycle, HasDistinctMembers, FitsHeap, IsClassFault, IsFirstFault, LinksTo, IsMemory, name_in_text, name_in_class};
+ghost use Rattle.hierarchy.specs.FirstFault.{HasNames, IsNameFault, HasNoCycle, HasDistinctMembers, FitsHeap, IsClassFault, IsFirstFault, LinksAs, LinksTo, IsMemory, name_in_text, name_in_class};
 ghost use Rattle.hierarchy.specs.declared.fault.LinkFaultKind.TheVariants as because;
 
 use crate::assembly::linked_classes;
 use crate::class::{Class, ClassId};
 use crate::class_code::code_of;
 use crate::code::ClassCode;
+use crate::edition::Edition;
 use crate::fault::{LinkFault, LinkFaultKind};
 use crate::member_places::{MemberPlaces, MemberSearch, search_members};
 use crate::naming::{first_repeated, first_reserved, kinds};
@@ -210,7 +211,7 @@ struct Resolution {
 
 fn resolve(alloc: Global, program: &Program) -> Result<Resolution, AllocError>
     ensures code { IfOk result (λ made. made.code.items ≡ code_of_program program.now) }
-    ensures selections { IfOk result (λ made. AreSelectionsOf program.now.classes made.selections.items) }
+    ensures selections { IfOk result (λ made. AreSelectionsOf program.now made.selections.items) }
 {
     let code = code_of(alloc, program)?;
     let selections = selections_of(alloc, program, &code)?;
@@ -233,18 +234,23 @@ fn resolved(alloc: Global, program: Program) -> Result<Program, LinkFault>
 }
 
 /// The program of classes whose supertypes' names are resolved.
-fn program_of(alloc: Global, names: Texts, classes: Vec<Class>) -> Result<Program, LinkFault>
+fn program_of(
+    alloc: Global,
+    names: Texts,
+    classes: Vec<Class>,
+    edition: Edition,
+) -> Result<Program, LinkFault>
     requires some { 0 < vec_len classes }
     requires resolved { IsResolved classes.items }
     requires names { names ≡ class_names classes.items }
-    ensures program { IfOk result (λ program. program ≡ linked classes.items) }
+    ensures program { IfOk result (λ program. program ≡ linked_as edition classes.items) }
     ensures cycles { IfOk result (λ program. HasNoCycle classes.items) }
     ensures members { IfOk result (λ program. HasDistinctMembers classes.items) }
     ensures heap { IfOk result (λ program. FitsHeap classes.items) }
     ensures fault { IfErr result (λ f. IsMemory f ⊎ ((i : ℕ) × IsClassFault classes.items f.kind i × (name_in_class (slice_get classes.items i) ≡ Some f.class))) }
 {
     match tables_of(alloc, &classes) {
-        Ok(tables) => resolved(alloc, Program::new(alloc, classes, names, tables)),
+        Ok(tables) => resolved(alloc, Program::new(alloc, classes, edition, names, tables)),
         Err(at) => Err(LinkFault {
             kind: at.kind,
             class: name_of_class(classes, at.place),
@@ -253,18 +259,18 @@ fn program_of(alloc: Global, names: Texts, classes: Vec<Class>) -> Result<Progra
 }
 
 /// Links the parts of classes that a file can spell.
-fn link_parts(alloc: Global, texts: Vec<ClassParts>) -> Result<Program, LinkFault>
+fn link_parts(alloc: Global, texts: Vec<ClassParts>, edition: Edition) -> Result<Program, LinkFault>
     requires { All IsSpellable texts.items }
-    ensures linked { IfOk result (LinksTo texts.items) }
+    ensures linked { IfOk result (LinksAs edition texts.items) }
     ensures fault { IfErr result (λ f. IsMemory f ⊎ IsFirstFault texts.items f) }
 {
     if texts.as_slice().is_empty() {
-        return Ok(Program::empty(alloc));
+        return Ok(Program::empty(alloc, edition));
     }
     match directory_of(alloc, &texts) {
         Ok(Directory { names, kinds }) => {
             match linked_classes(alloc, &names, &kinds, texts) {
-                Ok(classes) => program_of(alloc, names, classes),
+                Ok(classes) => program_of(alloc, names, classes, edition),
                 Err(fault) => Err(fault),
             }
         }
@@ -296,8 +302,9 @@ fn parts_of(alloc: Global, texts: Vec<ClassText>) -> Result<Vec<ClassParts>, Lin
     Ok(parts)
 }
 
-/// Links the classes of all files, in order, to a program, or reports the first fault and its class
-/// (JVMS SE 8 5.3.5, 5.4). Of no class it makes the program that has the built-in classes alone.
+/// Links the classes of all files, in order, to a program of an edition of JVMS, or reports the first fault and its
+/// class (JVMS SE 8 5.3.5, 5.4), which is the same in each edition. Of no class it makes the program that has the
+/// built-in classes alone.
 ///
 /// The passes, each over the classes in file order: over 1,024 classes; a name under java/; a name twice;
 /// then of each class its superclass and its superinterfaces in order, of one name first whether it is known
@@ -306,12 +313,20 @@ fn parts_of(alloc: Global, texts: Vec<ClassText>) -> Result<Vec<ClassParts>, Lin
 /// each distinct quoted text of a static field or of `ldc`, of 1,000,000 cells.
 ///
 /// Being out of memory is [`LinkFaultKind::NoMemory`], may come before any fault, and leaves its class open.
+pub fn link_as(alloc: Global, texts: Vec<ClassText>, edition: Edition) -> Result<Program, LinkFault>
+    ensures linked { IfOk result (LinksAs edition texts.items) }
+    ensures fault { IfErr result (λ f. IsMemory f ⊎ IsFirstFault texts.items f) }
+{
+    match parts_of(alloc, texts) {
+        Ok(parts) => link_parts(alloc, parts, edition),
+        Err(fault) => Err(fault),
+    }
+}
+
+/// Links the classes of all files, in order, to a program of edition 8, as [`link_as`] does.
 pub fn link(alloc: Global, texts: Vec<ClassText>) -> Result<Program, LinkFault>
     ensures linked { IfOk result (LinksTo texts.items) }
     ensures fault { IfErr result (λ f. IsMemory f ⊎ IsFirstFault texts.items f) }
 {
-    match parts_of(alloc, texts) {
-        Ok(parts) => link_parts(alloc, parts),
-        Err(fault) => Err(fault),
-    }
+    link_as(alloc, texts, Edition::Eight)
 }

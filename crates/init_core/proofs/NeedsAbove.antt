@@ -8,13 +8,15 @@ use Rattle.jasmin_text.specs.declared.class_text.ClassKind.{ClassKind}
 use Rattle.jasmin_text.specs.declared.class_text.ClassKind.TheVariants as kind
 use Rattle.hierarchy.specs.declared.class.Class.{Class}
 use Rattle.hierarchy.specs.declared.class.ClassId.{ClassId}
+use Rattle.hierarchy.specs.declared.edition.Edition.{Edition}
+use Rattle.hierarchy.specs.declared.edition.Edition.TheVariants as edition
 use Rattle.hierarchy.specs.LinkedProgram.{LinkedProgram, class_at}
 use Rattle.hierarchy.specs.ClassLists.{Among, first, later}
 use Rattle.hierarchy.specs.Hierarchy.{interfaces_of, supers, Reaches, direct, further, height}
 use Rattle.hierarchy.specs.Superinterfaces.{enumeration_within, enumeration}
 use Rattle.hierarchy.proofs.ClassMembership.{among_cases, add_all-cases}
 use Rattle.hierarchy.proofs.Enumerations.{flat_map-from, among_supers}
-use Rattle.init_core.specs.Needs.{needs, needs_in, needs_by, needs_of_class, declares_default, declares_default_in, is_in_file}
+use Rattle.init_core.specs.Needs.{needs, needs_in, needs_by, needs_of_class, interfaces_first, declares_default, declares_default_in, is_in_file}
 
 only : {x y : ClassId} → Among x (y ∷ []) → x ≡ y
 only first = refl
@@ -44,14 +46,19 @@ filtered q (c ∷ cs) {d} h = elim (cases_Bool (q c)) [
   fails : q c ≡ false → filter q (c ∷ cs) ≡ filter q cs
   fails e = rw e refl
 
+-- what comes first is a superinterface that declares a non-abstract, non-static method
+comes_first : (e : Edition) (p : LinkedProgram) (interfaces : List ClassId) {d : ClassId} → Among d (interfaces_first e p interfaces) → Among d (flat_map (enumeration p.classes) interfaces) × (declares_default p d ≡ true)
+comes_first edition.Seven p interfaces h = elim h [ ]
+comes_first edition.Eight p interfaces h = filtered (declares_default p) (flat_map (enumeration p.classes) interfaces) h
+
 -- the superclass in a file, or a superinterface that declares a non-abstract, non-static method
 needed : (p : LinkedProgram) (superclass : ClassId) (interfaces : List ClassId) {d : ClassId} → Among d (needs_of_class p superclass interfaces) →
     ((d ≡ superclass) × (is_in_file p d ≡ true)) ⊎ (Among d (flat_map (enumeration p.classes) interfaces) × (declares_default p d ≡ true))
-needed p superclass interfaces {d} h = elim (add_all-cases [] (filter (is_in_file p) (superclass ∷ []) ++ filter (declares_default p) (flat_map (enumeration p.classes) interfaces)) h) [
+needed p superclass interfaces {d} h = elim (add_all-cases [] (filter (is_in_file p) (superclass ∷ []) ++ interfaces_first p.edition p interfaces) h) [
   | inl k ↦ elim k [ ]
   | inr k ↦ elim (among_cases (filter (is_in_file p) (superclass ∷ [])) k) [
     | inl m ↦ let f = filtered (is_in_file p) (superclass ∷ []) m in inl (only f.0, f.1)
-    | inr m ↦ inr (filtered (declares_default p) (flat_map (enumeration p.classes) interfaces) m)
+    | inr m ↦ inr (comes_first p.edition p interfaces m)
   ]
 ]
 

@@ -28,8 +28,8 @@ pub struct Pass<R: Keeps> {
     // The place whose slot the seat carries, empty, between taking its record and giving it back. A pass that has several
     // records carries the slot of the first, and the others' are at home: only for these it makes steps of their own.
     pub(crate) carried: Option<usize>,
-    // All passes are made side by side in one `Vec`. The padding keeps two journals off one cache line, wherever the passes
-    // lie; what a draw writes to lies in memory of the journal's own, apart from that of other journals (`event_rows`).
+    // All passes are made side by side in one `Vec`, and each draw writes to its journal. The padding keeps two journals off one
+    // cache line, wherever the passes lie.
     pub(crate) journal: CachePadded<Journal<R>>,
 }
 

@@ -7,13 +7,15 @@ use crate::pass::{Held, Pass};
 use crate::table::InitTable;
 use std::sync::Wait;
 use std::{hint, thread};
+use thiserror::Error;
 
 // How often in a row a thread looks again at a lock that it found taken, before it lets others run. A lock is mostly free
 // again after less time than it takes to ask the operating system for another thread.
 const LOOKS_IN_A_ROW: u32 = 32;
 
 /// The lock was found taken as often as the patience allows.
-#[derive(Drop)]
+#[derive(Debug, Drop, Error)]
+#[error("a lock was found taken as often as the patience allows")]
 pub struct GaveUp;
 
 impl<R: Keeps> InitTable<R> {

@@ -4,7 +4,7 @@ ghost use Rattle.std.specs.Prelude.{◌≡◌, ◌↔◌, ◌⊎◌, IfOk, IsTru
 ghost use Rattle.hierarchy.specs.Subclasses.{IsError};
 ghost use Rattle.heap.specs.Objects.{no_texts, reference_of_new, with_new};
 ghost use Rattle.init_core.specs.ProcedureWord.{GoesOn};
-ghost use Rattle.interpreter.specs.CodeRun.{Begins, Enters, IsAnswer, IsTold, Replaces, Starts, below_body, fails_by, first_phase as first_phase_of, interpreter_at_start, left_phase as left_phase_of};
+ghost use Rattle.interpreter.specs.CodeRun.{Begins, Enters, IsAnswer, IsTold, Replaces, Starts, below_body, fails_by, interpreter_at_start, left_phase as left_phase_of};
 ghost use Rattle.interpreter.specs.Says.{IsSayable, SaysNext};
 
 use crate::fitting::{built_in_type, cell_of};
@@ -18,7 +18,7 @@ use crate::taken::TakenMonitors;
 use bodies::{Bodies, Does, Lends, Limit};
 use frames::{Cell, Frames, Thrown};
 use heap::{Heap, Monitor, Monitors, no_class, out_of_memory};
-use hierarchy::{BuiltIn, ClassId, MethodCode, Program, Value, throwables_are_subclasses};
+use hierarchy::{BuiltIn, ClassId, Program, Value, throwables_are_subclasses};
 use init_core::{Completed, Outcome};
 use std::alloc::{AllocError, Global};
 
@@ -52,17 +52,6 @@ fn new_texts(heap: &mut Heap, program: &Program) -> Result<Option<u32>, AllocErr
     ensures err { OnErr result (heap.new ≡ heap.old) }
 {
     heap.new_array(program, built_in_type(program, BuiltIn::String), 0)
-}
-
-/// The phase of a body whose first frame was just entered.
-fn first_phase(takes_monitor: bool, code: &MethodCode, class: ClassId) -> Phase
-    ensures { result ≡ first_phase_of takes_monitor code.now class }
-{
-    if takes_monitor {
-        phase_of(code, Monitor::Class(class))
-    } else {
-        Phase::Runs
-    }
 }
 
 /// The phase of the body below once the innermost one is ended: that one was ended for its steps stays known.
@@ -103,17 +92,16 @@ impl Interpreter {
         Ok(())
     }
 
-    /// Enters the first frame of a body, whose method takes its class's monitor if it is synchronized and may. An `Err` means out of memory,
+    /// Enters the first frame of a body, whose method takes its class's monitor if it is synchronized. An `Err` means out of memory,
     /// and changes nothing.
     fn begin(
         &mut self,
         program: &Program,
-        takes_monitor: bool,
         class: ClassId,
         method: usize,
         given: &[Cell],
     ) -> Result<(), AllocError>
-        ensures ok { OnOk result (Begins program.now takes_monitor class method given.now self.old self.new) }
+        ensures ok { OnOk result (Begins program.now class method given.now self.old self.new) }
         ensures err { OnErr result (self.new ≡ self.old) }
     {
         let Some(code) = method_code(program, class.number, method) else {
@@ -126,7 +114,7 @@ impl Interpreter {
             return self.fail(program, BuiltIn::StackOverflowError);
         }
         self.frames.begin(class.number, method, code, given)?;
-        self.phase = first_phase(takes_monitor, code, class);
+        self.phase = phase_of(code, Monitor::Class(class));
         Ok(())
     }
 }
@@ -161,7 +149,7 @@ impl Interpreter {
             return Err(AllocError);
         };
         match code.initializer {
-            Some(method) => self.begin(program, false, class, method, &[]),
+            Some(method) => self.begin(program, class, method, &[]),
             None => {
                 self.phase = Phase::Over(None);
                 Ok(())
@@ -183,7 +171,7 @@ impl Interpreter {
         };
         match new_texts(&mut self.heap, program)? {
             Some(reference) => {
-                self.begin(program, true, class, method, &[Cell::Reference(reference)])
+                self.begin(program, class, method, &[Cell::Reference(reference)])
             },
             None => {
                 self.phase = Phase::Over(Some(out_of_memory(program)));

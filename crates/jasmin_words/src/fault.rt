@@ -1,14 +1,14 @@
 //! What can be wrong with a Jasmin file.
 
 ghost use Rattle.std.specs.Prelude.{◌≡◌};
-ghost use Rattle.jasmin_words.specs.Fault.{number_of};
+ghost use Rattle.jasmin_words.specs.Fault.{number_of, message_of};
 
-use std::error::Error;
 use std::fmt;
+use thiserror::Error;
 
 /// What is wrong with a Jasmin file. Of several faults at one place the lowest kind is reported, in the order of
-/// this list. A kind prints as its code, `J1` to `J14`.
-#[derive(Clone, Copy, Debug)]
+/// this list. A kind prints as its code, `J1` to `J14`, and a few words.
+#[derive(Clone, Copy, Debug, Error)]
 pub enum FaultKind {
     /// `J1`: a byte above 127 or a control byte outside comment and string, or a string that isn't UTF-8.
     BadByte,
@@ -64,12 +64,36 @@ impl FaultKind {
             FaultKind::NoMemory => 14,
         }
     }
-}
 
-impl fmt::Display for FaultKind {
-    fn fmt<W: fmt::Write>(&self, f: &mut fmt::Formatter<W>) -> fmt::Result {
-        write!(f, "J{}", self.number())
+    /// What the kind prints as.
+    fn message(self) -> &'static str
+        ensures { result.now ≡ message_of self }
+    {
+        match self {
+            FaultKind::BadByte => "J1: bad byte",
+            FaultKind::UnknownDirective => "J2: unknown directive",
+            FaultKind::UnknownInstruction => "J3: unknown instruction",
+            FaultKind::LeftOut => "J4: left out of this machine",
+            FaultKind::BadOperand => "J5: bad operand",
+            FaultKind::UnknownLabel => "J6: unknown label",
+            FaultKind::RepeatedLabel => "J7: repeated label",
+            FaultKind::Unfinished => "J8: unfinished string or method",
+            FaultKind::Misplaced => "J9: misplaced directive or instruction",
+            FaultKind::BadDescriptor => "J10: bad descriptor",
+            FaultKind::LimitExceeded => "J11: limit exceeded",
+            FaultKind::BadInitializer => "J12: bad class initializer",
+            FaultKind::BadBody => "J13: body missing or not allowed",
+            FaultKind::NoMemory => "J14: out of memory",
+        }
     }
 }
 
-impl Error for FaultKind {}
+impl fmt::Display for FaultKind {
+    ghost use Rattle.std.specs.Prelude.{Some};
+
+    ghost output = { λ kind. Some (message_of kind) };
+
+    fn fmt<W: fmt::Write>(&self, f: &mut fmt::Formatter<W>) -> fmt::Result {
+        f.write_str(self.message())
+    }
+}

@@ -46,17 +46,17 @@ fn condition_of(kind: &Kind) -> &'static str {
 
 impl Words<'_> {
     /// The rule that an event of this kind breaks.
-    fn broken(&mut self, judge: &Judge, class: Option<ClassId>, kind: &Kind, rule: Rule)
+    fn broken(&mut self, judge: &Judge, event: &Event, kind: &Kind, rule: Rule)
         ensures { self.new.text.is_lost ≡ false → 1 ≤ length self.new.text.text }
     {
         match rule {
-            Rule::Word => self.say("JLS SE 8 12.4.2 lets the thread do no other thing here"),
+            Rule::Word => self.wrong_word(judge, event, kind),
             Rule::Label => {
                 self.say("JLS SE 8 12.4.2: ");
                 self.say(condition_of(kind));
             }
             Rule::Value | Rule::End => {
-                let state = match class {
+                let state = match event.class() {
                     Some(class) => judge.classes.states.get(class.number),
                     None => None,
                 };
@@ -107,7 +107,7 @@ impl Words<'_> {
             self.label_line(class);
         }
         match event.kind() {
-            Ok(kind) => self.broken(judge, event.class(), &kind, rule),
+            Ok(kind) => self.broken(judge, event, &kind, rule),
             Err(_) => self.lose(),
         }
     }
@@ -129,9 +129,9 @@ impl Words<'_> {
 /// Says in plain lines why a list of events is illegal, where this is the verdict on it; nothing where it is legal.
 ///
 /// Of an illegal event: the event; what its thread was doing, the innermost open class first, with the numbers of the events
-/// at which it began each; what it could have done instead; the label of the event's class, and since which event; and the step of
-/// JLS SE 8 12.4.2 that says so. Where the list ends too early: the same of each thread that hasn't ended what it began, and whom it
-/// waits for.
+/// at which it began each; what it could have done instead; the label of the event's class, and since which event; the step of
+/// JLS SE 8 12.4.2 that says so; and where the event is one that the other edition of JVMS asks for, what each of the two asks for.
+/// Where the list ends too early: the same of each thread that hasn't ended what it began, and whom it waits for.
 ///
 /// An `Err` means out of memory.
 pub fn explain(

@@ -17,6 +17,7 @@ ghost use Rattle.judge.specs.Verdicts.{IsVerdict};
 ghost use Rattle.judge.specs.declared.verdict.Verdict.TheVariants as verdicts;
 
 mod classes;
+mod edition_words;
 mod explanation;
 mod items;
 mod judge;

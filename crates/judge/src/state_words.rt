@@ -19,7 +19,7 @@ const MACHINE_ERRORS: &str = " java/lang/InternalError or java/lang/OutOfMemoryE
 /// A text about the events of a program.
 #[derive(Drop)]
 pub(crate) struct Words<'a> {
-    program: &'a Program,
+    pub(crate) program: &'a Program,
     events: &'a [Event],
     text: Writer,
 }
@@ -87,7 +87,7 @@ impl Words<'_> {
         self.text.lose();
     }
 
-    fn class(&mut self, class: ClassId) {
+    pub(crate) fn class(&mut self, class: ClassId) {
         write_class_name(&mut self.text, self.program, class);
     }
 

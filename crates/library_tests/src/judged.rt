@@ -2,6 +2,7 @@
 
 use crate::refusals::RefusingFiles;
 use cli::{Judged, check_named, status_of_verdict, write_judged};
+use hierarchy::Edition;
 use judge::{Rule, Verdict, check, explain};
 use std::alloc::Global;
 
@@ -44,7 +45,9 @@ fn is_right(alloc: Global, judged: &Judged) -> bool {
 
 fn is_judged(alloc: Global) -> bool {
     let mut files = RefusingFiles { is_written: false };
-    match check_named(alloc, &mut files, &["Solo.j"], Some("Solo"), "broken off") {
+    let edition = Edition::Eight;
+    let trace = "broken off";
+    match check_named(alloc, &mut files, &["Solo.j"], edition, Some("Solo"), trace) {
         Ok(judged) => is_right(alloc, &judged),
         Err(_) => false,
     }

@@ -66,6 +66,8 @@ mod twin_labels;
 #[cfg(test)]
 mod types;
 #[cfg(test)]
+mod waiting;
+#[cfg(test)]
 mod words;
 #[cfg(test)]
 mod worlds;

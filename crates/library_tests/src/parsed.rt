@@ -18,6 +18,8 @@ const WORDS: &[&str] = &[
     "--patience",
     "7",
     "--steps=10",
+    "--edition",
+    "7",
     "--",
     "--c.j",
 ];
@@ -31,6 +33,7 @@ fn is_parsed(alloc: Global) -> bool {
                 && run.order == Some("0,1,1")
                 && run.patience == Some("7")
                 && run.steps == Some("10")
+                && run.edition == Some("7")
                 && run.files.as_slice() == ["a.j", "b.j", "--c.j"].as_slice()
         }
         _ => false,

@@ -24,12 +24,9 @@ struct Leading<'a, C> {
     printed: AtomicU64,
 }
 
-impl<'a, C: Clock> Gate for Leading<'a, C> {
-    fn at(&self, event: &Event) {
-        if event.text().is_some() {
-            self.printed.fetch_add(1, Ordering::SeqCst);
-        }
-        if event.thread() == self.first {
+impl<'a, C: Clock> Leading<'a, C> {
+    fn hold(&self, thread: usize) {
+        if thread == self.first {
             return;
         }
         for _ in 0..10_000 {
@@ -41,12 +38,24 @@ impl<'a, C: Clock> Gate for Leading<'a, C> {
     }
 }
 
-/// A run of the first two classes, in which this thread prints first.
-fn run<R: Threads + Wait + Sync + Clock>(
+impl<'a, C: Clock> Gate for Leading<'a, C> {
+    fn at(&self, event: &Event) {
+        self.hold(event.thread());
+    }
+
+    fn at_print(&self, thread: usize) {
+        self.printed.fetch_add(1, Ordering::SeqCst);
+        self.hold(thread);
+    }
+}
+
+/// The run of the code of the first two classes as main classes, if there is one.
+pub(crate) fn run_code<R: Threads + Wait + Sync, G: Gate + Sync>(
     rt: &R,
     alloc: Global,
     program: &Program,
-    first: usize,
+    limits: Limits,
+    gate: &G,
 ) -> Option<Report> {
     let mains = [ClassId { number: 0 }, ClassId { number: 1 }];
     if !are_of_files(program, &mains) {
@@ -54,16 +63,26 @@ fn run<R: Threads + Wait + Sync + Clock>(
     }
     let shared = SharedObjects::new(alloc);
     let mut bodies = Vec::new(alloc);
-    let body = SharedInterpreter::new(rt, alloc, &shared, 0, Limits::USUAL.steps, false);
+    let body = SharedInterpreter::new(rt, alloc, &shared, 0, limits.steps, false);
     bodies.push(body).ok()?;
-    let body = SharedInterpreter::new(rt, alloc, &shared, 1, Limits::USUAL.steps, false);
+    let body = SharedInterpreter::new(rt, alloc, &shared, 1, limits.steps, false);
     bodies.push(body).ok()?;
+    run_threads(rt, alloc, program, &mains, bodies, limits, gate).ok()
+}
+
+/// A run in which this thread prints first.
+fn run<R: Threads + Wait + Sync + Clock>(
+    rt: &R,
+    alloc: Global,
+    program: &Program,
+    first: usize,
+) -> Option<Report> {
     let gate = Leading {
         clock: rt,
         first,
         printed: AtomicU64::new(0),
     };
-    run_threads(rt, alloc, program, &mains, bodies, Limits::USUAL, &gate).ok()
+    run_code(rt, alloc, program, Limits::USUAL, &gate)
 }
 
 /// The number of the thread that the first print is of.

@@ -14,6 +14,7 @@ use crate::records::{STORIES, Story, is_told, takes_two_blocks};
 use crate::resolved::{RESOLVED, resolved};
 use crate::runs::{CROWDS, Crowd, is_run};
 use crate::scripted::{SCRIPTS, Script, is_scripted};
+use crate::waiting::WAITING;
 use crate::worlds::{AGREEING, DIFFERING, SCENES, Scene, is_as_played};
 use hierarchy::{Program, link};
 use jasmin_reader::read_class;
@@ -161,5 +162,6 @@ fn programs_answer(rt: HostRuntime) {
     are_so(&rt, alloc, "two threads go on in order", IN_ORDER);
     are_so(&rt, alloc, "threads at once", CROWDS);
     are_so(&rt, alloc, "prints are in their order", PRINTS);
+    are_so(&rt, alloc, "threads that wait for each other", WAITING);
     are_so(&rt, alloc, "bodies that do one of each", SCRIPTS);
 }

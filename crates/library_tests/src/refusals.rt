@@ -165,6 +165,8 @@ const WITHOUT_LINES: &[(&[&str], &[u8])] = &[
     (&["jinit", "run", "--mains", "Solo", "throwing.j"], b"1\n"),
     // `cli: mains`
     (&["jinit", "run", "Solo.j"], b""),
+    // `cli: edition`: a word with a space, which no case of a file can have
+    (&["jinit", "needs", "--edition", "8 ", "Solo.j"], b""),
     // What `clap` says.
     (&["jinit"], b""),
 ];

@@ -8,6 +8,7 @@ use crate::elided::is_passed;
 use crate::long_chain::{CLASSES, INTERFACES};
 use crate::programs::{Question, Row};
 use crate::steps::{Step, Steps, step_of, steps_of};
+use crate::waiting::is_waited_out;
 use bodies::{Limits, NoCode, Report, ThreadOutcome};
 use guest_threads::{Gate, NoGate, run_threads};
 use hierarchy::{ClassId, Program};
@@ -34,6 +35,8 @@ pub(crate) enum Crowd {
     OverAll,
     /// One at a class whose record another has, which has initialized it.
     PassesBy,
+    /// Two at classes whose initializers need each other.
+    NeedEachOther,
 }
 
 /// Whether each main class is one of the files.
@@ -73,6 +76,14 @@ fn is_whole(report: &Report) -> bool {
     true
 }
 
+/// Tells a gate of an event that was made before.
+fn tell<G: Gate>(gate: &G, event: &Event) {
+    match event.text() {
+        Some(_) => gate.at_print(event.thread()),
+        None => gate.at(event),
+    }
+}
+
 /// The run of these main classes, if there is one. Another gate is told of its events afterwards.
 fn run<R: Threads + Wait + Sync, G: Gate + Sync, A: Gate>(
     rt: &R,
@@ -90,7 +101,7 @@ fn run<R: Threads + Wait + Sync, G: Gate + Sync, A: Gate>(
         Ok(report) => {
             let events = report.events.as_slice();
             for event in events {
-                afterwards.at(event);
+                tell(afterwards, event);
             }
             Some(Ran {
                 is_whole: is_whole(&report),
@@ -132,6 +143,10 @@ impl Gate for Holding {
                 thread::yield_now();
             }
         }
+    }
+
+    fn at_print(&self, _thread: usize) {
+        self.made.fetch_add(1, Ordering::SeqCst);
     }
 }
 
@@ -217,11 +232,15 @@ impl Gate for Tally {
         };
         self.counts[thread.min(1) * 4 + step].fetch_add(1, Ordering::SeqCst);
     }
+
+    fn at_print(&self, thread: usize) {
+        self.counts[thread.min(1) * 4 + 3].fetch_add(1, Ordering::SeqCst);
+    }
 }
 
 /// Holds each thread after its step 9 until two threads have made theirs, for so many turns of 1 ms at most.
 #[derive(Drop)]
-struct Meeting<'a, C> {
+pub(crate) struct Meeting<'a, C> {
     clock: &'a C,
     turns: u64,
     running: AtomicU64,
@@ -230,7 +249,7 @@ struct Meeting<'a, C> {
 }
 
 impl<'a, C> Meeting<'a, C> {
-    fn new(clock: &'a C, turns: u64) -> Self {
+    pub(crate) fn new(clock: &'a C, turns: u64) -> Self {
         Meeting {
             clock,
             turns,
@@ -238,6 +257,11 @@ impl<'a, C> Meeting<'a, C> {
             missed: AtomicU64::new(0),
             told: Tally::new(),
         }
+    }
+
+    /// Whether two threads came, and none was let go before another one came.
+    pub(crate) fn has_met(&self) -> bool {
+        self.running.load(Ordering::SeqCst) == 2 && self.missed.load(Ordering::SeqCst) == 0
     }
 
     /// Whether so many threads were let go before another one came, and each made its own steps.
@@ -259,6 +283,10 @@ impl<'a, C: Clock> Gate for Meeting<'a, C> {
             }
             self.missed.fetch_add(1, Ordering::SeqCst);
         }
+    }
+
+    fn at_print(&self, thread: usize) {
+        self.told.at_print(thread);
     }
 }
 
@@ -330,6 +358,7 @@ pub(crate) fn is_run<R: Threads + Wait + Sync + Clock>(
         Crowd::Apart => is_at_once(rt, alloc, program),
         Crowd::OverAll => is_over_all(rt, alloc, program),
         Crowd::PassesBy => is_passed(rt, alloc, program),
+        Crowd::NeedEachOther => is_waited_out(rt, alloc, program),
     }
 }
 

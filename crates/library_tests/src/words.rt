@@ -82,5 +82,5 @@ fn is_spelled(alloc: Global, kind: FaultKind, wanted: &str) -> bool {
 #[test]
 fn out_of_memory_is_the_last_kind(rt: HostRuntime) {
     let kind = FaultKind::NoMemory;
-    assert!(rt; is_spelled(rt.alloc(), kind, "J14") && kind.number() == 14);
+    assert!(rt; is_spelled(rt.alloc(), kind, "J14: out of memory") && kind.number() == 14);
 }

@@ -149,6 +149,8 @@ impl<R: Clock> Gate for Holding<'_, R> {
             thread::sleep(self.rt, Duration::from_secs(1));
         }
     }
+
+    fn at_print(&self, _thread: usize) {}
 }
 
 // The time of a run of these main classes, an event.

@@ -18,6 +18,9 @@ fn words_to_check<'a>(
         alloc,
         &["jinit", "check", "--mains", mains, "--trace", trace],
     )?;
+    if let Some(edition) = run.edition {
+        words.extend_from_slice(&["--edition", edition])?;
+    }
     words.extend_from_slice(&run.files)?;
     Ok(words)
 }

@@ -6,7 +6,7 @@ use bodies::{Limits, Report};
 use cli::{Named, write_outcomes};
 use command_line::Run;
 use guest_threads::{NoGate, run_threads};
-use hierarchy::{ClassId, LinkFault, Program, link};
+use hierarchy::{ClassId, Edition, LinkFault, Program, link_as};
 use interpreter::{SharedInterpreter, SharedObjects};
 use jasmin_text::ClassText;
 use std::alloc::Global;
@@ -118,6 +118,12 @@ pub(crate) fn run_threaded<R: Threads + Wait + Sync>(
 ) {
     let mut classes = Vec::new(alloc);
     if run.mains.is_some() && add_classes(alloc, &run.files, files, &mut classes) {
-        run_linked(rt, alloc, &link(alloc, classes), run, patient, hasty);
+        let edition = if run.edition == Some("7") {
+            Edition::Seven
+        } else {
+            Edition::Eight
+        };
+        let linked = link_as(alloc, classes, edition);
+        run_linked(rt, alloc, &linked, run, patient, hasty);
     }
 }

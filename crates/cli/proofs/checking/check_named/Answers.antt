@@ -13,7 +13,7 @@ returns-in-Ok-clause-judged g c =
     let after = g.N.Named.held c.link_files.new.named in
     let mains = text_of c.args.mains in
     IfOk-weaker c.judge_trace.result _ _ (λ j h.
-    subst (λ p. IsJudged before (texts c.args.files.now) mains c.args.trace.now p j.mains.items j.events.items j.verdict) (sym h.0)
+    subst (λ p. IsJudged before (texts c.args.files.now) c.args.edition mains c.args.trace.now p j.mains.items j.events.items j.verdict) (sym h.0)
     (record {
       linked = c.in-Ok.ensures.linked;
       of_program = judged_before before after c.in-Ok.program mains c.args.trace.now j.mains.items j.events.items j.verdict

@@ -1,15 +1,18 @@
 use Rattle.std.proofs.Common.{option_map, rules, sym}
 use Rattle.std.proofs.lemmas.Result.{IfErr-weaker}
 use Rattle.cli.specs.Orders.{numbers_of}
-use Rattle.cli.specs.Refusals.{of_files, of_limits, of_order}
+use Rattle.cli.specs.Refusals.{of_edition, of_files, of_limits, of_order}
 use Rattle.cli.proofs.serving.run.Goals as goal
 
 pub returns-in-Err-clause-refused : goal.returns-in-Err-clause-refused
 returns-in-Err-clause-refused g c = λ mended. of_order c.in-Err.ensures.refused
 
-pub returns-clause-refused : goal.returns-clause-refused
-returns-clause-refused g c = λ mended. of_limits (option_map (λ all. all.items) c.in-Ok.order) (sym c.in-Ok.ensures.said) c.in-Err-limits_of.ensures.refused
+pub returns-in-Err-limits_of-clause-refused : goal.returns-in-Err-limits_of-clause-refused
+returns-in-Err-limits_of-clause-refused g c = λ mended. of_limits (option_map (λ all. all.items) c.in-Ok.order) (sym c.in-Ok.ensures.said) c.in-Err-limits_of.ensures.refused
 
-pub returns-in-Ok-limits_of-clause-refused : goal.returns-in-Ok-limits_of-clause-refused
-returns-in-Ok-limits_of-clause-refused g c =
-    IfErr-weaker c.run_within.result _ _ (λ f refused mended. of_files (numbers_of c.as_deref.result) c.in-Ok-limits_of.limits (search rules) c.in-Ok-limits_of.ensures.said (refused mended)) c.run_within.ensures.refused
+pub returns-in-Err-edition_of-clause-refused : goal.returns-in-Err-edition_of-clause-refused
+returns-in-Err-edition_of-clause-refused g c = λ mended. of_edition (option_map (λ all. all.items) c.in-Ok.order) c.in-Ok-limits_of.limits (sym c.in-Ok.ensures.said) c.in-Ok-limits_of.ensures.said c.in-Err-edition_of.ensures.refused
+
+pub returns-clause-refused : goal.returns-clause-refused
+returns-clause-refused g c =
+    IfErr-weaker c.run_within.result _ _ (λ f refused mended. of_files (numbers_of c.as_deref-order.result) c.in-Ok-limits_of.limits c.in-Ok-edition_of.edition (search rules) c.in-Ok-limits_of.ensures.said c.in-Ok-edition_of.ensures.said (refused mended)) c.run_within.ensures.refused

@@ -7,7 +7,7 @@ use Rattle.hierarchy.proofs.Linked.{err_map, are_of, supertypes_fault, names_fau
 use Rattle.hierarchy.proofs.linking.link_parts.Goals as goal
 
 pub returns-then-is_empty-clause-linked : goal.returns-then-is_empty-clause-linked
-returns-then-is_empty-clause-linked c = empty_links c.args.texts.items c.empty.result (none_there c.args.texts.items _ (ap length (sym c.as_slice.ensures.value)) (sym c.is_empty.ensures ∙ c.if-is_empty.true)) c.empty.ensures
+returns-then-is_empty-clause-linked c = empty_links c.args.edition c.args.texts.items c.empty.result (none_there c.args.texts.items _ (ap length (sym c.as_slice.ensures.value)) (sym c.is_empty.ensures ∙ c.if-is_empty.true)) c.empty.ensures
 
 pub returns-in-Err-linked_classes-clause-fault : goal.returns-in-Err-linked_classes-clause-fault
 returns-in-Err-linked_classes-clause-fault c =

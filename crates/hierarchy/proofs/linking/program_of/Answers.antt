@@ -18,7 +18,7 @@ tables_of-requires-clause-in_range c = rw c.deref.ensures.value (resolved_in_ran
 
 pub new-requires-clause-linked : goal.new-requires-clause-linked
 new-requires-clause-linked c =
-    resolved_linked c.args.classes.items c.requires.resolved (λ n. not_cyclic c.args.classes.items (rw c.deref.ensures.value at c.in-Ok.ensures.acyclic) (id n))
+    resolved_linked c.args.edition c.args.classes.items c.requires.resolved (λ n. not_cyclic c.args.classes.items (rw c.deref.ensures.value at c.in-Ok.ensures.acyclic) (id n))
     (rw c.deref.ensures.value at c.in-Ok.ensures.members) (rw c.deref.ensures.value at c.in-Ok.ensures.heap)
 
 pub returns-in-Ok-clause-cycles : goal.returns-in-Ok-clause-cycles

@@ -7,7 +7,9 @@ use Rattle.clap.proofs.OnLiterals.{clap_on_literals}
 use Rattle.jasmin_text.specs.Grammar.{Spells}
 use Rattle.jasmin_text.specs.Lines.{lines_of}
 use Rattle.jasmin_text.specs.declared.class_text.ClassParts.{ClassParts}
-use Rattle.hierarchy.specs.FirstFault.{LinksTo}
+use Rattle.hierarchy.specs.declared.edition.Edition.{Edition}
+use Rattle.hierarchy.specs.declared.edition.Edition.TheVariants.{Eight}
+use Rattle.hierarchy.specs.FirstFault.{LinksAs, LinksTo}
 use Rattle.hierarchy.specs.LinkedProgram.{LinkedProgram}
 use Rattle.trace.specs.TraceText.{trace_of}
 use Rattle.bodies.specs.declared.report.Limits.{Limits}
@@ -23,7 +25,7 @@ abbrev words : List Text
 words = codes "jinit" ∷ codes "run" ∷ codes "--mains" ∷ codes "Solo" ∷ codes "--trace" ∷ codes "sheet" ∷ codes "sheet" ∷ []
 
 abbrev run_words : RunWords
-run_words = record { mains = Some (codes "Solo"); trace = Some (codes "sheet"); order = None; steps = None; patience = None; files = codes "sheet" ∷ [] }
+run_words = record { mains = Some (codes "Solo"); trace = Some (codes "sheet"); order = None; steps = None; patience = None; edition = None; files = codes "sheet" ∷ [] }
 
 asked : request_in words ≡ run run_words
 unfolding clap_on_literals rows_in faults_in command_line bare_line subcommand_named with_trace with_run_options option_named flag_named file_words
@@ -51,9 +53,13 @@ BecomesItsTrace old new = (c : ClassParts) × (p : LinkedProgram) × (l : Limits
 some_same : {x y : Option (List ℕ)} → Some x ≡ Some y → y ≡ x
 some_same same = cc
 
+-- no edition is said, so it is edition 8
+is_eight : {e : Edition} → Some Eight ≡ Some e → e ≡ Eight
+is_eight same = cc
+
 on_sheet : (old new : List ℕ) (out out' errors errors_after : Option (List ℕ)) (status : ℕ) → HasRun (around (Some (sheet old)) out) (around (Some (sheet new)) out') errors errors_after run_words status
     → BecomesItsTrace old new
-on_sheet old new out out' errors errors_after status h = go h.texts h.classes.spelled h.linked
+on_sheet old new out out' errors errors_after status h = go h.texts h.classes.spelled (subst (λ e. LinksAs e h.texts h.program) (is_eight h.edition_said) h.linked)
   where
     go : (classes : List ClassParts) → AreSpelled (Some (sheet old)) (codes "sheet" ∷ []) classes → LinksTo classes h.program → BecomesItsTrace old new
     go [] spelled linked = absurd spelled

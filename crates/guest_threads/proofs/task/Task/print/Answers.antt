@@ -10,6 +10,3 @@ returns g c = working_at g.B.Bodies.making c.self.view_is (has_printed _ _ c.arg
 
 pub leave_at-requires-clause-come : goal.leave_at-requires-clause-come
 leave_at-requires-clause-come g c = has_come_on (g.B.Bodies.making c.args.self.now.program) c.args.self.now c.args.work.now (does.Prints c.args.text) c.requires.doing
-
-pub leave_at-requires-in_default-copied-clause-come : goal.leave_at-requires-in_default-copied-clause-come
-leave_at-requires-in_default-copied-clause-come g c = has_come_on (g.B.Bodies.making c.args.self.now.program) c.args.self.now c.args.work.now (does.Prints c.args.text) c.requires.doing

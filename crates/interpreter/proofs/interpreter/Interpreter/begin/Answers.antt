@@ -13,5 +13,5 @@ returns-then-len-ge512-clause-ok c = on_ok c.fail-then-len-ge512.result (λ e. o
 
 pub returns-clause-ok : goal.returns-clause-ok
 returns-clause-ok c = enters c.in-Some.ensures c.if-given-code.false (subst (λ n. n < 512) c.len.ensures c.if-len-ge512.false)
-    (ap (λ (frames : List Activation). record c.args.self.now { frames = frames; phase = c.first_phase-self.result }) c.in_ok-begin.ensures.ok ∙
-    ap (λ (phase : Phase). record c.args.self.now { frames = activation c.args.class.number c.args.method true c.in-Some.code.now c.args.given.now ∷ c.args.self.now.frames; phase = phase }) c.first_phase-self.ensures)
+    (ap (λ (frames : List Activation). record c.args.self.now { frames = frames; phase = c.phase_of-self.result }) c.in_ok-begin.ensures.ok ∙
+    ap (λ (phase : Phase). record c.args.self.now { frames = activation c.args.class.number c.args.method true c.in-Some.code.now c.args.given.now ∷ c.args.self.now.frames; phase = phase }) c.phase_of-self.ensures)
