@@ -37,17 +37,6 @@ length_words size (b ∷ bs) h =
     let next = mul-suc size (length bs) in
     omega arith
 
--- how many words there are
-pub words_len : (width len : ℕ) (full : Vec Block Global) (tail : Block) → All (IsBlock (width * 1024) (width * 1024)) full.items → 1024 * vec_len full ≤ len → vec_len tail ≡ width * (len - 1024 * vec_len full) → length (words_in full.items ++ tail.items) ≡ width * len
-words_len width len full tail h before rest =
-    let there = length_words (width * 1024) full.items h in
-    let joined = length-append (words_in full.items) tail.items in
-    let full_is = full.ok.0 in
-    let tail_is = tail.ok.0 in
-    let counted = ap (λ (n : ℕ). width * 1024 * n) full_is in
-    let sum = words_upto width (vec_len full) (len - 1024 * vec_len full) len (omega arith) in
-    omega arith
-
 at_full : (size : ℕ) (blocks : List Block) (ws : List ℕ) (k r n : ℕ) (e : Block) → All (IsBlock size size) blocks → k < length blocks → r + n ≤ size → take n (drop (size * k + r) (words_in blocks ++ ws)) ≡ take n (drop r (get_or blocks k e).items)
 at_full size [] ws k r n e h inside low = absurd (omega arith)
 at_full size (b ∷ bs) ws Prim.Native.Nat.zero r n e h inside low =

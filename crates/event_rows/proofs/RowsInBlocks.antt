@@ -1,9 +1,8 @@
 -- Rows whose words lie in blocks.
-use Rattle.std.proofs.Common.{◌≡◌, ℕ, suc, ◌+◌, ◌-◌, ◌*◌, ◌<◌, List, [], ◌∷◌, ◌++◌, length, get_or, take, drop, Option, Some, None, refl, sym, ap, ◌∙◌, arith, length-append, length-drop, mul-suc}
+use Rattle.std.proofs.Common.{◌≡◌, ℕ, suc, ◌+◌, ◌-◌, ◌*◌, ◌<◌, List, [], ◌∷◌, ◌++◌, length, get_or, take, drop, Option, Some, None, sym, ap, ◌∙◌, arith, length-append, length-drop, mul-suc}
 use Rattle.std.specs.Option.{option_map, IfSome, IfNone}
 use Rattle.std.specs.List.{slice_get, slice_index}
-use Rattle.std.proofs.lemmas.List.{drop-append-le, take-append-le, drop_at, take_all, get_or-take, get_or-drop, nil_from_length}
-use Rattle.std.proofs.lemmas.Option.{slice_get-get_or}
+use Rattle.std.proofs.lemmas.List.{drop-append-le, take-append-le, drop_at, take_all, get_or-take, get_or-drop}
 use Rattle.event_rows.specs.Blocks.{BlockList, words_at}
 use Rattle.event_rows.specs.Rows.{Row, first, text_at, rows_of}
 use Rattle.event_rows.specs.declared.rows.RowText.{RowText}
@@ -51,15 +50,6 @@ word_at b words index one is =
     ∙ get_or-take 1 (drop (1 * index) b.items) 0 0 (omega arith)
     ∙ get_or-drop (1 * index) b.items 0 0
     ∙ ap (λ (i : ℕ). get_or b.items i 0) at
-
--- the last row that has one word
-pub last_item : (r : Option ℕ) (b : BlockList) → b.width ≡ 1 → length b.items ≡ b.len → IfSome r (λ word. (0 < b.len) × (word ≡ slice_index b.items (b.width * (b.len - 1) + 0))) → IfNone r (b.len ≡ 0) → r ≡ slice_get b.items (length b.items - 1)
-last_item None b one long some none = let e : b.items ≡ [] = nil_from_length b.items (omega arith) in rw e refl
-last_item (Some word) b one long some none =
-    let here = some.0 in
-    let by_width = ap (λ (w : ℕ). w * (b.len - 1)) one in
-    let at : b.width * (b.len - 1) + 0 ≡ length b.items - 1 = omega arith in
-    ap Some (some.1 ∙ ap (λ (i : ℕ). get_or b.items i 0) at) ∙ sym (slice_get-get_or b.items (length b.items - 1) 0 (omega arith))
 
 module _ {T : Type 0} where
   abbrev row_in : ℕ → List ℕ → List (RowText T) → ℕ → Row T

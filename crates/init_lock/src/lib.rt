@@ -118,5 +118,5 @@ pub use keeps::Keeps;
 pub use merging::merge;
 pub use pass::{Held, Pass};
 pub use table::InitTable;
-pub use take::GaveUp;
+pub use take::{GaveUp, LOOKS_IN_A_ROW};
 pub use views::{Custody, Look, PassView, PlaceView, Setup};

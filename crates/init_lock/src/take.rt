@@ -9,9 +9,9 @@ use std::sync::Wait;
 use std::{hint, thread};
 use thiserror::Error;
 
-// How often in a row a thread looks again at a lock that it found taken, before it lets others run. A lock is mostly free
-// again after less time than it takes to ask the operating system for another thread.
-const LOOKS_IN_A_ROW: u32 = 32;
+/// How often in a row a thread looks again at a lock that it found taken, before it lets others run. A lock is mostly free
+/// again after less time than it takes to ask the operating system for another thread.
+pub const LOOKS_IN_A_ROW: u32 = 8;
 
 /// The lock was found taken as often as the patience allows.
 #[derive(Debug, Drop, Error)]
@@ -20,14 +20,14 @@ pub struct GaveUp;
 
 impl<R: Keeps> InitTable<R> {
     // A try that looks first leaves the lock word's cache line where it is while another pass has the record.
-    fn try_once(&self, pass: &mut Pass<R>, place: usize, looks_first: bool) -> Option<Held<R>>
+    fn look_and_try(&self, pass: &mut Pass<R>, place: usize) -> Option<Held<R>>
         requires table { pass.old.table ≡ self.now.id }
         requires place { place < self.now.places }
         ensures misses { OnSome result (pass.new.misses ≡ pass.old.misses) }
         ensures taken { IfSome result (Taken R.kept R.may_draw R.settles R.follows place pass.old pass.new) }
         ensures none { IfNone result (pass.new ≡ record pass.old { misses = pass.old.misses + 1 }) }
     {
-        if looks_first && !self.is_free(pass, place) {
+        if !self.is_free(pass, place) {
             return None;
         }
         self.try_take(pass, place)
@@ -40,6 +40,7 @@ impl<R: Keeps> InitTable<R> {
     /// up once it has found the lock taken exactly so often, and the pass counts these misses.
     /// What it finds is what [`InitTable::try_take`] says. Each try after the first looks before it exchanges. Between two
     /// tries the thread waits as long as the processor's hint for such loops takes, and now and then it lets others run.
+    #[inline]
     pub fn take<W: Wait>(
         &self,
         rt: &W,
@@ -54,17 +55,46 @@ impl<R: Keeps> InitTable<R> {
         ensures gave_up { OnErr result (pass.new ≡ record pass.old { misses = pass.old.misses + patience }) }
         ensures misses { patience ≢ 0 → OnOk result (pass.new.misses < pass.old.misses + patience) }
     {
+        if let Some(held) = self.try_take(pass, place) {
+            return Ok(held);
+        }
+        if patience == 1 {
+            return Err(GaveUp);
+        }
+        match self.take_later(rt, pass, place, patience.saturating_sub(1)) {
+            Ok(held) => Ok(held),
+            Err(GaveUp) => Err(GaveUp),
+        }
+    }
+
+    // The same where the lock was just found taken: each try looks before, after a moment.
+    #[cold]
+    #[inline(never)]
+    fn take_later<W: Wait>(
+        &self,
+        rt: &W,
+        pass: &mut Pass<R>,
+        place: usize,
+        patience: u64,
+    ) -> Result<Held<R>, GaveUp>
+        requires table { pass.old.table ≡ self.now.id }
+        requires place { place < self.now.places }
+        ensures taken { IfOk result (Taken R.kept R.may_draw R.settles R.follows place pass.old pass.new) }
+        ensures patient { OnErr result (patience ≢ 0) }
+        ensures gave_up { OnErr result (pass.new ≡ record pass.old { misses = pass.old.misses + patience }) }
+        ensures misses { patience ≢ 0 → OnOk result (pass.new.misses < pass.old.misses + patience) }
+    {
         let mut left = patience;
-        let mut looks = 0;
+        let mut looks = 1;
         for _ in rt.forever() {
-            if let Some(held) = self.try_once(pass, place, looks > 0) {
+            looks = pause(looks);
+            if let Some(held) = self.look_and_try(pass, place) {
                 return Ok(held);
             }
             if left == 1 {
                 return Err(GaveUp);
             }
             left = left.saturating_sub(1);
-            looks = pause(looks);
         }
         unreachable!()
     }

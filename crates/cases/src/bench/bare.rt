@@ -4,11 +4,12 @@
 ghost use Rattle.std.specs.Prelude.{◌<◌, ◌≤◌};
 
 use crate::bench::harness::{Failure, Watch};
+use init_lock::LOOKS_IN_A_ROW;
 use std::alloc::{AllocError, Global};
 use std::rt::Clock;
 use std::sync::atomic::{AtomicU64, Ordering};
-use std::thread;
 use std::thread::Threads;
+use std::{hint, thread};
 
 // The words of four locks after a counter, laid as a table lays them: eight words fill a cache line.
 fn four_locks(alloc: Global) -> Result<Vec<AtomicU64>, AllocError> {
@@ -19,19 +20,29 @@ fn four_locks(alloc: Global) -> Result<Vec<AtomicU64>, AllocError> {
     Ok(words)
 }
 
+// Lets a moment pass before the next look at a lock, after so many in a row, as `InitTable::take` does. The answer counts that look
+// too.
+fn pause(looks: u32) -> u32 {
+    if looks < LOOKS_IN_A_ROW {
+        hint::spin_loop();
+        return looks + 1;
+    }
+    thread::yield_now();
+    1
+}
+
 // Tries a lock until it is free, as `InitTable::take` does. A try after the first looks before, which leaves the word's cache line
 // where it is while another thread has the lock.
 fn take(lock: &AtomicU64) {
-    let mut looks_first = false;
+    let mut looks = 0;
     for _ in 0..u64::MAX {
-        if !looks_first || lock.load(Ordering::SeqCst) == 0 {
+        if looks == 0 || lock.load(Ordering::SeqCst) == 0 {
             let tried = lock.compare_exchange(0, 1, Ordering::SeqCst, Ordering::SeqCst);
             if tried.is_ok() {
                 return;
             }
         }
-        looks_first = true;
-        thread::yield_now();
+        looks = pause(looks);
     }
 }
 

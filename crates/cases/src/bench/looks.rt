@@ -3,7 +3,7 @@
 //! A class is initialized by one thread. While it does so, another looks in vain, which finds each time that it waits
 //! already; the first looks again (step 3 of JLS SE 8 12.4.2), and reads and writes a static field. Each time is that of one
 //! of so many on a record of their own: looks in vain beside the fewest of them; the others, which add an event of
-//! 24 bytes each, beside as many pushes of 24 bytes on a list.
+//! 8 bytes each, beside as many pushes of 24 bytes on a list.
 
 ghost use Rattle.std.specs.Prelude.{◌<◌};
 

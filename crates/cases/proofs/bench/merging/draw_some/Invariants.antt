@@ -1,7 +1,7 @@
 use Rattle.std.proofs.Common.{◌≡◌, ◌++◌, map}
 use Rattle.std.specs.List.{AllByRecursion}
 use Rattle.init_lock.specs.Known.{IsAway}
-use Rattle.cases.proofs.bench.merging.draw_each.Given as goal
+use Rattle.cases.proofs.bench.merging.draw_some.Given as goal
 
 abbrev pub invariant-loop-pass : goal.invariant-loop-pass
 invariant-loop-pass l = record {
