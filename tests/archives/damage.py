@@ -45,19 +45,26 @@ TRACE_ANSWERS = (
 )
 # The archives of crates/cases/data/programs whose programs are small ones, each of one way to initialize classes.
 ARCHIVES = (
+    "arrays_and_monitors",
     "constants_before_supers",
     "cyclic_initialization",
     "cyclic_superclasses",
+    "deep_recursion",
     "default_interfaces",
+    "default_seen_twice",
     "diamond_defaults",
+    "edition_7",
     "error_not_wrapped",
     "failed_initializer",
     "failed_superclass",
     "inherited_static",
+    "integer_arithmetic",
     "missing_class_used",
+    "narrowing",
     "orders",
     "shifts",
     "step_limit",
+    "superinterfaces_again",
     "unfinished_method",
 )
 # A trace of two threads that use one class, and what is to be said of so many lines of it. It is legal where t1 has given up before step 4.

@@ -14,15 +14,20 @@
 //!
 //! A file that no `left` names holds after the run what it held before, and the run makes no file but those. Where a command runs
 //! one main class, its run on a thread of its own must come to the same output, lines and trace, with any patience and with the least.
-//! A trace that a run wrote must be judged legal.
+//! A trace that a run wrote must be judged legal. Each command is run too with its output stopped at each byte of it, and likewise with its
+//! standard error (of a text of more than 11,000 bytes, further on, at every 997th): the answer must be status 3, with just the bytes before
+//! on the stream that is stopped, and where that is the output, no file written and `io: output` on standard error. With room for just the
+//! whole it must come to the same as without a limit.
 
 mod checked;
 mod named_texts;
+mod stopped;
 mod threaded;
 
 use crate::archive::{Part, parts_after};
 use crate::programs::checked::judge_trace;
 use crate::programs::named_texts::Texts;
+use crate::programs::stopped::run_stopped;
 use crate::programs::threaded::run_threaded;
 use crate::report::Report;
 use cli::{Named, serve};
@@ -197,7 +202,10 @@ fn judge_case<R: Threads + Wait + Sync>(
     let mut came = Texts::new(alloc);
     put_wanted(&mut wanted, parts, files);
     match words_of(alloc, from_utf8(&command.body).unwrap_or("")) {
-        Ok(words) => run(rt, alloc, &words, files, &mut came),
+        Ok(words) => {
+            run_stopped(rt, alloc, &words, files, &mut came, report);
+            run(rt, alloc, &words, files, &mut came);
+        }
         Err(_) => came.is_refused = true,
     }
     if files.is_refused {

@@ -14,6 +14,8 @@ pub(crate) struct Report<'a> {
     cases: usize,
     passed: usize,
     failed: usize,
+    /// How many runs were made with a stream that stops.
+    pub(crate) stopped: usize,
     /// What the report says.
     pub(crate) text: Text,
     /// Of the case that is judged: what it is about, where that isn't the body of a part alone.
@@ -49,6 +51,7 @@ impl<'a> Report<'a> {
             cases: 0,
             passed: 0,
             failed: 0,
+            stopped: 0,
             text: Text::new(alloc),
             given: Text::new(alloc),
             wanted: Text::new(alloc),
@@ -104,6 +107,8 @@ impl<'a> Report<'a> {
 
     /// Reports how many cases passed and failed, and answers whether all passed.
     pub(crate) fn closes(&mut self) -> bool {
+        self.text.show(&self.stopped);
+        self.text.push(b" runs stopped\n");
         self.text.show(&self.passed);
         self.text.push(b" passed, ");
         self.text.show(&self.failed);

@@ -1,4 +1,6 @@
 pub mod Checked
+pub mod CutShort
+pub mod Emitted
 pub mod KnownFiles
 pub mod KnownOutput
 pub mod Names

@@ -11,3 +11,5 @@ pub mod ReadRefusals
 pub mod Outcomes
 pub mod Checking
 pub mod Refusals
+pub mod CutShort
+pub mod Sinks

@@ -1,7 +1,7 @@
 -- Exit statuses.
 use Rattle.std.specs.Prelude.{◌≤◌, ℕ}
 use Rattle.cli.specs.declared.fault.Fault.{Fault}
-use Rattle.cli.specs.declared.fault.Fault.TheVariants.{Edition, Files, Io, Jasmin, Link, Mains, Memory, Order, Output, Patience, Steps, Threads, Trace, Words}
+use Rattle.cli.specs.declared.fault.Fault.TheVariants.{Edition, Files, Io, Jasmin, Lines, Link, Mains, Memory, Order, Output, Patience, Steps, Threads, Trace, Words}
 
 -- 3 for what the machine refused, 2 for what the user can mend
 abbrev pub status_of : Fault → ℕ
@@ -19,6 +19,7 @@ status_of Mains = 2
 status_of Threads = 3
 status_of Memory = 3
 status_of Output = 3
+status_of Lines = 3
 
 -- an exit status of the program
 abbrev pub IsStatus : ℕ → Type 0

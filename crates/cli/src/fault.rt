@@ -1,12 +1,15 @@
 //! What keeps the program from its work.
 
-ghost use Rattle.std.specs.Prelude.{◌≡◌, OnOk};
+ghost use Rattle.std.specs.Prelude.{◌≡◌, ◌++◌, OnErr, OnOk, codes, decimal};
 ghost use Rattle.std.specs.Io.KnownBytes.{Appends};
 ghost use Rattle.cli.specs.declared.fault.Fault.TheVariants.{Memory};
 ghost use Rattle.cli.specs.FaultText.{fault_line, fixed_line_of, io_line, jasmin_line, link_line, link_number_of, trace_line};
+ghost use Rattle.cli.specs.Sinks.{AppendsShort};
 ghost use Rattle.cli.specs.Status.{status_of};
 
+use crate::sink::emit_all;
 use hierarchy::{LinkFault, LinkFaultKind};
+use itoa::Buffer;
 use jasmin_reader::ReadFault;
 use std::alloc::{AllocError, AllocFailed};
 use std::io;
@@ -63,9 +66,12 @@ pub enum Fault<'a> {
     /// Out of memory.
     #[error("out of memory")]
     Memory,
-    /// The output, or the lines that say how threads ended, can't be written.
+    /// The output can't be written.
     #[error("the output can't be written")]
     Output,
+    /// The lines that say how threads ended can't be written to standard error, so nothing more is written there.
+    #[error("standard error can't be written")]
+    Lines,
 }
 
 impl Drop for Fault<'_> {
@@ -77,7 +83,7 @@ impl Drop for Fault<'_> {
             Fault::Jasmin { file: _, fault: _ } => {}
             Fault::Trace { file: _, fault: _ } => {}
             Fault::Link(_) => {}
-            Fault::Mains | Fault::Threads | Fault::Memory | Fault::Output => {}
+            Fault::Mains | Fault::Threads | Fault::Memory | Fault::Output | Fault::Lines => {}
         }
     }
 }
@@ -107,11 +113,11 @@ impl Fault<'_> {
             Fault::Words | Fault::Files | Fault::Jasmin { .. } | Fault::Trace { .. } => 2,
             Fault::Order | Fault::Steps | Fault::Patience | Fault::Edition => 2,
             Fault::Link(_) | Fault::Mains => 2,
-            Fault::Io(_) | Fault::Threads | Fault::Memory | Fault::Output => 3,
+            Fault::Io(_) | Fault::Threads | Fault::Memory | Fault::Output | Fault::Lines => 3,
         }
     }
 
-    /// The line of a fault that names no file and no class; empty of one that does.
+    /// The line of a fault that names no file and no class; empty of one that does, and where nothing more is to be written.
     fn fixed_line(&self) -> &'static str
         ensures { result.now ≡ fixed_line_of self.now }
     {
@@ -127,43 +133,67 @@ impl Fault<'_> {
             Fault::Memory => "memory\n",
             Fault::Output => "io: output\n",
             Fault::Io(_) | Fault::Jasmin { .. } | Fault::Trace { .. } | Fault::Link(_) => "",
+            Fault::Lines => "",
         }
     }
 
-    /// Writes the one line that reports the fault.
+    /// Writes the one line that reports the fault. An `Err` means that it wasn't written whole: a shorter front of it was.
     pub fn tell<W: io::Write>(&self, err: &mut W) -> io::Result<()>
-        ensures { OnOk result (Appends (W.contents err.old) (W.contents err.new) (fault_line self.now)) }
+        ensures whole { OnOk result (Appends (W.contents err.old) (W.contents err.new) (fault_line self.now)) }
+        ensures short { OnErr result (AppendsShort (W.contents err.old) (W.contents err.new) (fault_line self.now)) }
     {
         match self {
             Fault::Io(name) => tell_io(name, err),
             Fault::Jasmin { file, fault } => tell_jasmin(file, fault, err),
             Fault::Trace { file, fault } => tell_trace(file, fault, err),
             Fault::Link(fault) => tell_link(fault, err),
-            _ => err.write_all(self.fixed_line().as_bytes()),
+            _ => emit_all(err, &[self.fixed_line().as_bytes()]),
         }
     }
 }
 
 fn tell_io<W: io::Write>(name: &str, err: &mut W) -> io::Result<()>
-    ensures { OnOk result (Appends (W.contents err.old) (W.contents err.new) (io_line name.now)) }
+    ensures whole { OnOk result (Appends (W.contents err.old) (W.contents err.new) (io_line name.now)) }
+    ensures short { OnErr result (AppendsShort (W.contents err.old) (W.contents err.new) (io_line name.now)) }
 {
-    writeln!(err, "io: {name}")
+    emit_all(
+        err,
+        &[b"io: ".as_slice(), name.as_bytes(), b"\n".as_slice()],
+    )
+}
+
+/// Writes the line of a fault in a line of a file: what lies between the line's number and the fault's is `mark`.
+fn tell_in_file<W: io::Write>(
+    file: &str,
+    line: usize,
+    mark: &[u8],
+    number: u8,
+    err: &mut W,
+) -> io::Result<()>
+    ensures whole { OnOk result (Appends (W.contents err.old) (W.contents err.new) (file.now ++ codes ":" ++ decimal line ++ mark.now ++ decimal number ++ codes "\n")) }
+    ensures short { OnErr result (AppendsShort (W.contents err.old) (W.contents err.new) (file.now ++ codes ":" ++ decimal line ++ mark.now ++ decimal number ++ codes "\n")) }
+{
+    let mut of_line = Buffer::new();
+    let mut of_fault = Buffer::new();
+    let line = of_line.format(line).as_bytes();
+    let number = of_fault.format(number).as_bytes();
+    let colon = b":".as_slice();
+    let end = b"\n".as_slice();
+    emit_all(err, &[file.as_bytes(), colon, line, mark, number, end])
 }
 
 fn tell_jasmin<W: io::Write>(file: &str, fault: &ReadFault, err: &mut W) -> io::Result<()>
-    ensures { OnOk result (Appends (W.contents err.old) (W.contents err.new) (jasmin_line file.now fault.now)) }
+    ensures whole { OnOk result (Appends (W.contents err.old) (W.contents err.new) (jasmin_line file.now fault.now)) }
+    ensures short { OnErr result (AppendsShort (W.contents err.old) (W.contents err.new) (jasmin_line file.now fault.now)) }
 {
-    let line = fault.line;
-    let number = fault.kind.number();
-    writeln!(err, "{file}:{line}: J{number}")
+    tell_in_file(file, fault.line, b": J", fault.kind.number(), err)
 }
 
 fn tell_trace<W: io::Write>(file: &str, fault: &TraceFault, err: &mut W) -> io::Result<()>
-    ensures { OnOk result (Appends (W.contents err.old) (W.contents err.new) (trace_line file.now fault.now)) }
+    ensures whole { OnOk result (Appends (W.contents err.old) (W.contents err.new) (trace_line file.now fault.now)) }
+    ensures short { OnErr result (AppendsShort (W.contents err.old) (W.contents err.new) (trace_line file.now fault.now)) }
 {
-    let line = fault.line;
-    let number = fault.kind.number();
-    writeln!(err, "{file}:{line}: L{number}")
+    tell_in_file(file, fault.line, b": L", fault.kind.number(), err)
 }
 
 /// The number in the code of a fault of linking.
@@ -183,12 +213,16 @@ fn link_number(kind: LinkFaultKind) -> u8
     }
 }
 
-#[tactic(auto, using(crate::proofs::KnownOutput::appends_then))]
 fn tell_link<W: io::Write>(fault: &LinkFault, err: &mut W) -> io::Result<()>
-    ensures { OnOk result (Appends (W.contents err.old) (W.contents err.new) (link_line fault.now)) }
+    ensures whole { OnOk result (Appends (W.contents err.old) (W.contents err.new) (link_line fault.now)) }
+    ensures short { OnErr result (AppendsShort (W.contents err.old) (W.contents err.new) (link_line fault.now)) }
 {
-    let number = link_number(fault.kind);
-    write!(err, "link: H{number} ")?;
-    err.write_all(fault.class.as_slice())?;
-    writeln!(err)
+    let mut of_fault = Buffer::new();
+    let start = b"link: H".as_slice();
+    let number = of_fault.format(link_number(fault.kind)).as_bytes();
+    let end = b"\n".as_slice();
+    emit_all(
+        err,
+        &[start, number, b" ".as_slice(), fault.class.as_slice(), end],
+    )
 }

@@ -14,8 +14,11 @@ pub mod machine;
 pub mod needed;
 pub mod orders;
 pub mod outcomes;
+mod reporting;
 pub mod running;
 pub mod serving;
+pub mod sink;
+pub mod stops;
 
 pub use checking::{Judged, check_named, status_of_verdict, write_judged};
 pub use fault::Fault;
@@ -25,3 +28,5 @@ pub use needed::write_needs;
 pub use outcomes::{status_of_outcomes, write_outcomes};
 pub use running::{ProgramRun, run_texts};
 pub use serving::serve;
+pub use sink::{EmitFault, Printed, Sink, emit};
+pub use stops::Stops;

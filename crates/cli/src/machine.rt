@@ -3,11 +3,12 @@
 ghost use Rattle.std.specs.Prelude.{◌≤◌, vec_len, IfOk};
 
 use crate::files::{Named, NamedFault};
+use crate::sink::{Printed, emit};
 use std::alloc::Global;
 use std::fs::File;
-use std::io::Read;
+use std::io;
+use std::io::{Read, Write};
 use std::rt::Files;
-use std::{fs, io};
 
 /// The machine's files, by their paths. What they hold isn't known.
 #[derive(Drop)]
@@ -55,6 +56,14 @@ fn read_file(alloc: Global, file: impl Read + Drop, most: usize) -> Result<Vec<u
     Err(NamedFault::Io)
 }
 
+/// Writes these bytes, all of them, to a file.
+fn write_file(mut file: impl Write + Drop, bytes: &[u8]) -> Result<(), NamedFault> {
+    match emit(&mut Printed::new(&mut file), bytes) {
+        Ok(()) => Ok(()),
+        Err(_) => Err(NamedFault::Io),
+    }
+}
+
 impl<R: Files> Named for MachineFiles<'_, R> {
     fn read(&mut self, alloc: Global, name: &str, most: usize) -> Result<Vec<u8>, NamedFault> {
         match File::open(self.rt, name) {
@@ -64,8 +73,8 @@ impl<R: Files> Named for MachineFiles<'_, R> {
     }
 
     fn write(&mut self, name: &str, bytes: &[u8]) -> Result<(), NamedFault> {
-        match fs::write(self.rt, name, bytes) {
-            Ok(()) => Ok(()),
+        match File::create(self.rt, name) {
+            Ok(file) => write_file(file, bytes),
             Err(error) => Err(fault_of(&error)),
         }
     }

@@ -1,32 +1,33 @@
 //! The program's body.
 
-ghost use Rattle.std.specs.Prelude.{◌≡◌, ◌≢◌, ◌≤◌, ◌⊎◌, None, Some, IfErr, IfOk, IfSome, OnOk};
+ghost use Rattle.std.specs.Prelude.{◌≡◌, ◌≢◌, ◌≤◌, ◌⊎◌, ℕ, List, Option, None, Some, IfErr, IfOk, OnOk};
 ghost use Rattle.std.specs.Io.KnownBytes.{Appends, Keeps};
 ghost use Rattle.clap.specs.Walk.{texts};
 ghost use Rattle.clap.specs.Words.{kind_of};
 ghost use Rattle.clap.specs.declared.error.kind.ErrorKind.TheVariants.{DisplayHelp, DisplayVersion, OutOfMemory};
-ghost use Rattle.trace.specs.TraceText.{trace_of};
-ghost use Rattle.command_line.specs.CommandLine.{check_words_of, needs_words_of, request_in, request_of, run_words_of, text_of};
+ghost use Rattle.cli.specs.Checking.{TellsVerdict};
+ghost use Rattle.command_line.specs.CommandLine.{check as check_request, check_words_of, needs as needs_request, needs_words_of, request_in, request_of, run as run_request, run_words_of, text_of};
+ghost use Rattle.cli.specs.CutShort.{AreWordsCut, IsClapCut, IsCutShort, IsLineCut, IsStopped, IsTextCut};
 ghost use Rattle.cli.specs.Editions.{edition_in};
 ghost use Rattle.cli.specs.FaultText.{fault_line};
-ghost use Rattle.cli.specs.Files.{FileHolds, IsLinkedFrom, KeepsAllBut};
+ghost use Rattle.cli.specs.Files.{IsLinkedFrom, KeepsAllBut};
 ghost use Rattle.cli.specs.Limits.{AreLimits};
 ghost use Rattle.cli.specs.NeedsText.{needs_text};
 ghost use Rattle.cli.specs.Orders.{numbers_of, order_in};
-ghost use Rattle.cli.specs.Outcomes.{outcomes_text, status_after};
 ghost use Rattle.cli.specs.Refusals.{AreWordsRefused, IsCheckFault, IsFaultOf, IsFilesRefusal, IsNeedsFault, IsRefusedBy, IsRunFault};
 ghost use Rattle.cli.specs.Running.{IsRunOfNamed};
-ghost use Rattle.cli.specs.Serving.{HasRun, HasToldNeeds, HasToldVerdict, HasWritten, IsDone, IsServed, IsToldVerdict, IsUntouched, around, trace_in};
+ghost use Rattle.cli.specs.Serving.{HasRun, HasToldNeeds, HasToldVerdict, IsDone, IsServed, IsToldVerdict, IsUntouched, around, trace_in};
 ghost use Rattle.cli.specs.Status.{IsStatus, status_of};
+ghost use Rattle.cli.specs.declared.fault.Fault.TheVariants.{Output};
 
 use crate::checking::{Judged, check_named, status_of_verdict, write_judged};
 use crate::editions::edition_of;
 use crate::fault::Fault;
-use crate::files::{Named, NamedFault, read_texts};
+use crate::files::{Named, read_texts};
 use crate::limits::limits_of;
 use crate::needed::write_needs;
 use crate::orders::order_of;
-use crate::outcomes::{status_of_outcomes, write_outcomes};
+use crate::reporting::{report_run, write_output};
 use crate::running::{ProgramRun, link_files, run_texts};
 use bodies::Limits;
 use clap::error::ErrorKind;
@@ -37,58 +38,6 @@ use std::alloc::Global;
 use std::io;
 use std::sync::Wait;
 use std::thread::Threads;
-use trace::write_trace;
-
-/// Writes the output, whole.
-#[tactic(auto, using(crate::proofs::KnownOutput::appends_kept))]
-fn write_output<'a, O: io::Write>(out: &mut O, bytes: &[u8]) -> Result<(), Fault<'a>>
-    ensures output { OnOk result (Appends (O.contents out.old) (O.contents out.new) bytes.now) }
-    ensures refused { IfErr result (λ f. status_of f ≡ 3) }
-{
-    if out.write_all(bytes).is_err() || out.flush().is_err() {
-        return Err(Fault::Output);
-    }
-    Ok(())
-}
-
-/// Writes the trace of a run, where a file for it is named.
-fn write_traced<'a, N: Named>(
-    alloc: Global,
-    ran: &ProgramRun,
-    trace: Option<&'a str>,
-    named: &mut N,
-) -> Result<(), Fault<'a>>
-    ensures traced { OnOk result (IfSome (text_of trace.entry) (λ name.
-        FileHolds (N.held named.new) name (λ bytes. bytes ≡ trace_of ran.now.program ran.now.report.events))) }
-    ensures files { KeepsAllBut (text_of trace.entry) (N.held named.old) (N.held named.new) }
-    ensures refused { IfErr result (λ f. status_of f ≡ 3) }
-{
-    let Some(name) = trace else {
-        return Ok(());
-    };
-    let text = write_trace(alloc, &ran.program, ran.report.events.as_slice())?;
-    match named.write(name, &text) {
-        Ok(()) => Ok(()),
-        Err(NamedFault::Io) => Err(Fault::Io(name)),
-        Err(NamedFault::Memory) => Err(Fault::Memory),
-    }
-}
-
-/// Tells how the threads of a run ended.
-fn tell_outcomes<'a, E: io::Write>(
-    alloc: Global,
-    ran: &ProgramRun,
-    err: &mut E,
-) -> Result<(), Fault<'a>>
-    ensures told { OnOk result (Appends (E.contents err.old) (E.contents err.new) (outcomes_text ran.now.program ran.now.report.outcomes)) }
-    ensures refused { IfErr result (λ f. status_of f ≡ 3) }
-{
-    let text = write_outcomes(alloc, &ran.program, ran.report.outcomes.as_slice())?;
-    if text.is_empty() {
-        return Ok(());
-    }
-    write_output(err, &text)
-}
 
 /// Reads and links the classes of the files in this edition, and runs the main classes, in this order where there is one.
 fn run_files<'a, R: Threads + Wait + Sync, N: Named>(
@@ -115,28 +64,6 @@ fn run_files<'a, R: Threads + Wait + Sync, N: Named>(
     }
 }
 
-/// Writes the output and the trace of a run, tells how its threads ended, and answers the exit status.
-fn report_run<'a, N: Named, O: io::Write, E: io::Write>(
-    alloc: Global,
-    ran: &ProgramRun,
-    trace: Option<&'a str>,
-    named: &mut N,
-    out: &mut O,
-    err: &mut E,
-) -> Result<u8, Fault<'a>>
-    ensures written { OnOk result (HasWritten (around (N.held named.old) (O.contents out.old)) (around (N.held named.new) (O.contents out.new))
-        (text_of trace.entry) ran.now.program ran.now.report) }
-    ensures told { OnOk result (Appends (E.contents err.old) (E.contents err.new) (outcomes_text ran.now.program ran.now.report.outcomes)) }
-    ensures ended { IfOk result (λ status. status ≡ status_after ran.now.report.outcomes) }
-    ensures files { KeepsAllBut (text_of trace.entry) (N.held named.old) (N.held named.new) }
-    ensures refused { IfErr result (λ f. status_of f ≡ 3) }
-{
-    write_output(out, ran.report.output.as_slice())?;
-    write_traced(alloc, ran, trace, named)?;
-    tell_outcomes(alloc, ran, err)?;
-    Ok(status_of_outcomes(ran.report.outcomes.as_slice()))
-}
-
 /// Runs what the words ask for, in this order, where there is one, within these limits and in this edition, writes the output and
 /// the trace, tells how the threads ended, and answers the exit status.
 fn run_within<'a, R: Threads + Wait + Sync, N: Named, O: io::Write, E: io::Write>(
@@ -156,6 +83,8 @@ fn run_within<'a, R: Threads + Wait + Sync, N: Named, O: io::Write, E: io::Write
     ensures files { KeepsAllBut (text_of words.now.trace) (N.held named.old) (N.held named.new) }
     ensures ran { IfOk result (HasRun (around (N.held named.old) (O.contents out.old)) (around (N.held named.new) (O.contents out.new))
         (E.contents err.old) (E.contents err.new) (run_words_of words.now)) }
+    ensures stopped { IfErr result (IsStopped (around (N.held named.old) (O.contents out.old)) (around (N.held named.new) (O.contents out.new))
+        (E.contents err.old) (E.contents err.new) (run_request (run_words_of words.now))) }
     ensures untouched { IfErr result (λ f. status_of f ≡ 2 → IsUntouched (around (N.held named.old) (O.contents out.old)) (around (N.held named.new) (O.contents out.new))) }
     ensures refused { IfErr result (λ f. status_of f ≡ 2 → IsFilesRefusal (N.held named.old) (run_words_of words.now).files edition (text_of words.now.mains) (numbers_of order.entry) f) }
     ensures silent { IfErr result (λ f. status_of f ≡ 2 → Keeps (E.contents err.old) (E.contents err.new)) }
@@ -179,6 +108,8 @@ fn run<'a, R: Threads + Wait + Sync, N: Named, O: io::Write, E: io::Write>(
     ensures files { KeepsAllBut (text_of words.now.trace) (N.held named.old) (N.held named.new) }
     ensures ran { IfOk result (HasRun (around (N.held named.old) (O.contents out.old)) (around (N.held named.new) (O.contents out.new))
         (E.contents err.old) (E.contents err.new) (run_words_of words.now)) }
+    ensures stopped { IfErr result (IsStopped (around (N.held named.old) (O.contents out.old)) (around (N.held named.new) (O.contents out.new))
+        (E.contents err.old) (E.contents err.new) (run_request (run_words_of words.now))) }
     ensures untouched { IfErr result (λ f. status_of f ≡ 2 → IsUntouched (around (N.held named.old) (O.contents out.old)) (around (N.held named.new) (O.contents out.new))) }
     ensures refused { IfErr result (λ f. status_of f ≡ 2 → IsRunFault (N.held named.old) (run_words_of words.now) f) }
     ensures silent { IfErr result (λ f. status_of f ≡ 2 → Keeps (E.contents err.old) (E.contents err.new)) }
@@ -206,10 +137,13 @@ fn write_needed<'a, O: io::Write>(
     out: &mut O,
 ) -> Result<(), Fault<'a>>
     ensures output { OnOk result (Appends (O.contents out.old) (O.contents out.new) (needs_text program.now)) }
+    ensures cut { IfErr result (IsTextCut Output (O.contents out.old) (O.contents out.new) (needs_text program.now)) }
     ensures refused { IfErr result (λ f. status_of f ≡ 3) }
 {
-    let text = write_needs(alloc, program)?;
-    write_output(out, &text)
+    match write_needs(alloc, program) {
+        Ok(text) => write_output(out, &text),
+        Err(_) => Err(Fault::Memory),
+    }
 }
 
 /// Tells what each class of the files needs, in the edition that the words say.
@@ -221,6 +155,8 @@ fn tell_needs<'a, N: Named, O: io::Write>(
 ) -> Result<(), Fault<'a>>
     ensures files { KeepsAllBut None (N.held named.old) (N.held named.new) }
     ensures told { OnOk result (HasToldNeeds (around (N.held named.old) (O.contents out.old)) (around (N.held named.new) (O.contents out.new)) (needs_words_of words.now)) }
+    ensures stopped { IfErr result (λ f. (errors : Option (List ℕ)) → IsStopped (around (N.held named.old) (O.contents out.old)) (around (N.held named.new) (O.contents out.new))
+        errors errors (needs_request (needs_words_of words.now)) f) }
     ensures untouched { IfErr result (λ f. status_of f ≡ 2 → IsUntouched (around (N.held named.old) (O.contents out.old)) (around (N.held named.new) (O.contents out.new))) }
     ensures refused { IfErr result (λ f. status_of f ≡ 2 → IsNeedsFault (N.held named.old) (needs_words_of words.now) f) }
 {
@@ -243,10 +179,13 @@ fn write_verdict<'a, O: io::Write>(
     out: &mut O,
 ) -> Result<(), Fault<'a>>
     ensures told { OnOk result (HasToldVerdict (O.contents out.old) (O.contents out.new) judged.now.verdict explains) }
+    ensures cut { IfErr result (λ f. (text : List ℕ) × TellsVerdict judged.now.verdict explains text × IsTextCut Output (O.contents out.old) (O.contents out.new) text f) }
     ensures refused { IfErr result (λ f. status_of f ≡ 3) }
 {
-    let line = write_judged(alloc, judged, explains)?;
-    write_output(out, &line)
+    match write_judged(alloc, judged, explains) {
+        Ok(line) => write_output(out, &line),
+        Err(_) => Err(Fault::Memory),
+    }
 }
 
 /// Judges the trace that the words name, and writes the verdict.
@@ -258,6 +197,8 @@ fn tell_judged<'a, N: Named, O: io::Write>(
 ) -> Result<Verdict, Fault<'a>>
     ensures files { KeepsAllBut None (N.held named.old) (N.held named.new) }
     ensures judged { IfOk result (IsToldVerdict (around (N.held named.old) (O.contents out.old)) (around (N.held named.new) (O.contents out.new)) (check_words_of words.now)) }
+    ensures stopped { IfErr result (λ f. (errors : Option (List ℕ)) → IsStopped (around (N.held named.old) (O.contents out.old)) (around (N.held named.new) (O.contents out.new))
+        errors errors (check_request (check_words_of words.now)) f) }
     ensures untouched { IfErr result (λ f. status_of f ≡ 2 → IsUntouched (around (N.held named.old) (O.contents out.old)) (around (N.held named.new) (O.contents out.new))) }
     ensures refused { IfErr result (λ f. status_of f ≡ 2 → IsCheckFault (N.held named.old) (check_words_of words.now) f) }
 {
@@ -286,6 +227,8 @@ fn answer<'a, R: Threads + Wait + Sync, N: Named, O: io::Write, E: io::Write>(
     ensures files { KeepsAllBut (trace_in (request_of asked.now)) (N.held named.old) (N.held named.new) }
     ensures served { IfOk result (IsServed (around (N.held named.old) (O.contents out.old)) (around (N.held named.new) (O.contents out.new))
         (E.contents err.old) (E.contents err.new) (request_of asked.now)) }
+    ensures stopped { IfErr result (IsStopped (around (N.held named.old) (O.contents out.old)) (around (N.held named.new) (O.contents out.new))
+        (E.contents err.old) (E.contents err.new) (request_of asked.now)) }
     ensures untouched { IfErr result (λ f. status_of f ≡ 2 → IsUntouched (around (N.held named.old) (O.contents out.old)) (around (N.held named.new) (O.contents out.new))) }
     ensures refused { IfErr result (λ f. status_of f ≡ 2 → IsFaultOf (N.held named.old) (request_of asked.now) f) }
     ensures silent { IfErr result (λ f. status_of f ≡ 2 → Keeps (E.contents err.old) (E.contents err.new)) }
@@ -311,6 +254,7 @@ fn tell_words<O: io::Write, E: io::Write>(error: &clap::Error, out: &mut O, err:
     ensures quiet { result ≤ 1 → Keeps (E.contents err.old) (E.contents err.new) }
     ensures untouched { result ≡ 2 → Keeps (O.contents out.old) (O.contents out.new) }
     ensures wrong { result ≡ 2 → (kind_of error.now ≢ OutOfMemory) × (kind_of error.now ≢ DisplayHelp) × (kind_of error.now ≢ DisplayVersion) }
+    ensures cut { result ≡ 3 → IsClapCut (O.contents out.old) (O.contents out.new) (E.contents err.old) (E.contents err.new) (kind_of error.now) }
 {
     match error.kind() {
         ErrorKind::OutOfMemory => {
@@ -337,6 +281,7 @@ fn tell_words<O: io::Write, E: io::Write>(error: &clap::Error, out: &mut O, err:
 fn tell_fault<E: io::Write>(fault: &Fault<'_>, err: &mut E) -> u8
     ensures status { (2 ≤ result) × IsStatus result }
     ensures told { result ≡ 2 → (status_of fault.now ≡ 2) × Appends (E.contents err.old) (E.contents err.new) (fault_line fault.now) }
+    ensures cut { result ≡ 3 → IsLineCut (E.contents err.old) (E.contents err.new) fault.now }
 {
     if fault.tell(err).is_err() {
         return 3;
@@ -359,6 +304,8 @@ fn answer_or_tell<R: Threads + Wait + Sync, N: Named, O: io::Write, E: io::Write
     ensures quiet { result ≡ 0 → Keeps (E.contents err.old) (E.contents err.new) }
     ensures untouched { result ≡ 2 → IsUntouched (around (N.held named.old) (O.contents out.old)) (around (N.held named.new) (O.contents out.new)) }
     ensures refused { result ≡ 2 → IsRefusedBy (N.held named.old) (E.contents err.old) (E.contents err.new) (request_of asked.now) }
+    ensures cut { result ≡ 3 → IsCutShort (around (N.held named.old) (O.contents out.old)) (around (N.held named.new) (O.contents out.new))
+        (E.contents err.old) (E.contents err.new) (request_of asked.now) }
     ensures files { KeepsAllBut (trace_in (request_of asked.now)) (N.held named.old) (N.held named.new) }
 {
     match answer(rt, alloc, asked, named, out, err) {
@@ -378,7 +325,9 @@ fn answer_or_tell<R: Threads + Wait + Sync, N: Named, O: io::Write, E: io::Write
 ///
 /// At status 0 and 1 what the words ask for is done, or, at 0, they ask for help or the version; at 0 nothing is written to `err`.
 /// At status 2 no file is written, and nothing to `out`; where `clap` finds no fault in the words, what is added to `err` is the line of the
-/// first fault of what they ask for, and that fault is one of status 2. At every status all files but the trace are as they were. What files
+/// first fault of what they ask for, and that fault is one of status 2. At status 3 `out` and `err` hold fronts of what they were to hold:
+/// of the output, and of the lines of the threads or the line of the fault; and what was to follow the one that failed wasn't begun, but for
+/// the fault's line. At every status all files but the trace are as they were. What files
 /// hold is said where that is known (`Named::held`), and so is what was written (`Write::contents`).
 pub fn serve<R: Threads + Wait + Sync, N: Named, O: io::Write, E: io::Write>(
     rt: &R,
@@ -394,6 +343,8 @@ pub fn serve<R: Threads + Wait + Sync, N: Named, O: io::Write, E: io::Write>(
     ensures quiet { result ≡ 0 → Keeps (E.contents err.old) (E.contents err.new) }
     ensures untouched { result ≡ 2 → IsUntouched (around (N.held named.old) (O.contents out.old)) (around (N.held named.new) (O.contents out.new)) }
     ensures refused { result ≡ 2 → AreWordsRefused (N.held named.old) (E.contents err.old) (E.contents err.new) (texts words.entry.now) }
+    ensures cut { result ≡ 3 → AreWordsCut (around (N.held named.old) (O.contents out.old)) (around (N.held named.new) (O.contents out.new))
+        (E.contents err.old) (E.contents err.new) (texts words.entry.now) }
     ensures files { KeepsAllBut (trace_in (request_in (texts words.entry.now))) (N.held named.old) (N.held named.new) }
 {
     match parse(alloc, words) {

@@ -58,6 +58,8 @@ mod scripted;
 #[cfg(test)]
 mod sheet;
 #[cfg(test)]
+mod sinks;
+#[cfg(test)]
 mod steps;
 #[cfg(test)]
 mod twin;

@@ -131,3 +131,35 @@ impl Named for Texts {
         }
     }
 }
+
+/// Files that stay as they are: what is written to them is forgotten.
+#[derive(Drop)]
+pub(crate) struct Unchanged<'a> {
+    files: &'a mut Texts,
+    /// Whether a file was written.
+    pub(crate) is_written: bool,
+}
+
+impl<'a> Unchanged<'a> {
+    /// These files, of which none was written.
+    pub(crate) fn new(files: &'a mut Texts) -> Unchanged<'a> {
+        Unchanged {
+            files,
+            is_written: false,
+        }
+    }
+}
+
+impl Named for Unchanged<'_> {
+    fn read(&mut self, alloc: Global, name: &str, most: usize) -> Result<Vec<u8>, NamedFault> {
+        self.files.read(alloc, name, most)
+    }
+
+    fn write(&mut self, name: &str, _bytes: &[u8]) -> Result<(), NamedFault> {
+        if !self.files.has_folder_of(name) {
+            return Err(NamedFault::Io);
+        }
+        self.is_written = true;
+        Ok(())
+    }
+}
