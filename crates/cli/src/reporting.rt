@@ -48,7 +48,11 @@ pub(crate) fn write_output<'a, O: io::Write>(out: &mut O, bytes: &[u8]) -> Resul
 }
 
 /// Writes these bytes to the trace file.
-fn write_trace_file<'a, N: Named>(name: &'a str, bytes: &[u8], named: &mut N) -> Result<(), Fault<'a>>
+fn write_trace_file<'a, N: Named>(
+    name: &'a str,
+    bytes: &[u8],
+    named: &mut N,
+) -> Result<(), Fault<'a>>
     ensures traced { OnOk result (FileHolds (N.held named.new) name.now (λ all. all ≡ bytes.now)) }
     ensures files { KeepsAllBut (Some name.now) (N.held named.old) (N.held named.new) }
     ensures refused { IfErr result (IsTraceFault (Some name.now)) }

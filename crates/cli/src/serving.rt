@@ -325,9 +325,9 @@ fn answer_or_tell<R: Threads + Wait + Sync, N: Named, O: io::Write, E: io::Write
 ///
 /// At status 0 and 1 what the words ask for is done, or, at 0, they ask for help or the version; at 0 nothing is written to `err`.
 /// At status 2 no file is written, and nothing to `out`; where `clap` finds no fault in the words, what is added to `err` is the line of the
-/// first fault of what they ask for, and that fault is one of status 2. At status 3 `out` and `err` hold fronts of what they were to hold:
-/// of the output, and of the lines of the threads or the line of the fault; and what was to follow the one that failed wasn't begun, but for
-/// the fault's line. At every status all files but the trace are as they were. What files
+/// first fault of what they ask for, and that fault is one of status 2. At status 3 `out` and `err` hold fronts of what they were to hold
+/// (of texts of `clap`'s own, nothing is said): of the output, and of the lines of the threads or the line of the fault; and what was to follow
+/// the one that failed wasn't begun, but for the fault's line. At every status all files but the trace are as they were. What files
 /// hold is said where that is known (`Named::held`), and so is what was written (`Write::contents`).
 pub fn serve<R: Threads + Wait + Sync, N: Named, O: io::Write, E: io::Write>(
     rt: &R,

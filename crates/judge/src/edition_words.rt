@@ -49,8 +49,11 @@ fn left_out(open: &[OpenClass], class: ClassId, kind: &Kind) -> Option<Interface
     let [.., around, innermost] = open else {
         return None;
     };
-    match (&around.stage, kind) {
-        (Stage::Needing(_), Kind::Runs) if around.class == class => Some(InterfaceFirst {
+    if around.class != class {
+        return None;
+    }
+    match (&around.stage, &innermost.stage, kind) {
+        (Stage::Needing(_), Stage::Looking { .. }, Kind::Runs) => Some(InterfaceFirst {
             class,
             interface: innermost.class,
         }),

@@ -18,7 +18,7 @@ pub returns-in-Err-clause-stopped : goal.returns-in-Err-clause-stopped
 returns-in-Err-clause-stopped g c =
     read_only (g.N.Named.held c.args.named.now) (g.N.Named.held c.run_files.new.named) (g.O.Write.contents c.args.out.now) (g.E.Write.contents c.args.err.now) (run_request (run_words_of c.args.words.now)) c.in-Err.fault
     (of_files (numbers_of c.args.order) c.args.limits c.args.edition c.requires.order c.requires.said c.requires.edition_said
-      (subst (λ files. IsFilesRefusal (g.N.Named.held c.args.named.now) (texts files) c.args.edition (text_of c.args.words.now.mains) (numbers_of c.args.order) c.in-Err.fault) c.deref.ensures.value c.in-Err.ensures.refused)) c.run_files.ensures.files
+    (subst (λ files. IsFilesRefusal (g.N.Named.held c.args.named.now) (texts files) c.args.edition (text_of c.args.words.now.mains) (numbers_of c.args.order) c.in-Err.fault) c.deref.ensures.value c.in-Err.ensures.refused)) c.run_files.ensures.files
 
 pub returns-in-Ok-clause-stopped : goal.returns-in-Ok-clause-stopped
 returns-in-Ok-clause-stopped g c =

@@ -22,5 +22,5 @@ pub returns-in-Err-check_named-clause-stopped : goal.returns-in-Err-check_named-
 returns-in-Err-check_named-clause-stopped g c = λ errors.
     read_only (g.N.Named.held c.args.named.now) (g.N.Named.held c.check_named.new.named) (g.O.Write.contents c.args.out.now) errors (check_request (check_words_of c.args.words.now)) c.in-Err-check_named.fault
     (check_files c.in-Ok.edition c.in-Ok.ensures.said
-      (subst (λ files. IsCheckRefusal (g.N.Named.held c.args.named.now) (texts files) c.in-Ok.edition (text_of c.args.words.now.mains) c.args.words.now.trace.now c.in-Err-check_named.fault) c.deref.ensures.value c.in-Err-check_named.ensures.refused))
+    (subst (λ files. IsCheckRefusal (g.N.Named.held c.args.named.now) (texts files) c.in-Ok.edition (text_of c.args.words.now.mains) c.args.words.now.trace.now c.in-Err-check_named.fault) c.deref.ensures.value c.in-Err-check_named.ensures.refused))
     c.check_named.ensures.files
