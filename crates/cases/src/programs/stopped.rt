@@ -11,9 +11,9 @@ use std::thread::Threads;
 /// What standard error holds where the output can't be written.
 const UNWRITTEN: &[u8] = b"io: output\n";
 
-/// Whether a stream is stopped at this byte: at each of the first 11,000, and further on (one text is longer) at every 997th.
+/// Whether a stream is stopped at this byte: at each of the first 800, and further on (three texts are longer) at every 997th.
 fn is_tried(at: usize) -> bool {
-    at < 11_000 || at % 997 == 0
+    at < 800 || at % 997 == 0
 }
 
 /// A command line, and what it comes to over these files.
