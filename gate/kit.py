@@ -9,8 +9,6 @@ import sys
 
 # The kits whose inner names the gate and the build lean on. With any other they fall back to the kit's own commands.
 KNOWN = "rattle-kit-13b logic dac8208d650f15bf", "rattle-kit-13f logic dac8208d650f15bf"
-# How many jobs a proof has at least with which the prover writes the modules that edits start from: of 13b that was only seen with two.
-JOBS_FOR_MODULES = {KNOWN[0]: 2, KNOWN[1]: 1}
 
 
 @functools.cache

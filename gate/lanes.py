@@ -40,11 +40,10 @@ class Lanes:
         self.pool = ThreadPoolExecutor(number, initializer=step_back, initargs=(priority,))
 
 
-def run(tasks, given, processors, memory, memory_for, fewest=lambda key: 1, planned=None):
+def run(tasks, given, processors, memory, memory_for, planned=None):
     """Runs each task once those that it waits for have ended, and adds what each gave to what is given. A task is what it waits
-    for, its work, and a call that gets what was given and how many jobs it may use, of which all but edits have at least as many as
-    `fewest` says, 1 or 2; so many jobs take the memory that `memory_for` says. Where `planned` is given, it says of each task how many jobs
-    it has, and whether it leads."""
+    for, its work, and a call that gets what was given and how many jobs it may use; so many jobs take the memory that `memory_for` says.
+    Where `planned` is given, it says of each task how many jobs it has, and whether it leads."""
     behind = paths(tasks)
     # (several tasks may lead, each with several jobs)
     lead, front, back = Lanes(2 * processors, LEAD), Lanes(max(processors, 2), FRONT), Lanes(processors, BACK)
@@ -62,7 +61,7 @@ def run(tasks, given, processors, memory, memory_for, fewest=lambda key: 1, plan
         return lead if leads else front
 
     def jobs_for(key, lanes):
-        """How many jobs the task may use: more than the fewest where its path is nearly the longest of those that could run now."""
+        """How many jobs the task may use: more than one where its path is nearly the longest of those that could run now."""
         if lanes is back:
             return 1
         if planned:
@@ -71,11 +70,11 @@ def run(tasks, given, processors, memory, memory_for, fewest=lambda key: 1, plan
         longest = max(behind[it] for it in could_run)
         leading = [it for it in could_run if 10 * behind[it] >= 9 * longest]
         if key not in leading:
-            return fewest(key)
+            return 1
         # (a proof with less work leaves its processor before this one has ended)
         others = sum(1 if it[1] == "edits" else min(1, tasks[it][1] / max(1, tasks[key][1])) for it in could_run if it not in leading)
         is_waited_for = processors * behind[key] > sum(tasks[it][1] for it in left)
-        return max(fewest(key), 2 if is_waited_for else 1, int((processors - others) / len(leading)))
+        return max(2 if is_waited_for else 1, int((processors - others) / len(leading)))
 
     def start():
         """Starts what there is room for: first what gathers the results of a crate's edits, so that the crate is kept, then proofs
@@ -88,7 +87,7 @@ def run(tasks, given, processors, memory, memory_for, fewest=lambda key: 1, plan
                 taken = sum(memory_for(it) for _, it, _ in running.values())
                 while jobs and running and taken + memory_for(jobs) > memory:
                     jobs -= 1
-                if jobs >= (1 if lanes is back else fewest(key)):
+                if jobs >= 1:
                     left.remove(key)
                     lanes.idle -= jobs
                     running[lanes.pool.submit(tasks[key][2], given, jobs)] = key, jobs, lanes

@@ -66,10 +66,6 @@ class Gate:
         """Whether the crate's proof shall leave modules for its edits. (A program's edits are few, and start from nothing.)"""
         return bool(crate.makes_rlib() and self.rt.edits_of(crate)[0])
 
-    def fewest_jobs(self, crate):
-        """How many jobs the crate's proof has at least."""
-        return kit.JOBS_FOR_MODULES[kit.version()] if self.leaves_modules(crate) else 1
-
     def judge(self):
         """Runs the kit's gate so, and answers its exit status."""
         # (13f keeps what it proved in a store of its own, and adds tasks for edits by a call of their own; 13b does neither)
@@ -118,9 +114,6 @@ class Gate:
                 os.makedirs(gate.kept(self), exist_ok=True)
                 if tests or not gate.leaves_modules(self):
                     return super().ci(flags, tests)
-                if flags == ["--jobs", "1"]:
-                    # (the second try after a check that was killed for want of memory)
-                    flags = ["--jobs", str(gate.fewest_jobs(self))]
                 with modules.linked(self, gate.kept(self)):
                     return super().ci(flags, tests)
 
@@ -173,7 +166,7 @@ class Gate:
                 own.update(self.edit_tasks(crate, waits))
         given = self.taken_at_once(own)
         with modules.below(f"{self.work}/made"):
-            lanes.run(own, given, *kit.lanes(self.rt), kit.memory_for, lambda key: self.fewest_jobs(self.crates[key[0]]))
+            lanes.run(own, given, *kit.lanes(self.rt), kit.memory_for)
         for crate in self.crates.values():
             self.count(crate, given)
         return given
