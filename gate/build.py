@@ -18,12 +18,38 @@ import lanes
 
 ROOT = os.path.dirname(os.path.dirname(os.path.realpath(__file__)))
 FAILED = 70
+# What the program's sources are.
+SOURCES = "crates", "crates.txt", "HANDLES"
 # How many jobs the proof of a crate has where nothing is built, if not one, and which proofs run at the lower priority. It is nearly what
 # served best in a model of the build that was given measured times: the longest path goes first, and there each processor has work until all
 # that cli waits for ends, at about the same time; only what would leave one idle has several jobs, with which a proof takes more of them in all.
 JOBS = {"jasmin_words": 2, "jasmin_text": 2, "jasmin_reader": 2, "hierarchy": 3, "statics": 3, "init_core": 2, "heap": 3, "interpreter": 2, "cli": 4, "jinit": 4}
 LATER = {"texts", "command_line", "init_lock", "jasmin_reader", "trace", "trace_reader", "judge", "replayer"}
 began = time.time()
+
+
+def git(*words):
+    """What a command of git says of the checkout, or nothing where it is none."""
+    if not os.path.exists(f"{ROOT}/.git"):
+        return ""
+    try:
+        ran = subprocess.run(["git", "-C", ROOT, *words], stdout=subprocess.PIPE, stderr=subprocess.DEVNULL, text=True)
+    except OSError:
+        return ""
+    return ran.stdout.strip() if not ran.returncode else ""
+
+
+def about():
+    """From which commit a program is that is built of the sources as they are, and by which toolchain: lines of its file PROVED."""
+    commit = git("rev-parse", "HEAD") or "not known"
+    changes = " and changes" if git("status", "--porcelain", "--", *SOURCES) else ""
+    return f"Commit     {commit}{changes}\nToolchain  {kit.version() or 'not known'}\n"
+
+
+def write_about(lines):
+    """Puts these lines beside the built program, whose version ends with them."""
+    with open(f"{ROOT}/crates/jinit/out/PROVED", "w", encoding="utf-8") as it:
+        it.write(lines)
 
 
 def say(text):
@@ -116,10 +142,12 @@ def main():
         say("put the folder bin of the Rattle kit on the PATH and call again")
         sys.exit(FAILED)
     say("the program isn't built yet, or its sources changed: the crates that it stands on are proved and built first")
+    lines = about()
     if kit.version() in kit.KNOWN:
         along_the_graph()
     else:
         by_the_kit()
+    write_about(lines)
     say(f"built, {time.time() - began:.0f} s")
 
 

@@ -14,6 +14,7 @@ import time
 
 sys.dont_write_bytecode = True
 
+import build
 import kit
 from proving import Gate
 from store import Store
@@ -71,6 +72,7 @@ def main(words):
     os.chdir(ROOT)
     tally = Tally()
     built = f"{ROOT}/crates/jinit/out/build.stamp"
+    about = build.about()
     if kit.version() in kit.KNOWN:
         rt = kit.load()
         store = Store(ROOT, rt.rtlib.files_of)
@@ -82,6 +84,7 @@ def main(words):
             # (so that ./jinit takes the program that was proved here)
             open(built, "w").close()
             os.utime(built, (began, began))
+            build.write_about(about)
         tally.add("proofs", failed=int(status != 0 and not any(it[1] for it in tally.rows.values())))
     else:
         by_the_kit(tally)
@@ -92,6 +95,7 @@ def main(words):
             counted(tally, "calls", ["tests/refuse_memory/calls"])
     if os.path.isfile(PROGRAM):
         counted(tally, "archives", ["tests/archives/run", PROGRAM])
+        counted(tally, "archives", ["tests/explanations/run", PROGRAM])
         if kit.version() in kit.KNOWN:
             counted(tally, "package", ["package/test", PROGRAM])
         seed = str(int(time.time()))

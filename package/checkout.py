@@ -2,35 +2,22 @@
 import hashlib
 import os
 import re
-import subprocess
 import sys
 
 ROOT = os.path.dirname(os.path.dirname(os.path.realpath(__file__)))
 sys.path.append(f"{ROOT}/gate")
 
 import kit
+from build import git
 from run import HARMLESS
 from store import Store
 
 PROGRAM = f"{ROOT}/crates/jinit/out/jinit"
 
 
-def git(*words):
-    try:
-        ran = subprocess.run(["git", "-C", ROOT, *words], stdout=subprocess.PIPE, stderr=subprocess.DEVNULL, text=True)
-    except OSError:
-        return ""
-    return ran.stdout.strip() if not ran.returncode else ""
-
-
 def date():
     """The time that all files of a package have: SOURCE_DATE_EPOCH, else that of the commit."""
     return int(os.environ.get("SOURCE_DATE_EPOCH") or git("log", "-1", "--format=%ct") or 0)
-
-
-def commit():
-    found = git("rev-parse", "HEAD") or "unknown, as this is no git checkout"
-    return found + (", and changes that are not committed" if git("status", "--porcelain") else "")
 
 
 def sum_of_bytes(content):

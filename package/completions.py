@@ -22,6 +22,8 @@ _jinit() {
         mapfile -t COMPREPLY < <(compgen -W "$options" -- "$word")
     elif [[ -z $command || $command == help ]]; then
         mapfile -t COMPREPLY < <(compgen -W "@NAMES@" -- "$word")
+    elif [[ $command == explain ]]; then
+        mapfile -t COMPREPLY < <(compgen -W "@CODES@" -- "$word")
     else
         mapfile -t COMPREPLY < <(compgen -f -X '!*.j' -- "$word"; compgen -d -- "$word")
     fi
@@ -38,18 +40,23 @@ def flags_of(help):
     return [flag for row in help.rows("Options") for flag in row.flags()]
 
 
+def takes_codes(help):
+    return name_of(help) == "explain"
+
+
 def with_value(subcommands, is_file):
     """The options that take a file, or those that take another value."""
     rows = [row for help in subcommands for row in help.rows("Options") if row.value()]
-    return sorted({flag for row in rows if (row.value() == "FILE") == is_file for flag in row.flags()})
+    return sorted({flag for row in rows if row.is_file() == is_file for flag in row.flags()})
 
 
-def bash(top, subcommands):
+def bash(top, subcommands, codes):
     names = [row.written for row in top.rows("Commands")]
     options = "\n".join(f'        {name_of(it)}) options="{" ".join(flags_of(it))}" ;;' for it in subcommands)
     parts = {
         "COMMANDS": "|".join(names),
         "NAMES": " ".join(names),
+        "CODES": " ".join(codes),
         "OPTIONS": options,
         "TOP": " ".join(flags_of(top)),
         "FILES": "|".join(with_value(subcommands, True)),
@@ -69,12 +76,12 @@ def quoted(text):
 def zsh_option(row):
     text = row.text.replace("\\", "\\\\").replace("[", "\\[").replace("]", "\\]").replace(":", "\\:")
     value = row.value()
-    action = f":{value.replace(':', ' ')}:{'_files' if value == 'FILE' else ' '}" if value else ""
+    action = f":{value.replace(':', ' ')}:{'_files' if row.is_file() else ' '}" if value else ""
     equals = "=" if value else ""
     return [quoted(f"{flag}{equals}[{text}]{action}") for flag in row.flags()]
 
 
-def zsh(top, subcommands):
+def zsh(top, subcommands, codes):
     lines = ["#compdef jinit", "# zsh completion for jinit, made from its help", "local -a commands", "commands=("]
     lines += ["    " + quoted(f"{row.written}:{row.text}") for row in top.rows("Commands")]
     lines += [")", "if (( CURRENT == 2 )); then"]
@@ -84,7 +91,8 @@ def zsh(top, subcommands):
     lines += ["shift words", "(( CURRENT-- ))", "case $words[1] in"]
     for help in subcommands:
         options = [it for row in help.rows("Options") for it in zsh_option(row)]
-        spelled = " \\\n            ".join([*options, quoted('*:file:_files -g "*.j"')])
+        words = f"*:code:({' '.join(codes)})" if takes_codes(help) else '*:file:_files -g "*.j"'
+        spelled = " \\\n            ".join([*options, quoted(words)])
         lines += [f"    {name_of(help)})", f"        _arguments {spelled} ;;"]
     lines += ["    help) _describe command commands ;;", "esac"]
     return "\n".join(lines) + "\n"
@@ -93,11 +101,11 @@ def zsh(top, subcommands):
 def fish_option(row):
     flags = [f"-l {flag[2:]}" if flag.startswith("--") else f"-s {flag[1:]}" for flag in row.flags()]
     value = row.value()
-    takes = [] if value is None else ["-r", "-F"] if value == "FILE" else ["-x"]
+    takes = [] if value is None else ["-r", "-F"] if row.is_file() else ["-x"]
     return " ".join([*flags, *takes, "-d", quoted(row.text)])
 
 
-def fish(top, subcommands):
+def fish(top, subcommands, codes):
     none = "-n __fish_use_subcommand"
     lines = ["# fish completion for jinit, made from its help", "complete -c jinit -f"]
     lines += [f"complete -c jinit {none} {fish_option(row)}" for row in top.rows("Options")]
@@ -105,5 +113,6 @@ def fish(top, subcommands):
     for help in subcommands:
         seen = f"-n '__fish_seen_subcommand_from {name_of(help)}'"
         lines += [f"complete -c jinit {seen} {fish_option(row)}" for row in help.rows("Options")]
-        lines += [f"complete -c jinit {seen} -k -a '(__fish_complete_suffix .j)'"]
+        words = " ".join(codes) if takes_codes(help) else "(__fish_complete_suffix .j)"
+        lines += [f"complete -c jinit {seen} -k -a {quoted(words)}"]
     return "\n".join(lines) + "\n"

@@ -28,9 +28,13 @@ def page(help, others, version, date, messages):
     parts.append(f".SH SYNOPSIS\n\\fB{plain(help.usage)}\\fR\n")
     for heading, rows in help.lists.items():
         parts.append(f".SH {heading.upper()}\n" + "".join(item(row.written, row.text) for row in rows))
+    for heading, lines in help.examples():
+        parts.append(f".SH {heading.upper()}\n.nf\n" + "".join(f"{plain(it.strip())}\n" for it in lines) + ".fi\n")
     parts.append(".SH EXIT STATUS\n" + "".join(item(*row) for row in statuses(messages)))
     parts.append(".SH SEE ALSO\n" + ",\n".join(f"\\fB{plain(it)}\\fR(1)" for it in others) + "\n.PP\n")
-    parts.append("The folder share/doc/jinit beside the program's has the documents, as TUTORIAL.md, and the examples.\n")
+    # (the table above says more of the exit statuses than the help)
+    parts += [f"{plain(it)}\n" for it in help.remarks() if not it.startswith("Exit status:")]
+    parts.append("The folder share/doc/jinit beside the program's has the documents, as docs/TUTORIAL.md, and the examples.\n")
     return "".join(parts)
 
 

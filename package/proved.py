@@ -1,12 +1,11 @@
 """The file PROVED: from what the program was built, and what was proved of it."""
-import kit
-from checkout import commit, sum_of_bytes
+from build import about
+from checkout import sum_of_bytes
 
 HEAD = """\
 What was proved of this program.
 
-Commit     {commit}
-Toolchain  {toolchain}
+{about}\
 Program    {program} (sha256), {made}
 
 Each crate that the program is built from, with
@@ -22,7 +21,7 @@ The verdicts are what the prover wrote when the crates were proved, copied here.
 
 def proved(checkout, program):
     made = "built from these sources, proved, in this checkout" if checkout.made_here(program) else "not known to be built from these sources"
-    parts = [HEAD.format(commit=commit(), toolchain=kit.version(), program=sum_of_bytes(program), made=made)]
+    parts = [HEAD.format(about=about(), program=sum_of_bytes(program), made=made)]
     for crate in checkout.crates:
         edits = len(checkout.edits_of(crate))
         refused = f"{edits} of {edits} refused" if checkout.is_judged(crate) else "not tried here"

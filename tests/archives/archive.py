@@ -139,11 +139,11 @@ def left_in(folder):
     return {f"left {path.relative_to(folder)}": path.read_bytes() for path in files}
 
 
-def run(program, words, folder):
-    """What comes of a program in a folder, as the parts of a case say it."""
+def run(program, words, folder, given=b""):
+    """What comes of a program in a folder, with this on standard input, as the parts of a case say it."""
     try:
         came = subprocess.run(
-            words, executable=program, cwd=folder, stdin=subprocess.DEVNULL, capture_output=True, timeout=SECONDS
+            words, executable=program, cwd=folder, input=given, capture_output=True, timeout=SECONDS
         )
     except subprocess.TimeoutExpired:
         return {"status": b"none after %d seconds\n" % SECONDS}
@@ -154,12 +154,13 @@ def run(program, words, folder):
 def judged(program, text):
     """For each case of an archive the number of its command's line, and what differs: part, what it says, what came."""
     with tempfile.TemporaryDirectory() as name:
-        folder = Path(name)
+        folder, given = Path(name), b""
         for number, words, files, others in cases_of(text):
+            given = files.pop("-", given)
             for file, content in files.items():
                 (folder / file).parent.mkdir(parents=True, exist_ok=True)
                 (folder / file).write_bytes(content)
             wanted = {"stdout": b"", "stderr": b"", "status": b"0\n"} | left_in(folder) | others
-            came = run(program, words, folder)
+            came = run(program, words, folder, given)
             answers = [(part, wanted.get(part), came.get(part)) for part in sorted(wanted.keys() | came.keys())]
             yield number, [answer for answer in answers if answer[1] != answer[2]]

@@ -47,7 +47,8 @@ fn judge<R: Threads + Wait + Sync>(
     report: &mut Report<'_>,
 ) {
     if file.ends_with(".txtar") {
-        programs::judge(rt, alloc, parts, report)
+        // (the runs of other folders, and those on fewer processors, are made for other reasons)
+        programs::judge(rt, alloc, file.starts_with("programs/"), parts, report)
     } else if file.contains("jasmin/") {
         jasmin::judge(alloc, parts, report)
     } else if file.contains("classes/") || file.contains("traces/") {

@@ -6,7 +6,7 @@
 //! | Head | Body |
 //! |---|---|
 //! | `command` | the words of the command line, with white space between them; `''` is an empty word |
-//! | `file NAME` | a file that is made before the run |
+//! | `file NAME` | a file that is made before the run; of the name `-` it is standard input |
 //! | `N times file NAME` | N such files: `#` in the name and in the body is the number of the file, from 0 |
 //! | `stdout`, `stderr` | what the run writes; nothing where the part is absent |
 //! | `status` | the exit status; 0 where the part is absent |
@@ -14,9 +14,9 @@
 //!
 //! A file that no `left` names holds after the run what it held before, and the run makes no file but those. Where a command runs
 //! one main class, its run on a thread of its own must come to the same output, lines and trace, with any patience and with the least.
-//! A trace that a run wrote must be judged legal. Each command is run too with its output stopped at each byte of it, and likewise with its
-//! standard error (after 800 bytes at every 997th): the answer must be status 3, with just the bytes before on the stream that is stopped, and
-//! where that is the output, no file written and `io: output` on standard error. With room for just the whole it must come to the same as
+//! A trace that a run wrote into a file must be judged legal. Each command of the folder `programs` is run too with its output stopped at each byte of it, and likewise with its
+//! standard error (after 800 bytes at every 997th): the answer must be status 3 (in the words that explain a fault, that of the fault), with just the bytes before on the stream that is
+//! stopped, and where that is the output, no file written and `io: output` on standard error. With room for just the whole it must come to the same as
 //! without a limit.
 
 mod checked;
@@ -169,10 +169,14 @@ fn run<R: Threads + Wait + Sync>(
     files: &mut Texts,
     came: &mut Texts,
 ) {
-    if let Ok(Asked::Run(run)) = &parse(alloc, words) {
-        serve_run(rt, alloc, words, run, files, came);
-    } else {
-        serve_words(rt, alloc, words, files, came);
+    match &parse(alloc, words) {
+        // (a trace on standard output would have to be told from the output)
+        Ok(Asked::Run(run)) if run.trace != Some("-") => {
+            serve_run(rt, alloc, words, run, files, came);
+        }
+        _ => {
+            serve_words(rt, alloc, words, files, came);
+        }
     }
 }
 
@@ -186,10 +190,11 @@ fn judge_run(line: usize, wanted: &Texts, came: &Texts, report: &mut Report<'_>)
     report.judges(line);
 }
 
-/// Judges a case: its command and the parts after it.
+/// Judges a case: its command and the parts after it. Where it `stops`, the command is run too with its streams stopped.
 fn judge_case<R: Threads + Wait + Sync>(
     rt: &R,
     alloc: Global,
+    stops: bool,
     command: &Part<'_>,
     parts: &[Part<'_>],
     files: &mut Texts,
@@ -203,7 +208,9 @@ fn judge_case<R: Threads + Wait + Sync>(
     put_wanted(&mut wanted, parts, files);
     match words_of(alloc, from_utf8(&command.body).unwrap_or("")) {
         Ok(words) => {
-            run_stopped(rt, alloc, &words, files, &mut came, report);
+            if stops {
+                run_stopped(rt, alloc, &words, files, &mut came, report);
+            }
             run(rt, alloc, &words, files, &mut came);
         }
         Err(_) => came.is_refused = true,
@@ -214,10 +221,11 @@ fn judge_case<R: Threads + Wait + Sync>(
     judge_run(command.line, &wanted, &came, report);
 }
 
-/// Judges the cases of a file. A part before the first command fails.
+/// Judges the cases of a file. A part before the first command fails. Where it `stops`, each command is run too with its streams stopped.
 pub(crate) fn judge<R: Threads + Wait + Sync>(
     rt: &R,
     alloc: Global,
+    stops: bool,
     parts: &[Part<'_>],
     report: &mut Report<'_>,
 ) {
@@ -225,7 +233,7 @@ pub(crate) fn judge<R: Threads + Wait + Sync>(
     for (index, part) in parts.iter().enumerate() {
         if part.head == "command" {
             let after = parts_after(parts, index, "command");
-            judge_case(rt, alloc, part, after, &mut files, report);
+            judge_case(rt, alloc, stops, part, after, &mut files, report);
         } else if index == 0 {
             report.fails(part.line, b"command", part.head.as_bytes());
         }

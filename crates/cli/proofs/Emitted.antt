@@ -1,10 +1,11 @@
 -- What several writes made, one after the other.
-use Rattle.std.proofs.Common.{◌≡◌, ◌∙◌, ◌+◌, ◌-◌, ◌<◌, ◌≤◌, ℕ, zero, suc, List, [], ◌∷◌, ◌++◌, Option, Some, None, Result, Ok, Err, Bor, ap, append-nil, append_assoc, arith, drop, length, length-append, length-drop, refl, slice_index_or, subst, sym, take}
+use Rattle.std.proofs.Common.{◌≡◌, ◌∙◌, ◌+◌, ◌-◌, ◌<◌, ◌≤◌, Bool, true, false, nat_le, ℕ, zero, suc, List, [], ◌∷◌, ◌++◌, Option, Some, None, Result, Ok, Err, Bor, ap, append-nil, append_assoc, arith, drop, length, length-append, length-drop, refl, slice_index_or, subst, sym, take}
 use Rattle.std.proofs.Math.Seq.{take-add, take-append-add}
+use Rattle.std.proofs.lemmas.Bool.Decides.{nat_tests}
 use Rattle.std.proofs.lemmas.List.{take-append-drop, take-append-le, take_all, take_more}
 use Rattle.std.specs.Prelude.{OnErr, OnOk}
 use Rattle.std.specs.Io.KnownBytes.{Appends, Keeps}
-use Rattle.cli.proofs.KnownOutput.{appends_kept, appends_then}
+use Rattle.cli.proofs.KnownOutput.{appends_then}
 use Rattle.cli.specs.Sinks.{AppendsFront, AppendsShort, failures_after, joined}
 
 -- a write after what wrote nothing
@@ -13,12 +14,6 @@ kept_appends None middle after bytes kept appended = tt
 kept_appends (Some xs) None after bytes kept appended = absurd kept
 kept_appends (Some xs) (Some ys) None bytes kept appended = absurd appended
 kept_appends (Some xs) (Some ys) (Some zs) bytes kept appended = appended ∙ ap (λ all. all ++ bytes) kept
-
-pub kept_twice : (before middle after : Option (List ℕ)) → Keeps before middle → Keeps middle after → Keeps before after
-kept_twice None middle after first second = tt
-kept_twice (Some xs) None after first second = absurd first
-kept_twice (Some xs) (Some ys) None first second = absurd second
-kept_twice (Some xs) (Some ys) (Some zs) first second = second ∙ first
 
 -- what is left of a piece after its first n bytes
 tail_all : (piece : List ℕ) (n : ℕ) → take (length piece - n) (drop n piece) ≡ drop n piece
@@ -47,36 +42,22 @@ appends_none (Some xs) = sym (append-nil xs)
 pub whole_front : (before after : Option (List ℕ)) (bytes : List ℕ) → Appends before after bytes → AppendsFront before after bytes
 whole_front before after bytes one = (length bytes, subst (Appends before after) (sym (take_all (length bytes) bytes (omega arith))) one)
 
--- and so is none
-pub no_front : (before after : Option (List ℕ)) (bytes : List ℕ) → Keeps before after → AppendsFront before after bytes
-no_front None after bytes kept = (0, tt)
-no_front (Some xs) None bytes kept = absurd kept
-no_front (Some xs) (Some ys) bytes kept = (0, kept ∙ sym (append-nil xs))
-
 -- fewer than all are a front of them
 pub short_front : (before after : Option (List ℕ)) (bytes : List ℕ) → AppendsShort before after bytes → AppendsFront before after bytes
 short_front before after bytes (n, low, one) = (n, one)
 
 -- fewer than all of what comes after a whole
-short_then : (before middle after : Option (List ℕ)) (first second : List ℕ) → Appends before middle first → AppendsShort middle after second → AppendsShort before after (first ++ second)
+pub short_then : (before middle after : Option (List ℕ)) (first second : List ℕ) → Appends before middle first → AppendsShort middle after second → AppendsShort before after (first ++ second)
 short_then before middle after first second one (n, low, two) =
     let all = length-append first second in
     (length first + n, omega (arith, low, all), subst (Appends before after) (sym (take-append-add first second n)) (appends_then before middle after first (take n second) one two))
 
 -- fewer than all of a beginning
-short_of_first : (before after : Option (List ℕ)) (first second : List ℕ) → AppendsShort before after first → AppendsShort before after (first ++ second)
+pub short_of_first : (before after : Option (List ℕ)) (first second : List ℕ) → AppendsShort before after first → AppendsShort before after (first ++ second)
 short_of_first before after first second (n, low, one) =
     let all = length-append first second in
     let within : n ≤ length first = omega (arith, low) in
     (n, omega (arith, low, all), subst (Appends before after) (sym (take-append-le n first second within)) one)
-
--- a front after what wrote nothing
-pub kept_front : (before middle after : Option (List ℕ)) (bytes : List ℕ) → Keeps before middle → AppendsFront middle after bytes → AppendsFront before after bytes
-kept_front before middle after bytes kept (n, one) = (n, kept_appends before middle after (take n bytes) kept one)
-
--- a front, after which nothing is written
-pub front_kept : (before middle after : Option (List ℕ)) (bytes : List ℕ) → AppendsFront before middle bytes → Keeps middle after → AppendsFront before after bytes
-front_kept before middle after bytes (n, one) kept = (n, appends_kept before middle after (take n bytes) one kept)
 
 -- a write that took something didn't fail
 pub took_some : (failures count : ℕ) (piece : List ℕ) → 0 < count → failures_after failures (Some count) piece ≡ failures
@@ -122,3 +103,21 @@ told_front before after bytes (Err e) whole short = short_front before after byt
 pub on_err : {T E P : Type 0} (r : Result T E) → P → OnErr r P
 on_err (Ok done) p = tt
 on_err (Err e) p = p
+
+-- a front of a beginning
+pub front_of_first : (before after : Option (List ℕ)) (first second : List ℕ) → AppendsFront before after first → AppendsFront before after (first ++ second)
+front_of_first before after first second (n, one) = go (nat_le n (length first)) refl
+  where
+    go : (b : Bool) → b ≡ nat_le n (length first) → AppendsFront before after (first ++ second)
+    go true is =
+        let within : n ≤ length first = grind (arith, nat_tests, sym is) in
+        (n, subst (Appends before after) (sym (take-append-le n first second within)) one)
+    go false is =
+        let over : length first ≤ n = grind (arith, nat_tests, sym is) in
+        let same : take n first ≡ take (length first) (first ++ second) = take_all n first over ∙ sym (take-append-le (length first) first second (omega arith) ∙ take_all (length first) first (omega arith)) in
+        (length first, subst (Appends before after) same one)
+
+-- a front of what comes after a whole
+pub front_then : (before middle after : Option (List ℕ)) (first second : List ℕ) → Appends before middle first → AppendsFront middle after second → AppendsFront before after (first ++ second)
+front_then before middle after first second one (n, two) =
+    (length first + n, subst (Appends before after) (sym (take-append-add first second n)) (appends_then before middle after first (take n second) one two))

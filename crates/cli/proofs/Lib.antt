@@ -3,6 +3,7 @@ pub mod CutShort
 pub mod Emitted
 pub mod KnownFiles
 pub mod KnownOutput
+pub mod NamedRun
 pub mod Names
 pub mod OneMain
 pub mod OrderText

@@ -1,5 +1,5 @@
 -- A trace in a file, judged against the classes that files spell.
-use Rattle.std.specs.Prelude.{◌≡◌, ◌+◌, ◌++◌, ℕ, Bool, false, List, [], Option, Some, None, Err, codes, decimal, length, take}
+use Rattle.std.specs.Prelude.{◌≡◌, ◌+◌, ◌++◌, ℕ, Bool, List, Option, Some, None, Err, codes, decimal, length, take}
 use Rattle.std.specs.Borrow.{Bor}
 use Rattle.hierarchy.specs.declared.class.ClassId.{ClassId}
 use Rattle.hierarchy.specs.declared.edition.Edition.{Edition}
@@ -19,6 +19,7 @@ use Rattle.cli.specs.declared.fault.Fault.TheVariants as fault
 use Rattle.cli.specs.Files.{FileHolds, Files, IsLinkedFrom}
 use Rattle.cli.specs.ReadRefusals.{AreUnlinked}
 use Rattle.cli.specs.Running.{mains_in}
+use Rattle.cli.specs.Told.{Tells}
 
 -- the file's text is the trace of these events, of a program and so many threads
 abbrev pub TraceHolds : Option Files → List ℕ → LinkedProgram → ℕ → List Event → Type 0
@@ -68,7 +69,7 @@ verdict_line (IllegalAt n r) = codes "illegal at " ++ decimal n ++ codes ": " ++
 
 -- the line of the verdict alone, or further words after it where it is to be explained
 abbrev pub TellsVerdict : Verdict → Bool → List ℕ → Type 0
-TellsVerdict v explains text = (words : List ℕ) × (text ≡ verdict_line v ++ words) × (explains ≡ false → words ≡ [])
+TellsVerdict v explains text = Tells (verdict_line v) explains text
 
 -- 0 where it is legal, else 1
 abbrev pub status_by : Verdict → ℕ

@@ -1,5 +1,5 @@
 -- What there is at exit status 3: each stream holds a front of what it was to hold, and nothing follows the one that failed.
-use Rattle.std.specs.Prelude.{◌≡◌, ◌≢◌, ◌⊎◌, ℕ, List, [], Option, Some, None}
+use Rattle.std.specs.Prelude.{◌≡◌, ◌≢◌, ◌⊎◌, ◌++◌, ℕ, List, [], Option, Some, None}
 use Rattle.std.specs.Borrow.{Bor}
 use Rattle.std.specs.Io.KnownBytes.{Appends, Keeps}
 use Rattle.clap.specs.Words.{IsAmong, Text}
@@ -15,17 +15,16 @@ use Rattle.judge.specs.declared.verdict.Verdict.{Verdict}
 use Rattle.cli.specs.declared.fault.Fault.{Fault}
 use Rattle.cli.specs.declared.fault.Fault.TheVariants.{Io, Lines, Memory, Output}
 use Rattle.cli.specs.Checking.{IsJudged, TellsVerdict}
-use Rattle.command_line.specs.CommandLine.{CheckWords, NeedsWords, Request, RunWords, check, faults_in, needs, request_in, run, unfit}
+use Rattle.command_line.specs.CommandLine.{CheckWords, NeedsWords, Options, Request, check, explain, faults_in, needs, request_in, run, unfit}
 use Rattle.cli.specs.Editions.{edition_in}
+use Rattle.cli.specs.Explained.{explanation_of}
 use Rattle.cli.specs.FaultText.{fault_line}
-use Rattle.cli.specs.Files.{IsLinkedFrom, KeepsAllBut}
+use Rattle.cli.specs.Files.{Files, IsLinkedFrom, KeepsAllBut}
 use Rattle.cli.specs.Limits.{AreLimits}
 use Rattle.cli.specs.NeedsText.{needs_text}
-use Rattle.cli.specs.Orders.{order_in}
-use Rattle.cli.specs.Outcomes.{outcomes_text}
 use Rattle.cli.specs.Refusals.{IsFaultOf}
-use Rattle.cli.specs.Running.{IsRunOfNamed}
-use Rattle.cli.specs.Serving.{HasWritten, IsUntouched, Surroundings}
+use Rattle.cli.specs.NamedRun.{IsRunAsked}
+use Rattle.cli.specs.Serving.{HasWritten, IsUntouched, Surroundings, file_of, lines_of_run, trace_after}
 use Rattle.cli.specs.Sinks.{AppendsFront, AppendsShort}
 use Rattle.cli.specs.Status.{status_of}
 
@@ -42,31 +41,34 @@ pub data IsTextCut (failed : Fault) (before after : Option (List ℕ)) (text : L
 
 -- the trace file can't be written, or memory was refused to the trace
 pub data IsTraceFault (trace : Option Text) : Fault → Type 0 where
-  unwritten : {name : Bor (List ℕ)} → trace ≡ Some name.now → IsTraceFault trace (Io name)
+  unwritten : {name : Bor (List ℕ)} → file_of trace ≡ Some name.now → IsTraceFault trace (Io name)
   unmade : {name : Text} → trace ≡ Some name → IsTraceFault trace Memory
 
--- how far a run was reported: the output comes first, then the trace file, then the lines of the threads on standard error
-pub data IsReportCut (before after : Surroundings) (errors errors_after : Option (List ℕ)) (trace : Option Text) (program : LinkedProgram) (report : Report) : Fault → Type 0 where
-  in_output : AppendsFront before.output after.output report.output → KeepsAllBut None before.files after.files → Keeps errors errors_after →
-      IsReportCut before after errors errors_after trace program report Output
-  in_trace : {f : Fault} → Appends before.output after.output report.output → IsTraceFault trace f → Keeps errors errors_after →
-      IsReportCut before after errors errors_after trace program report f
-  in_lines : {f : Fault} → HasWritten before after trace program report → IsTextCut Lines errors errors_after (outcomes_text program report.outcomes) f →
-      IsReportCut before after errors errors_after trace program report f
+-- how far a trace was written to the output, or why it isn't written whole to its file
+pub data IsTraceCut (trace : Option Text) (files files_after : Option Files) (output output_after : Option (List ℕ)) (text : List ℕ) : Fault → Type 0 where
+  in_output_trace : AppendsFront output output_after text → KeepsAllBut None files files_after → IsTraceCut trace files files_after output output_after text Output
+  in_file : {f : Fault} → Keeps output output_after → IsTraceFault trace f → IsTraceCut trace files files_after output output_after text f
+
+-- how far a run was reported: the output comes first, then the trace, then the lines of the threads on standard error
+pub data IsReportCut (before after : Surroundings) (errors errors_after : Option (List ℕ)) (words : Options) (program : LinkedProgram) (report : Report) : Fault → Type 0 where
+  in_output : AppendsFront before.output after.output (report.output ++ trace_after words.trace program report) → KeepsAllBut None before.files after.files → Keeps errors errors_after →
+      IsReportCut before after errors errors_after words program report Output
+  in_trace : {f : Fault} → Appends before.output after.output report.output → IsTraceFault words.trace f → Keeps errors errors_after →
+      IsReportCut before after errors errors_after words program report f
+  in_lines : {f : Fault} → HasWritten before after words.trace program report → IsTextCut Lines errors errors_after (lines_of_run words program report) f →
+      IsReportCut before after errors errors_after words program report f
 
 -- the classes that the files spell were linked, in the edition that is said, the main classes were run, and the run was reported so far
-pub record IsRunCut (before after : Surroundings) (errors errors_after : Option (List ℕ)) (words : RunWords) (f : Fault) : Type 0 where
+pub record IsRunCut (before after : Surroundings) (errors errors_after : Option (List ℕ)) (words : Options) (f : Fault) : Type 0 where
   pub program : LinkedProgram
-  pub order : Option (List ℕ)
   pub limits : Limits
   pub edition : Edition
   pub report : Report
   pub edition_said : edition_in words.edition ≡ Some edition
   pub linked : IsLinkedFrom before.files words.files edition program
-  pub ordered : order_in words.mains words.order ≡ Some order
   pub said : AreLimits words.steps words.patience limits
-  pub ran : IsRunOfNamed words.mains order limits program report
-  pub cut : IsReportCut before after errors errors_after words.trace program report f
+  pub ran : IsRunAsked before.files words limits program report
+  pub cut : IsReportCut before after errors errors_after words program report f
 
 -- a text was written to the output so far, and nothing else
 pub record IsOutputCut (before after : Surroundings) (errors errors_after : Option (List ℕ)) (text : List ℕ) (f : Fault) : Type 0 where
@@ -95,12 +97,19 @@ pub record IsNeedsCut (before after : Surroundings) (errors errors_after : Optio
   pub linked : IsLinkedFrom before.files words.files edition program
   pub cut : IsOutputCut before after errors errors_after (needs_text program) f
 
+-- what is said of these codes was written so far
+pub record IsExplainCut (before after : Surroundings) (errors errors_after : Option (List ℕ)) (names : List Text) (f : Fault) : Type 0 where
+  pub text : List ℕ
+  pub said : explanation_of names ≡ Some text
+  pub cut : IsOutputCut before after errors errors_after text f
+
 -- what is asked for was done, and written so far
 abbrev pub IsCutIn : Surroundings → Surroundings → Option (List ℕ) → Option (List ℕ) → Request → Fault → Type 0
 IsCutIn before after errors errors_after (run words) f = IsRunCut before after errors errors_after words f
 IsCutIn before after errors errors_after (check words) f = IsCheckCut before after errors errors_after words f
 IsCutIn before after errors errors_after (needs words) f = IsNeedsCut before after errors errors_after words f
-IsCutIn before after errors errors_after unfit f = ⊥
+IsCutIn before after errors errors_after (explain names) f = IsExplainCut before after errors errors_after names f
+IsCutIn before after errors errors_after (unfit explains) f = ⊥
 
 -- what was written when this fault came up: nothing, or what is asked for so far
 abbrev pub IsStopped : Surroundings → Surroundings → Option (List ℕ) → Option (List ℕ) → Request → Fault → Type 0

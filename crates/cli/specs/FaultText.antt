@@ -8,7 +8,7 @@ use Rattle.jasmin_words.specs.Fault.{number_of}
 use Rattle.trace_reader.specs.declared.fault.TraceFault.{TraceFault}
 use Rattle.trace_reader.specs.Faults.{number_of as trace_number_of}
 use Rattle.cli.specs.declared.fault.Fault.{Fault}
-use Rattle.cli.specs.declared.fault.Fault.TheVariants.{Edition, Files, Io, Jasmin, Lines, Link, Mains, Memory, Order, Output, Patience, Steps, Threads, Trace, Words}
+use Rattle.cli.specs.declared.fault.Fault.TheVariants.{Code, Edition, Files, Io, Jasmin, Lines, Link, Mains, Memory, Order, Output, Patience, Steps, Threads, Trace, Words}
 
 -- the number in the code of a fault of linking
 abbrev pub link_number_of : LinkFaultKind → ℕ
@@ -50,6 +50,7 @@ fixed_line_of Steps = codes "cli: steps\n"
 fixed_line_of Patience = codes "cli: patience\n"
 fixed_line_of Edition = codes "cli: edition\n"
 fixed_line_of Mains = codes "cli: mains\n"
+fixed_line_of Code = codes "cli: code\n"
 fixed_line_of Threads = codes "threads\n"
 fixed_line_of Memory = codes "memory\n"
 fixed_line_of Output = codes "io: output\n"

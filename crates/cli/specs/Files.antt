@@ -18,6 +18,11 @@ KeepsAllBut but None after = ⊤
 KeepsAllBut but (Some files) None = ⊥
 KeepsAllBut but (Some files) (Some now) = (name : List ℕ) → but ≢ Some name → now name ≡ files name
 
+-- two names are of one file; where files are known, each name has a file of its own
+abbrev pub IsOneFile : Option Files → List ℕ → List ℕ → Type 0
+IsOneFile None one other = ⊤
+IsOneFile (Some files) one other = one ≡ other
+
 -- where files are known, there is one of that name, and P holds of its bytes
 abbrev pub FileHolds : Option Files → List ℕ → (List ℕ → Type 0) → Type 0
 FileHolds None name P = ⊤

@@ -2,10 +2,12 @@ pub mod Serving
 pub mod Status
 pub mod Running
 pub mod Files
+pub mod NamedRun
 pub mod NeedsText
 pub mod Limits
 pub mod Orders
 pub mod Editions
+pub mod Explained
 pub mod FaultText
 pub mod ReadRefusals
 pub mod Outcomes
@@ -13,3 +15,4 @@ pub mod Checking
 pub mod Refusals
 pub mod CutShort
 pub mod Sinks
+pub mod Told

@@ -2,9 +2,8 @@
 use Rattle.std.specs.Prelude.{◌≡◌, ℕ, zero, suc, Bool, true, false, ◌++◌, List, [], ◌∷◌, Option, Some, None, if◌then◌else◌, length, nat_eq, nat_lt, option_and_then}
 use Rattle.jasmin_text.specs.declared.class_text.ClassParts.{ClassParts}
 use Rattle.hierarchy.specs.declared.class.ClassId.{ClassId}
-use Rattle.hierarchy.specs.declared.edition.Edition.{Edition}
 use Rattle.hierarchy.specs.declared.fault.LinkFault.{LinkFault}
-use Rattle.hierarchy.specs.FirstFault.{IsFirstFault, LinksAs}
+use Rattle.hierarchy.specs.FirstFault.{IsFirstFault}
 use Rattle.hierarchy.specs.LinkedProgram.{LinkedProgram, class_named}
 use Rattle.bodies.specs.declared.report.Limits.{Limits}
 use Rattle.bodies.specs.declared.report.Report.{Report}
@@ -16,8 +15,7 @@ use Rattle.bodies.specs.Lending.{nothing_shared}
 use Rattle.bodies.specs.Runs.{IsRunOf}
 use Rattle.replayer.specs.OrderedRun.{IsOrderedRunOf}
 use Rattle.cli.specs.declared.fault.Fault.{Fault}
-use Rattle.cli.specs.declared.fault.Fault.TheVariants.{Link, Mains, Memory, Order, Threads}
-use Rattle.cli.specs.Orders.{is_of_threads}
+use Rattle.cli.specs.declared.fault.Fault.TheVariants.{Link, Memory}
 
 -- why class texts aren't linked: their first fault, or being out of memory
 pub data IsLinkRefusal (texts : List ClassParts) : Fault → Type 0 where
@@ -84,15 +82,3 @@ pub record IsRunOfNamed (mains : Option (List ℕ)) (order : Option (List ℕ)) 
   pub classes : List ClassId
   pub named : mains_in p mains ≡ Some classes
   pub run : IsRunOfMains p classes order limits r
-
--- why a program isn't run: the first fault, in this order, or being out of memory or of threads
-pub data IsRunRefusal (p : LinkedProgram) (mains : Option (List ℕ)) (order : Option (List ℕ)) : Fault → Type 0 where
-  unnamed : mains_in p mains ≡ None → IsRunRefusal p mains order Mains
-  disordered : {classes : List ClassId} → mains_in p mains ≡ Some classes → is_of_threads (length classes) order ≡ false → IsRunRefusal p mains order Order
-  no_thread : {classes : List ClassId} → mains_in p mains ≡ Some classes → order ≡ None → IsRunRefusal p mains order Threads
-  no_memory : IsRunRefusal p mains order Memory
-
--- why class texts, in an edition, a text of `--mains` and an order aren't run: the first fault, in this order, or being out of memory or of threads
-pub data IsRefusal (texts : List ClassParts) (edition : Edition) (mains : Option (List ℕ)) (order : Option (List ℕ)) : Fault → Type 0 where
-  unlinked : {f : Fault} → IsLinkRefusal texts f → IsRefusal texts edition mains order f
-  not_run : {p : LinkedProgram} {f : Fault} → LinksAs edition texts p → IsRunRefusal p mains order f → IsRefusal texts edition mains order f

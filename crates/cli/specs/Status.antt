@@ -1,7 +1,7 @@
 -- Exit statuses.
 use Rattle.std.specs.Prelude.{◌≤◌, ℕ}
 use Rattle.cli.specs.declared.fault.Fault.{Fault}
-use Rattle.cli.specs.declared.fault.Fault.TheVariants.{Edition, Files, Io, Jasmin, Lines, Link, Mains, Memory, Order, Output, Patience, Steps, Threads, Trace, Words}
+use Rattle.cli.specs.declared.fault.Fault.TheVariants.{Code, Edition, Files, Io, Jasmin, Lines, Link, Mains, Memory, Order, Output, Patience, Steps, Threads, Trace, Words}
 
 -- 3 for what the machine refused, 2 for what the user can mend
 abbrev pub status_of : Fault → ℕ
@@ -16,6 +16,7 @@ status_of Steps = 2
 status_of Patience = 2
 status_of Edition = 2
 status_of Mains = 2
+status_of Code = 2
 status_of Threads = 3
 status_of Memory = 3
 status_of Output = 3

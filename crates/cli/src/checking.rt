@@ -9,15 +9,15 @@ ghost use Rattle.command_line.specs.CommandLine.{text_of};
 ghost use Rattle.cli.specs.Files.{KeepsAllBut};
 
 use crate::fault::Fault;
-use crate::files::{Named, NamedFault};
+use crate::files::Named;
 use crate::running::{link_files, mains_of};
+use crate::trace_files::read_events;
 use hierarchy::{ClassId, Edition, Program};
 use init_core::Event;
 use jasmin_words::integer::push_decimal;
 use judge::{Rule, Verdict, check, explain};
 use sequence::Writer;
 use std::alloc::{AllocError, Global};
-use trace_reader::{MOST_BYTES, TraceFaultKind, read_trace};
 
 /// A trace of a program, and what it was judged to be.
 pub struct Judged {
@@ -39,33 +39,6 @@ impl Drop for Judged {
             events: _,
             verdict: _,
         } = self;
-    }
-}
-
-/// The events of the trace in a file, of so many threads.
-fn read_events<'a, N: Named>(
-    alloc: Global,
-    named: &mut N,
-    program: &Program,
-    threads: usize,
-    file: &'a str,
-) -> Result<Vec<Event>, Fault<'a>>
-    requires { threads ≤ 16 }
-    ensures traced { IfOk result (λ events. TraceHolds (N.held named.old) file.now program.now threads events.items) }
-    ensures refused { IfErr result (IsTraceRefusal (N.held named.old) file.now program.now threads) }
-    ensures files { KeepsAllBut None (N.held named.old) (N.held named.new) }
-{
-    let bytes = match named.read(alloc, file, MOST_BYTES + 1) {
-        Ok(bytes) => bytes,
-        Err(NamedFault::Io) => return Err(Fault::Io(file)),
-        Err(NamedFault::Memory) => return Err(Fault::Memory),
-    };
-    match read_trace(alloc, program, threads, &bytes) {
-        Ok(events) => Ok(events),
-        Err(fault) => match fault.kind {
-            TraceFaultKind::OutOfMemory => Err(Fault::Memory),
-            _ => Err(Fault::Trace { file, fault }),
-        },
     }
 }
 

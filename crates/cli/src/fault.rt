@@ -19,8 +19,8 @@ use trace_reader::TraceFault;
 /// Why the program stops, once its command line has been read.
 #[derive(Debug, Error)]
 pub enum Fault<'a> {
-    /// An option with a subcommand that doesn't take it.
-    #[error("an option with a subcommand that doesn't take it")]
+    /// Options that don't go together or with their subcommand, or a trace that would replace a file that is read.
+    #[error("options that don't go together, or a trace that would replace a file that is read")]
     Words,
     /// More than 256 files, or one over 1 MiB.
     #[error("more than 256 files, or one over 1 MiB")]
@@ -60,6 +60,9 @@ pub enum Fault<'a> {
     /// A main class is unknown, there is none, or more than 16 are named.
     #[error("no main class, an unknown one, or more than 16")]
     Mains,
+    /// A word that is to be explained is no code of a fault.
+    #[error("no code of a fault")]
+    Code,
     /// A thread of the machine can't be started.
     #[error("a thread of the machine can't be started")]
     Threads,
@@ -78,7 +81,7 @@ impl Drop for Fault<'_> {
     fn drop(self) {
         match self {
             Fault::Words | Fault::Files | Fault::Order | Fault::Steps | Fault::Patience => {}
-            Fault::Edition => {}
+            Fault::Edition | Fault::Code => {}
             Fault::Io(_) => {}
             Fault::Jasmin { file: _, fault: _ } => {}
             Fault::Trace { file: _, fault: _ } => {}
@@ -112,7 +115,7 @@ impl Fault<'_> {
         match self {
             Fault::Words | Fault::Files | Fault::Jasmin { .. } | Fault::Trace { .. } => 2,
             Fault::Order | Fault::Steps | Fault::Patience | Fault::Edition => 2,
-            Fault::Link(_) | Fault::Mains => 2,
+            Fault::Link(_) | Fault::Mains | Fault::Code => 2,
             Fault::Io(_) | Fault::Threads | Fault::Memory | Fault::Output | Fault::Lines => 3,
         }
     }
@@ -129,6 +132,7 @@ impl Fault<'_> {
             Fault::Patience => "cli: patience\n",
             Fault::Edition => "cli: edition\n",
             Fault::Mains => "cli: mains\n",
+            Fault::Code => "cli: code\n",
             Fault::Threads => "threads\n",
             Fault::Memory => "memory\n",
             Fault::Output => "io: output\n",

@@ -1,8 +1,9 @@
 //! Files by name.
 
 ghost use Rattle.std.specs.Prelude.{◌≡◌, ◌≤◌, ℕ, List, Option, Some, None, vec_len, take, IfErr, IfOk, OnOk};
+ghost use Rattle.std.specs.Bool.{OnTrue};
 ghost use Rattle.clap.specs.Walk.{texts as texts_of};
-ghost use Rattle.cli.specs.Files.{AreClassesOf, FileHolds, KeepsAllBut, SpellsClass};
+ghost use Rattle.cli.specs.Files.{AreClassesOf, FileHolds, IsOneFile, KeepsAllBut, SpellsClass};
 ghost use Rattle.cli.specs.ReadRefusals.{AreRefused, IsReadRefusal};
 
 use crate::fault::Fault;
@@ -29,7 +30,7 @@ pub enum NamedFault {
     Memory,
 }
 
-/// Something that reads and writes files by name.
+/// Something that reads and writes files by name. A file named `-` that is read is standard input.
 pub trait Named {
     // What the files hold, by their names, where that is known.
     ghost held: { Self → Option (List ℕ → Option (List ℕ)) } = { λ _. None };
@@ -40,7 +41,22 @@ pub trait Named {
         ensures bytes { IfOk result (λ bytes. FileHolds (held self.old) name.now (λ all. bytes.items ≡ take most all)) }
         ensures files { KeepsAllBut None (held self.old) (held self.new) };
 
-    /// Makes a file of these bytes, in place of what was there. At an `Err`, the file's fault or being out of memory,
+    /// Whether a file that is to be written under the one name is known to be the one that is read under the other. `false` promises nothing.
+    fn is_same(&self, one: &str, other: &str) -> bool
+        ensures { OnTrue result (IsOneFile (held self.now) one.now other.now) }
+    {
+        let _ = one;
+        let _ = other;
+        false
+    }
+
+    /// What is known of the program itself, a few lines: of which commit it was built, and with which toolchain it was proved. Empty where
+    /// nothing is known.
+    fn about(&self, alloc: Global) -> Vec<u8> {
+        Vec::new(alloc)
+    }
+
+    /// Makes a file of these bytes, in place of what was there (to a stream of the machine they are added). At an `Err`, the file's fault or being out of memory,
     /// it may hold anything.
     fn write(&mut self, name: &str, bytes: &[u8]) -> Result<(), NamedFault>
         ensures bytes { OnOk result (FileHolds (held self.new) name.now (λ all. all ≡ bytes.now)) }

@@ -7,6 +7,7 @@
 
 pub mod checking;
 pub mod editions;
+mod explaining;
 pub mod fault;
 pub mod files;
 pub mod limits;
@@ -19,6 +20,7 @@ pub mod running;
 pub mod serving;
 pub mod sink;
 pub mod stops;
+mod trace_files;
 
 pub use checking::{Judged, check_named, status_of_verdict, write_judged};
 pub use fault::Fault;
@@ -26,7 +28,7 @@ pub use files::{Named, NamedFault};
 pub use machine::MachineFiles;
 pub use needed::write_needs;
 pub use outcomes::{status_of_outcomes, write_outcomes};
-pub use running::{ProgramRun, run_texts};
+pub use running::{ProgramRun, run_named};
 pub use serving::serve;
 pub use sink::{EmitFault, Printed, Sink, emit};
 pub use stops::Stops;

@@ -13,16 +13,19 @@ ghost use Rattle.bodies.specs.Lending.{nothing_shared};
 ghost use Rattle.bodies.specs.Runs.{AreMains, IsRunOf};
 ghost use Rattle.replayer.specs.OrderedRun.{IsOrderedRunOf};
 ghost use Rattle.cli.specs.declared.fault.Fault.TheVariants.{Mains, Memory, Threads};
-ghost use Rattle.command_line.specs.CommandLine.{text_of};
+ghost use Rattle.command_line.specs.CommandLine.{run_words_of, text_of};
 ghost use Rattle.cli.specs.Files.{IsLinkedFrom, KeepsAllBut};
-ghost use Rattle.cli.specs.Orders.{is_of_threads, numbers_of};
+ghost use Rattle.cli.specs.Orders.{is_of_threads, numbers_of, order_in};
 ghost use Rattle.cli.specs.ReadRefusals.{AreUnlinked};
-ghost use Rattle.cli.specs.Running.{IsLinkRefusal, IsOrderedRunBy, IsRefusal, IsRunBy, IsRunOfMains, IsRunOfNamed, IsRunRefusal, main_named as class_of_name, mains_in, mains_named as classes_of_names, starts_below, starts_of};
+ghost use Rattle.cli.specs.NamedRun.{IsFilesRefusal, IsRunAsked, IsRunRefusal};
+ghost use Rattle.cli.specs.Running.{IsLinkRefusal, IsOrderedRunBy, IsRunBy, IsRunOfMains, main_named as class_of_name, mains_in, mains_named as classes_of_names, starts_below, starts_of};
 
 use crate::fault::Fault;
 use crate::files::{Named, read_texts};
 use crate::orders::fits;
+use crate::trace_files::order_for;
 use bodies::{Limits, Report};
+use command_line::Run;
 use guest_threads::{NoGate, RunFault, run_threads};
 use hierarchy::{ClassId, Edition, LinkFaultKind, Program, link_as};
 use interpreter::{Interpreter, Objects, SharedInterpreter, SharedObjects, TurnInterpreter};
@@ -305,22 +308,30 @@ fn run_mains<'a, R: Threads + Wait + Sync>(
     }
 }
 
-/// Runs the main classes that the text of `--mains` names, in this order, where there is one.
-fn run_program<'a, R: Threads + Wait + Sync>(
+/// Runs the main classes that the text of `--mains` names, in the order that the words say, where they say one; `order` is that of `--order`.
+fn run_program<'a, R: Threads + Wait + Sync, N: Named>(
     rt: &R,
     alloc: Global,
     program: &Program,
-    mains: Option<&str>,
-    order: Option<&[usize]>,
+    words: &Run<'a>,
+    order: Option<Vec<usize>>,
     limits: Limits,
+    named: &mut N,
 ) -> Result<Report, Fault<'a>>
-    ensures ran { IfOk result (IsRunOfNamed (text_of mains.entry) (numbers_of order.entry) limits program.now) }
-    ensures refused { IfErr result (IsRunRefusal program.now (text_of mains.entry) (numbers_of order.entry)) }
+    requires said { order_in (text_of words.now.mains) (text_of words.now.order) ≡ Some (option_map (λ all. all.items) order) }
+    ensures ran { IfOk result (IsRunAsked (N.held named.old) (run_words_of words.now) limits program.now) }
+    ensures refused { IfErr result (IsRunRefusal (N.held named.old) program.now (run_words_of words.now)) }
+    ensures files { KeepsAllBut None (N.held named.old) (N.held named.new) }
 {
-    let mains = match mains_of(alloc, program, mains) {
+    let mains = match mains_of(alloc, program, words.mains) {
         Ok(mains) => mains,
         Err(fault) => return Err(fault),
     };
+    let order = match order_for(alloc, program, &mains, words, order, named) {
+        Ok(order) => order,
+        Err(fault) => return Err(fault),
+    };
+    let order = order.as_deref();
     if !fits(order, mains.len()) {
         return Err(Fault::Order);
     }
@@ -336,35 +347,42 @@ pub struct ProgramRun {
     pub report: Report,
 }
 
-/// Links the classes in this edition and runs the main classes that the text of `--mains` names, 1 to 16, separated by commas:
-/// in this order, or where there is none, one on the calling thread, several each on a thread of the machine.
+/// Links the classes of the files in this edition and runs the main classes that the text of `--mains` names, 1 to 16, separated by commas:
+/// in the order that `--order` says, which is `order`, or in that of the events of the trace that `--replay` names; or where there is none,
+/// one on the calling thread, several each on a thread of the machine.
 ///
-/// The program is what linking makes of the class texts. The report is that of [`run_ordered`] where there is an order or one class
-/// is named, and else that of [`run_threads`]; the code may begin so many instructions on each thread. Without an order it may
+/// The program is what linking makes of the classes that the files spell. The report is that of [`run_ordered`] where there is an order or
+/// one class is named, and else that of [`run_threads`]; the code may begin so many instructions on each thread. Without an order it may
 /// wait, for ever where the limits know no patience; the patience plays no part in an order.
 ///
 /// # Errors
 ///
-/// The first of: the first fault of linking (`Fault::Link`); no main class, one that no file has, or more than 16
-/// (`Fault::Mains`); an order with a number that isn't below that of the main classes (`Fault::Order`); a thread that can't be
-/// started (`Fault::Threads`). Being out of memory (`Fault::Memory`) may come before any of them.
-pub fn run_texts<'a, R: Threads + Wait + Sync>(
+/// The first of: more than 256 files, or the first file's fault (`Fault::Files`, `Fault::Io`, `Fault::Jasmin`); the first fault of
+/// linking (`Fault::Link`); no main class, one that no file has, or more than 16 (`Fault::Mains`); the trace to replay can't be read
+/// (`Fault::Io`) or isn't a trace of these classes and threads (`Fault::Trace`); an order with a number that isn't below that of the main
+/// classes (`Fault::Order`); a thread that can't be started (`Fault::Threads`). Being out of memory (`Fault::Memory`) may come before any
+/// of them.
+pub fn run_named<'a, R: Threads + Wait + Sync, N: Named>(
     rt: &R,
     alloc: Global,
-    texts: Vec<ClassText>,
-    edition: Edition,
-    mains: Option<&str>,
-    order: Option<&[usize]>,
+    words: &Run<'a>,
+    order: Option<Vec<usize>>,
     limits: Limits,
+    edition: Edition,
+    named: &mut N,
 ) -> Result<ProgramRun, Fault<'a>>
-    ensures linked { IfOk result (λ ran. LinksAs edition texts.items ran.program) }
-    ensures ran { IfOk result (λ ran. IsRunOfNamed (text_of mains.entry) (numbers_of order.entry) limits ran.program ran.report) }
-    ensures refused { IfErr result (IsRefusal texts.items edition (text_of mains.entry) (numbers_of order.entry)) }
+    requires said { order_in (text_of words.now.mains) (text_of words.now.order) ≡ Some (option_map (λ all. all.items) order) }
+    ensures linked { IfOk result (λ ran. IsLinkedFrom (N.held named.old) (run_words_of words.now).files edition ran.program) }
+    ensures ran { IfOk result (λ ran. IsRunAsked (N.held named.old) (run_words_of words.now) limits ran.program ran.report) }
+    ensures refused { IfErr result (IsFilesRefusal (N.held named.old) (run_words_of words.now) edition) }
+    ensures files { KeepsAllBut None (N.held named.old) (N.held named.new) }
 {
-    let program = link_texts(alloc, texts, edition)?;
-    let report = match run_program(rt, alloc, &program, mains, order, limits) {
-        Ok(report) => report,
+    let program = match link_files(alloc, &words.files, edition, named) {
+        Ok(program) => program,
         Err(fault) => return Err(fault),
     };
-    Ok(ProgramRun { program, report })
+    match run_program(rt, alloc, &program, words, order, limits, named) {
+        Ok(report) => Ok(ProgramRun { program, report }),
+        Err(fault) => Err(fault),
+    }
 }

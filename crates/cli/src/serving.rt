@@ -1,34 +1,38 @@
 //! The program's body.
 
-ghost use Rattle.std.specs.Prelude.{◌≡◌, ◌≢◌, ◌≤◌, ◌⊎◌, ℕ, List, Option, None, Some, IfErr, IfOk, OnOk};
+ghost use Rattle.std.specs.Prelude.{◌≡◌, ◌≢◌, ◌≤◌, ◌⊎◌, ℕ, List, [], Option, None, Some, IfErr, IfOk, OnOk, false};
+ghost use Rattle.std.specs.Option.{option_map};
 ghost use Rattle.std.specs.Io.KnownBytes.{Appends, Keeps};
+ghost use Rattle.std.specs.Bool.{OnTrue};
 ghost use Rattle.clap.specs.Walk.{texts};
 ghost use Rattle.clap.specs.Words.{kind_of};
 ghost use Rattle.clap.specs.declared.error.kind.ErrorKind.TheVariants.{DisplayHelp, DisplayVersion, OutOfMemory};
 ghost use Rattle.cli.specs.Checking.{TellsVerdict};
-ghost use Rattle.command_line.specs.CommandLine.{check as check_request, check_words_of, needs as needs_request, needs_words_of, request_in, request_of, run as run_request, run_words_of, text_of};
+ghost use Rattle.command_line.specs.CommandLine.{check as check_request, check_words_of, explains_in, needs as needs_request, needs_words_of, request_in, request_of, run as run_request, run_words_of, text_of};
 ghost use Rattle.cli.specs.CutShort.{AreWordsCut, IsClapCut, IsCutShort, IsLineCut, IsStopped, IsTextCut};
 ghost use Rattle.cli.specs.Editions.{edition_in};
 ghost use Rattle.cli.specs.FaultText.{fault_line};
-ghost use Rattle.cli.specs.Files.{IsLinkedFrom, KeepsAllBut};
+ghost use Rattle.cli.specs.Files.{KeepsAllBut};
 ghost use Rattle.cli.specs.Limits.{AreLimits};
+ghost use Rattle.cli.specs.NamedRun.{IsAmongFiles};
 ghost use Rattle.cli.specs.NeedsText.{needs_text};
-ghost use Rattle.cli.specs.Orders.{numbers_of, order_in};
-ghost use Rattle.cli.specs.Refusals.{AreWordsRefused, IsCheckFault, IsFaultOf, IsFilesRefusal, IsNeedsFault, IsRefusedBy, IsRunFault};
-ghost use Rattle.cli.specs.Running.{IsRunOfNamed};
-ghost use Rattle.cli.specs.Serving.{HasRun, HasToldNeeds, HasToldVerdict, IsDone, IsServed, IsToldVerdict, IsUntouched, around, trace_in};
+ghost use Rattle.cli.specs.Orders.{order_in};
+ghost use Rattle.cli.specs.Refusals.{AreWordsRefused, IsCheckFault, IsFaultOf, IsNeedsFault, IsRefusedBy, IsRunFault};
+ghost use Rattle.cli.specs.Serving.{HasRun, HasToldNeeds, HasToldVerdict, IsDone, IsServed, IsToldVerdict, IsUntouched, around, file_of, trace_in};
 ghost use Rattle.cli.specs.Status.{IsStatus, status_of};
-ghost use Rattle.cli.specs.declared.fault.Fault.TheVariants.{Output};
+ghost use Rattle.cli.specs.declared.fault.Fault.TheVariants.{Output, Words as WordsFault};
 
 use crate::checking::{Judged, check_named, status_of_verdict, write_judged};
 use crate::editions::edition_of;
+use crate::explaining::{tell_codes, words_for};
 use crate::fault::Fault;
-use crate::files::{Named, read_texts};
+use crate::files::Named;
 use crate::limits::limits_of;
 use crate::needed::write_needs;
 use crate::orders::order_of;
 use crate::reporting::{report_run, write_output};
-use crate::running::{ProgramRun, link_files, run_texts};
+use crate::running::{link_files, run_named};
+use crate::sink::emit_to;
 use bodies::Limits;
 use clap::error::ErrorKind;
 use command_line::{Asked, Check, Needs, Run, parse};
@@ -39,28 +43,31 @@ use std::io;
 use std::sync::Wait;
 use std::thread::Threads;
 
-/// Reads and links the classes of the files in this edition, and runs the main classes, in this order where there is one.
-fn run_files<'a, R: Threads + Wait + Sync, N: Named>(
-    rt: &R,
-    alloc: Global,
-    files: &[&'a str],
-    edition: Edition,
-    mains: Option<&str>,
-    order: Option<&[usize]>,
-    limits: Limits,
-    named: &mut N,
-) -> Result<ProgramRun, Fault<'a>>
-    ensures files { KeepsAllBut None (N.held named.old) (N.held named.new) }
-    ensures linked { IfOk result (λ ran. IsLinkedFrom (N.held named.old) (texts files.now) edition ran.program) }
-    ensures ran { IfOk result (λ ran. IsRunOfNamed (text_of mains.entry) (numbers_of order.entry) limits ran.program ran.report) }
-    ensures refused { IfErr result (IsFilesRefusal (N.held named.old) (texts files.now) edition (text_of mains.entry) (numbers_of order.entry)) }
+/// Whether the trace is one of these files.
+fn is_among<N: Named>(trace: &str, files: &[&str], named: &N) -> bool
+    ensures { OnTrue result (IsAmongFiles (N.held named.now) trace.now (texts files.now)) }
 {
-    match read_texts(alloc, named, files) {
-        Ok(texts) => {
-            let ran = run_texts(rt, alloc, texts, edition, mains, order, limits);
-            ran
+    for file in files {
+        if named.is_same(trace, file) {
+            return true;
         }
-        Err(fault) => Err(fault),
+    }
+    false
+}
+
+/// Whether the trace is a file that is read, under another name.
+fn replaces_input<N: Named>(words: &Run<'_>, named: &N) -> bool
+    ensures { OnTrue result (IsRunFault (N.held named.now) (run_words_of words.now) WordsFault) }
+{
+    let Some(trace) = words.trace else {
+        return false;
+    };
+    if is_among(trace, &words.files, named) {
+        return true;
+    }
+    match words.replay {
+        Some(replay) => named.is_same(trace, replay),
+        None => false,
     }
 }
 
@@ -70,28 +77,27 @@ fn run_within<'a, R: Threads + Wait + Sync, N: Named, O: io::Write, E: io::Write
     rt: &R,
     alloc: Global,
     words: &Run<'a>,
-    order: Option<&[usize]>,
+    order: Option<Vec<usize>>,
     limits: Limits,
     edition: Edition,
     named: &mut N,
     out: &mut O,
     err: &mut E,
 ) -> Result<u8, Fault<'a>>
-    requires order { order_in (text_of words.now.mains) (text_of words.now.order) ≡ Some (numbers_of order) }
+    requires order { order_in (text_of words.now.mains) (text_of words.now.order) ≡ Some (option_map (λ all. all.items) order) }
     requires said { AreLimits (text_of words.now.steps) (text_of words.now.patience) limits }
     requires edition_said { edition_in (text_of words.now.edition) ≡ Some edition }
-    ensures files { KeepsAllBut (text_of words.now.trace) (N.held named.old) (N.held named.new) }
+    ensures files { KeepsAllBut (file_of (text_of words.now.trace)) (N.held named.old) (N.held named.new) }
     ensures ran { IfOk result (HasRun (around (N.held named.old) (O.contents out.old)) (around (N.held named.new) (O.contents out.new))
         (E.contents err.old) (E.contents err.new) (run_words_of words.now)) }
     ensures stopped { IfErr result (IsStopped (around (N.held named.old) (O.contents out.old)) (around (N.held named.new) (O.contents out.new))
         (E.contents err.old) (E.contents err.new) (run_request (run_words_of words.now))) }
     ensures untouched { IfErr result (λ f. status_of f ≡ 2 → IsUntouched (around (N.held named.old) (O.contents out.old)) (around (N.held named.new) (O.contents out.new))) }
-    ensures refused { IfErr result (λ f. status_of f ≡ 2 → IsFilesRefusal (N.held named.old) (run_words_of words.now).files edition (text_of words.now.mains) (numbers_of order.entry) f) }
+    ensures refused { IfErr result (λ f. status_of f ≡ 2 → IsRunFault (N.held named.old) (run_words_of words.now) f) }
     ensures silent { IfErr result (λ f. status_of f ≡ 2 → Keeps (E.contents err.old) (E.contents err.new)) }
 {
-    let files = &words.files;
-    match run_files(rt, alloc, files, edition, words.mains, order, limits, named) {
-        Ok(ran) => report_run(alloc, &ran, words.trace, named, out, err),
+    match run_named(rt, alloc, words, order, limits, edition, named) {
+        Ok(ran) => report_run(alloc, &ran, words, named, out, err),
         Err(fault) => Err(fault),
     }
 }
@@ -105,7 +111,7 @@ fn run<'a, R: Threads + Wait + Sync, N: Named, O: io::Write, E: io::Write>(
     out: &mut O,
     err: &mut E,
 ) -> Result<u8, Fault<'a>>
-    ensures files { KeepsAllBut (text_of words.now.trace) (N.held named.old) (N.held named.new) }
+    ensures files { KeepsAllBut (file_of (text_of words.now.trace)) (N.held named.old) (N.held named.new) }
     ensures ran { IfOk result (HasRun (around (N.held named.old) (O.contents out.old)) (around (N.held named.new) (O.contents out.new))
         (E.contents err.old) (E.contents err.new) (run_words_of words.now)) }
     ensures stopped { IfErr result (IsStopped (around (N.held named.old) (O.contents out.old)) (around (N.held named.new) (O.contents out.new))
@@ -114,6 +120,9 @@ fn run<'a, R: Threads + Wait + Sync, N: Named, O: io::Write, E: io::Write>(
     ensures refused { IfErr result (λ f. status_of f ≡ 2 → IsRunFault (N.held named.old) (run_words_of words.now) f) }
     ensures silent { IfErr result (λ f. status_of f ≡ 2 → Keeps (E.contents err.old) (E.contents err.new)) }
 {
+    if replaces_input(words, named) {
+        return Err(Fault::Words);
+    }
     let order = match order_of(alloc, words.mains, words.order) {
         Ok(order) => order,
         Err(fault) => return Err(fault),
@@ -126,7 +135,6 @@ fn run<'a, R: Threads + Wait + Sync, N: Named, O: io::Write, E: io::Write>(
         Ok(edition) => edition,
         Err(fault) => return Err(fault),
     };
-    let order = order.as_deref();
     run_within(rt, alloc, words, order, limits, edition, named, out, err)
 }
 
@@ -243,12 +251,40 @@ fn answer<'a, R: Threads + Wait + Sync, N: Named, O: io::Write, E: io::Write>(
             tell_needs(alloc, words, named, out)?;
             Ok(0)
         }
-        Asked::Unfit => Err(Fault::Words),
+        Asked::Explain(names) => {
+            tell_codes(alloc, names, out)?;
+            Ok(0)
+        }
+        Asked::Unfit { .. } => Err(Fault::Words),
     }
 }
 
-/// Tells why the words ask for nothing that can be done, or shows the help or the version that they ask for.
-fn tell_words<O: io::Write, E: io::Write>(error: &clap::Error, out: &mut O, err: &mut E) -> u8
+/// Whether what `clap` answers was shown, with what is known of the program after its version.
+fn is_shown<N: Named, O: io::Write>(
+    alloc: Global,
+    error: &clap::Error,
+    named: &N,
+    out: &mut O,
+) -> bool {
+    if write!(out, "{error}").is_err() {
+        return false;
+    }
+    if let ErrorKind::DisplayVersion = error.kind() {
+        if emit_to(out, &named.about(alloc)).is_err() {
+            return false;
+        }
+    }
+    out.flush().is_ok()
+}
+
+/// Reports what `clap` answers to the words: what is wrong with them, or the help or the version, and answers the exit status.
+fn tell_words<N: Named, O: io::Write, E: io::Write>(
+    alloc: Global,
+    error: &clap::Error,
+    named: &N,
+    out: &mut O,
+    err: &mut E,
+) -> u8
     ensures status { IsStatus result }
     ensures shown { result ≤ 1 → (result ≡ 0) × ((kind_of error.now ≡ DisplayHelp) ⊎ (kind_of error.now ≡ DisplayVersion)) }
     ensures quiet { result ≤ 1 → Keeps (E.contents err.old) (E.contents err.new) }
@@ -262,7 +298,7 @@ fn tell_words<O: io::Write, E: io::Write>(error: &clap::Error, out: &mut O, err:
             3
         }
         ErrorKind::DisplayHelp | ErrorKind::DisplayVersion => {
-            if write!(out, "{error}").is_err() || out.flush().is_err() {
+            if !is_shown(alloc, error, named, out) {
                 let _ = Fault::Output.tell(err);
                 return 3;
             }
@@ -289,6 +325,21 @@ fn tell_fault<E: io::Write>(fault: &Fault<'_>, err: &mut E) -> u8
     fault.status()
 }
 
+/// Adds the words that explain a fault, where that is asked for, as far as they can be written.
+fn explain_fault<N: Named, E: io::Write>(
+    alloc: Global,
+    fault: &Fault<'_>,
+    asked: &Asked<'_>,
+    named: &mut N,
+    err: &mut E,
+)
+    ensures words { (words : List ℕ) × Appends (E.contents err.old) (E.contents err.new) words × (explains_in (request_of asked.now) ≡ false → words ≡ []) }
+    ensures files { KeepsAllBut None (N.held named.old) (N.held named.new) }
+{
+    let words = words_for(alloc, fault, asked, named);
+    let _ = emit_to(err, &words);
+}
+
 /// Does what the words ask for, or reports why it isn't done, and answers the exit status.
 fn answer_or_tell<R: Threads + Wait + Sync, N: Named, O: io::Write, E: io::Write>(
     rt: &R,
@@ -301,7 +352,7 @@ fn answer_or_tell<R: Threads + Wait + Sync, N: Named, O: io::Write, E: io::Write
     ensures status { IsStatus result }
     ensures served { result ≤ 1 → IsServed (around (N.held named.old) (O.contents out.old)) (around (N.held named.new) (O.contents out.new))
         (E.contents err.old) (E.contents err.new) (request_of asked.now) result }
-    ensures quiet { result ≡ 0 → Keeps (E.contents err.old) (E.contents err.new) }
+    ensures quiet { result ≡ 0 → explains_in (request_of asked.now) ≡ false → Keeps (E.contents err.old) (E.contents err.new) }
     ensures untouched { result ≡ 2 → IsUntouched (around (N.held named.old) (O.contents out.old)) (around (N.held named.new) (O.contents out.new)) }
     ensures refused { result ≡ 2 → IsRefusedBy (N.held named.old) (E.contents err.old) (E.contents err.new) (request_of asked.now) }
     ensures cut { result ≡ 3 → IsCutShort (around (N.held named.old) (O.contents out.old)) (around (N.held named.new) (O.contents out.new))
@@ -310,7 +361,14 @@ fn answer_or_tell<R: Threads + Wait + Sync, N: Named, O: io::Write, E: io::Write
 {
     match answer(rt, alloc, asked, named, out, err) {
         Ok(status) => status,
-        Err(fault) => tell_fault(&fault, err),
+        Err(fault) => {
+            let status = tell_fault(&fault, err);
+            if status != 2 {
+                return status;
+            }
+            explain_fault(alloc, &fault, asked, named, err);
+            status
+        }
     }
 }
 
@@ -318,14 +376,17 @@ fn answer_or_tell<R: Threads + Wait + Sync, N: Named, O: io::Write, E: io::Write
 /// program's name.
 ///
 /// Files are read and written by name through `named`, the output goes to `out`, and to `err` what went wrong, in one line
-/// or in `clap`'s words, and how threads ended that didn't end normally, a line each. The status is 0 where all
+/// or in `clap`'s words, with further words after the line where `--explain` is given, and how threads ended that didn't end normally, a
+/// line each. The status is 0 where all
 /// threads ended normally, or the trace is legal, 1 where one didn't, or the trace is illegal, 2 where the words, the files or the
 /// classes are at fault, and 3 where memory, a thread, a file, the output or a line to `err` was refused; nothing further is written then. Without
-/// `--order` it may wait, for ever where `--patience` is 0.
+/// `--order` and `--replay` it may wait, for ever where `--patience` is 0.
 ///
-/// At status 0 and 1 what the words ask for is done, or, at 0, they ask for help or the version; at 0 nothing is written to `err`.
+/// At status 0 and 1 what the words ask for is done, or, at 0, they ask for help or the version; at 0 nothing is written to `err`, unless
+/// `--explain` is given and the trace has more than is read of one.
 /// At status 2 no file is written, and nothing to `out`; where `clap` finds no fault in the words, what is added to `err` is the line of the
-/// first fault of what they ask for, and that fault is one of status 2. At status 3 `out` and `err` hold fronts of what they were to hold
+/// first fault of what they ask for, and that fault is one of status 2; after it come further words only if `--explain` is given. At status 3
+/// `out` and `err` hold fronts of what they were to hold
 /// (of texts of `clap`'s own, nothing is said): of the output, and of the lines of the threads or the line of the fault; and what was to follow
 /// the one that failed wasn't begun, but for the fault's line. At every status all files but the trace are as they were. What files
 /// hold is said where that is known (`Named::held`), and so is what was written (`Write::contents`).
@@ -340,7 +401,7 @@ pub fn serve<R: Threads + Wait + Sync, N: Named, O: io::Write, E: io::Write>(
     ensures status { IsStatus result }
     ensures done { result ≤ 1 → IsDone (around (N.held named.old) (O.contents out.old)) (around (N.held named.new) (O.contents out.new))
         (E.contents err.old) (E.contents err.new) (texts words.entry.now) result }
-    ensures quiet { result ≡ 0 → Keeps (E.contents err.old) (E.contents err.new) }
+    ensures quiet { result ≡ 0 → explains_in (request_in (texts words.entry.now)) ≡ false → Keeps (E.contents err.old) (E.contents err.new) }
     ensures untouched { result ≡ 2 → IsUntouched (around (N.held named.old) (O.contents out.old)) (around (N.held named.new) (O.contents out.new)) }
     ensures refused { result ≡ 2 → AreWordsRefused (N.held named.old) (E.contents err.old) (E.contents err.new) (texts words.entry.now) }
     ensures cut { result ≡ 3 → AreWordsCut (around (N.held named.old) (O.contents out.old)) (around (N.held named.new) (O.contents out.new))
@@ -349,6 +410,6 @@ pub fn serve<R: Threads + Wait + Sync, N: Named, O: io::Write, E: io::Write>(
 {
     match parse(alloc, words) {
         Ok(asked) => answer_or_tell(rt, alloc, &asked, named, out, err),
-        Err(error) => tell_words(&error, out, err),
+        Err(error) => tell_words(alloc, &error, named, out, err),
     }
 }

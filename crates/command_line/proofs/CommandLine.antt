@@ -10,7 +10,7 @@ use Rattle.clap.proofs.OnLiterals.{clap_on_literals}
 use Rattle.command_line.specs.CommandLine.{bare_line, command_line, file_words, flag_named, option_named, request_by, request_found, subcommand_named, with_run_options, with_trace}
 
 pub found_by_rows : (name : Text) (f : Found) → request_found name f ≡ request_by (Some (name, rows_of f))
-found_by_rows name f = rw (first_value-rows f (codes "mains"), first_value-rows f (codes "trace"), first_value-rows f (codes "explain"), first_value-rows f (codes "order"), first_value-rows f (codes "steps"), first_value-rows f (codes "patience"), first_value-rows f (codes "edition"), raw_values-rows f (codes "files")) refl
+found_by_rows name f = rw (first_value-rows f (codes "mains"), first_value-rows f (codes "trace"), first_value-rows f (codes "explain"), first_value-rows f (codes "order"), first_value-rows f (codes "replay"), first_value-rows f (codes "steps"), first_value-rows f (codes "patience"), first_value-rows f (codes "edition"), raw_values-rows f (codes "files")) refl
 
 -- the subcommand that a parse entered, from its name and its rows
 pub entered_is : (o : Option (Text × List Row)) (name : Text) (rows : List Row) → Some name ≡ option_map (λ p. p.0) o → Some rows ≡ option_map (λ p. p.1) o → o ≡ Some (name, rows)

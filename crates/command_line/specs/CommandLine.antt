@@ -1,6 +1,7 @@
 -- What the words of a command line ask for, as `clap` reads them.
-use Rattle.std.specs.Prelude.{List, [], Bool, ◌&&◌, ◌||◌, not, Option, Some, None, codes, if◌then◌else◌, is_some, option_map, unwrap_or, true, false}
+use Rattle.std.specs.Prelude.{List, [], ◌∷◌, Bool, ◌&&◌, ◌||◌, not, Option, Some, None, codes, if◌then◌else◌, is_some, option_map, unwrap_or, true, false}
 use Rattle.std.specs.Borrow.{Bor}
+use Rattle.std.specs.List.{list_any}
 use Rattle.std.specs.Str.{bytes_eq}
 use Rattle.clap.specs.Lexer.{usize_max}
 use Rattle.clap.specs.Walk.{texts}
@@ -33,7 +34,7 @@ file_words = record (new_rule (codes "files")) {
 
 -- the options of how the threads of a run go on, and how far
 unfoldable pub with_run_options : App → App
-with_run_options app = with_rule (with_rule (with_rule app (option_named (codes "order"))) (option_named (codes "steps"))) (option_named (codes "patience"))
+with_run_options app = with_rule (with_rule (with_rule (with_rule app (option_named (codes "order"))) (option_named (codes "replay"))) (option_named (codes "steps"))) (option_named (codes "patience"))
 
 -- the options of main classes and their trace
 unfoldable pub with_trace : App → App
@@ -47,18 +48,20 @@ subcommand_named name = with_rule (with_rule (with_run_options (with_trace (new_
 unfoldable pub bare_line : App
 bare_line = on_top (λ s. record s { has_version = true; subcommand_required = true }) (new_app (codes "jinit"))
 
--- `jinit run`, `jinit check` and `jinit needs`, one of which is asked for
+-- `jinit run`, `jinit check`, `jinit needs` and `jinit explain`, one of which is asked for
 unfoldable pub command_line : App
-command_line = with_subcommand (with_subcommand (with_subcommand bare_line (subcommand_named (codes "run")).top) (subcommand_named (codes "check")).top) (subcommand_named (codes "needs")).top
+command_line = with_subcommand (with_subcommand (with_subcommand (with_subcommand bare_line (subcommand_named (codes "run")).top) (subcommand_named (codes "check")).top) (subcommand_named (codes "needs")).top) (subcommand_named (codes "explain")).top
 
--- what `run` is given: the texts of its options, and the names of the files
-pub record RunWords : Type 0 where
+-- the texts of all options, whether faults are to be explained, and the words that are no option: the names of the files, or of `explain` codes
+pub record Options : Type 0 where
   pub mains : Option Text
   pub trace : Option Text
   pub order : Option Text
+  pub replay : Option Text
   pub steps : Option Text
   pub patience : Option Text
   pub edition : Option Text
+  pub explains : Bool
   pub files : List Text
 
 -- what `check` is given: the texts of its options, whether it explains, and the names of the files
@@ -69,84 +72,149 @@ pub record CheckWords : Type 0 where
   pub edition : Option Text
   pub files : List Text
 
--- what `needs` is given: the text of its option, and the names of the files
+-- what `needs` is given: the text of its option, whether it explains, and the names of the files
 pub record NeedsWords : Type 0 where
   pub edition : Option Text
+  pub explains : Bool
   pub files : List Text
 
--- what is asked for, as texts
+-- what is asked for, as texts: of `run` all options, of `explain` the codes of faults, and of words that don't fit together whether that is to be explained
 pub data Request : Type 0 where
-  run : RunWords → Request
+  run : Options → Request
   check : CheckWords → Request
   needs : NeedsWords → Request
-  unfit : Request
+  explain : List Text → Request
+  unfit : Bool → Request
+
+-- whether a fault is to be explained
+abbrev pub explains_in : Request → Bool
+explains_in (run o) = o.explains
+explains_in (check words) = words.explains
+explains_in (needs words) = words.explains
+explains_in (explain names) = false
+explains_in (unfit explains) = explains
 
 -- the text of an option
 abbrev pub text_of : Option (Bor Text) → Option Text
 text_of o = option_map (λ s. s.now) o
 
-abbrev pub run_words_of : Run → RunWords
-run_words_of r = record { mains = text_of r.mains; trace = text_of r.trace; order = text_of r.order; steps = text_of r.steps; patience = text_of r.patience; edition = text_of r.edition; files = texts r.files.items }
+abbrev pub run_words_of : Run → Options
+run_words_of r = record {
+  mains = text_of r.mains;
+  trace = text_of r.trace;
+  order = text_of r.order;
+  replay = text_of r.replay;
+  steps = text_of r.steps;
+  patience = text_of r.patience;
+  edition = text_of r.edition;
+  explains = r.explains;
+  files = texts r.files.items;
+}
 
 abbrev pub check_words_of : Check → CheckWords
 check_words_of c = record { mains = text_of c.mains; trace = c.trace.now; explains = c.explains; edition = text_of c.edition; files = texts c.files.items }
 
 abbrev pub needs_words_of : Needs → NeedsWords
-needs_words_of n = record { edition = text_of n.edition; files = texts n.files.items }
+needs_words_of n = record { edition = text_of n.edition; explains = n.explains; files = texts n.files.items }
 
 abbrev pub request_of : Asked → Request
 request_of (asked.Run r) = run (run_words_of r)
 request_of (asked.Check c) = check (check_words_of c)
 request_of (asked.Needs n) = needs (needs_words_of n)
-request_of asked.Unfit = unfit
+request_of (asked.Explain names) = explain (texts names.items)
+request_of (asked.Unfit explains reason) = unfit explains
 
 -- whether an option without a value is given, by the text that `clap` has for it
 abbrev pub is_set : Option Text → Bool
 is_set None = false
 is_set (Some text) = bytes_eq text (codes "true")
 
--- the texts of all options, by their names, and the names of the files
-pub record Options : Type 0 where
-  pub text : Text → Option Text
-  pub files : List Text
+-- whether this name is among those
+abbrev pub has_name : List Text → Text → Bool
+has_name names name = list_any (λ n. bytes_eq n name) names
 
-abbrev pub run_by : Options → Request
-run_by o = run (record { mains = o.text (codes "mains"); trace = o.text (codes "trace"); order = o.text (codes "order"); steps = o.text (codes "steps"); patience = o.text (codes "patience"); edition = o.text (codes "edition"); files = o.files })
+-- whether an option has this text
+abbrev pub is_text : Option Text → Text → Bool
+is_text None name = false
+is_text (Some text) name = bytes_eq text name
+
+-- the trace would replace a file that is read: it has the name of one of the files, or of the trace to be replayed
+abbrev pub replaces : Option Text → List Text → Option Text → Bool
+replaces None files replay = false
+replaces (Some trace) files replay = has_name files trace || is_text replay trace
+
+abbrev pub replaces_input : Options → Bool
+replaces_input o = replaces o.trace o.files o.replay
+
+-- at most one of these names is a dash
+abbrev pub has_few_dashes : List Text → Bool
+has_few_dashes [] = true
+has_few_dashes (name ∷ names) = if bytes_eq name (codes "-") then not (has_name names (codes "-")) else has_few_dashes names
+
+-- a dash, which names standard input among the files, and as a trace that is read, and standard output as a trace that is written, is given once at most
+abbrev pub has_one_dash : Options → Bool
+has_one_dash o = if is_text o.trace (codes "-") then not (is_text o.replay (codes "-") || has_name o.files (codes "-"))
+    else (if is_text o.replay (codes "-") then not (has_name o.files (codes "-")) else has_few_dashes o.files)
+
+-- whether an option is given that says how the threads of a run go on, or how far
+abbrev pub has_run_options : Options → Bool
+has_run_options o = (is_some o.order || is_some o.replay) || (is_some o.steps || is_some o.patience)
+
+-- whether an option is given that says what is run, or which trace is judged
+abbrev pub has_mains_or_trace : Options → Bool
+has_mains_or_trace o = is_some o.mains || is_some o.trace
+
+-- `run` takes all options, but one order alone; its trace is no file that it reads, and a dash is given once at most
+abbrev pub fits_run : Options → Bool
+fits_run o = not (is_some o.order && is_some o.replay) && (not (replaces_input o) && has_one_dash o)
+
+-- `check` takes no order and no limits, and a dash once at most
+abbrev pub fits_check : Options → Bool
+fits_check o = not (has_run_options o) && has_one_dash o
+
+-- `needs` takes the edition alone, and whether it explains, and a dash once at most
+abbrev pub fits_needs : Options → Bool
+fits_needs o = not (has_run_options o) && (not (has_mains_or_trace o) && has_few_dashes o.files)
+
+-- `explain` takes no option
+abbrev pub fits_explain : Options → Bool
+fits_explain o = not (has_run_options o) && (not (has_mains_or_trace o) && not (is_some o.edition || o.explains))
 
 -- `check` has a trace
-abbrev pub check_with : Option Text → Option Text → Bool → Option Text → List Text → Request
-check_with mains None explains edition files = unfit
-check_with mains (Some trace) explains edition files = check (record { mains = mains; trace = trace; explains = explains; edition = edition; files = files })
+abbrev pub check_with : Option Text → Options → Request
+check_with None o = unfit o.explains
+check_with (Some trace) o = check (record { mains = o.mains; trace = trace; explains = o.explains; edition = o.edition; files = o.files })
 
 abbrev pub check_by : Options → Request
-check_by o = check_with (o.text (codes "mains")) (o.text (codes "trace")) (is_set (o.text (codes "explain"))) (o.text (codes "edition")) o.files
+check_by o = check_with o.trace o
 
 abbrev pub needs_by : Options → Request
-needs_by o = needs (record { edition = o.text (codes "edition"); files = o.files })
+needs_by o = needs (record { edition = o.edition; explains = o.explains; files = o.files })
 
--- what is given that not all subcommands take
-abbrev pub has_explain : Options → Bool
-has_explain o = is_set (o.text (codes "explain"))
-
-abbrev pub has_run_options : Options → Bool
-has_run_options o = is_some (o.text (codes "order")) || (is_some (o.text (codes "steps")) || is_some (o.text (codes "patience")))
-
-abbrev pub has_mains_or_trace : Options → Bool
-has_mains_or_trace o = is_some (o.text (codes "mains")) || is_some (o.text (codes "trace"))
-
--- `run` doesn't explain, `check` takes no order and no limits, and `needs` takes none of these options
+-- what the subcommand of that name asks for, with these options
 abbrev pub request_to : Text → Options → Request
-request_to name o = if bytes_eq name (codes "run") && not (has_explain o) then run_by o
-    else (if bytes_eq name (codes "check") && not (has_run_options o) then check_by o
-    else (if bytes_eq name (codes "needs") && (not (has_explain o) && (not (has_run_options o) && not (has_mains_or_trace o))) then needs_by o else unfit))
+request_to name o = if bytes_eq name (codes "run") && fits_run o then run o
+    else (if bytes_eq name (codes "check") && fits_check o then check_by o
+    else (if bytes_eq name (codes "needs") && fits_needs o then needs_by o
+    else (if bytes_eq name (codes "explain") && fits_explain o then explain o.files else unfit o.explains)))
 
--- what the subcommand of that name asks for, with the rows that `clap` finds in the words
+-- the options in the rows that `clap` finds in the words
 abbrev pub options_in : List Row → Options
-options_in rows = record { text = λ name. first_of name rows; files = unwrap_or (all_of (codes "files") rows) [] }
+options_in rows = record {
+  mains = first_of (codes "mains") rows;
+  trace = first_of (codes "trace") rows;
+  order = first_of (codes "order") rows;
+  replay = first_of (codes "replay") rows;
+  steps = first_of (codes "steps") rows;
+  patience = first_of (codes "patience") rows;
+  edition = first_of (codes "edition") rows;
+  explains = is_set (first_of (codes "explain") rows);
+  files = unwrap_or (all_of (codes "files") rows) [];
+}
 
 abbrev pub request_by : Option (Text × List Row) → Request
 request_by (Some (name, rows)) = request_to name (options_in rows)
-request_by None = unfit
+request_by None = unfit false
 
 -- the subcommand that `clap` finds in the words, with its rows
 unfoldable pub rows_in : List Text → Option (Text × List Row)
@@ -165,22 +233,17 @@ abbrev pub files_found : Found → List Text
 files_found f = unwrap_or (option_map raw_values (matched_of f (codes "files"))) []
 
 abbrev pub options_found : Found → Options
-options_found f = record { text = λ name. first_value f name; files = files_found f }
-
-abbrev pub run_found : Found → Request
-run_found f = run_by (options_found f)
-
-abbrev pub check_found : Found → Request
-check_found f = check_by (options_found f)
-
-abbrev pub needs_found : Found → Request
-needs_found f = needs_by (options_found f)
-
-abbrev pub run_options_found : Found → Bool
-run_options_found f = has_run_options (options_found f)
-
-abbrev pub mains_or_trace_found : Found → Bool
-mains_or_trace_found f = has_mains_or_trace (options_found f)
+options_found f = record {
+  mains = first_value f (codes "mains");
+  trace = first_value f (codes "trace");
+  order = first_value f (codes "order");
+  replay = first_value f (codes "replay");
+  steps = first_value f (codes "steps");
+  patience = first_value f (codes "patience");
+  edition = first_value f (codes "edition");
+  explains = is_set (first_value f (codes "explain"));
+  files = files_found f;
+}
 
 abbrev pub request_found : Text → Found → Request
 request_found name f = request_to name (options_found f)

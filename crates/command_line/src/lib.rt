@@ -5,14 +5,16 @@
 
 ghost use Rattle.std.specs.Prelude.{◌≡◌, IfOk, false};
 ghost use Rattle.clap.specs.Walk.{texts};
-ghost use Rattle.clap.specs.Words.{FailsBy, app_of, first_value, found_of, rule_of, subcommand_rows_of, with_rule, with_subcommand};
-ghost use Rattle.clap.specs.declared.builder.command.Command.TheViews.{out-Command as fields_of};
-ghost use Rattle.command_line.specs.CommandLine.{bare_line, check_found, command_line, faults_in, file_words, files_found, flag_named, is_set, mains_or_trace_found, needs_found, option_named, request_found, request_in, request_of, rows_in, run_found, run_options_found, subcommand_named, with_run_options as with_options_of_run, with_trace as with_trace_options};
+ghost use Rattle.clap.specs.Words.{FailsBy, first_value, found_of, subcommand_rows_of};
+ghost use Rattle.command_line.specs.CommandLine.{check_by, faults_in, files_found, fits_check as fits_check_of, fits_explain as fits_explain_of, fits_needs as fits_needs_of, fits_run as fits_run_of, has_few_dashes, has_mains_or_trace, has_name, has_one_dash as has_one_dash_of, has_run_options as has_run_options_of, is_set, is_text, options_found, replaces_input as replaces_input_of, request_found, request_in, request_of, request_to, rows_in, run_words_of, text_of};
 
-use clap::{Arg, ArgAction, ArgMatches, Command, Error};
+mod line;
+
+use crate::line::command;
+use clap::{ArgMatches, Error};
 use std::alloc::{AllocError, Global};
 
-/// What `jinit run` asks for.
+/// What `jinit run` asks for: all options of the command line.
 #[derive(Drop)]
 pub struct Run<'a> {
     /// The text of `--mains`: the main classes, separated by commas.
@@ -21,12 +23,16 @@ pub struct Run<'a> {
     pub trace: Option<&'a str>,
     /// The text of `--order`: the numbers of the threads as they go on, separated by commas.
     pub order: Option<&'a str>,
+    /// The text of `--replay`: the file of the trace in whose order the threads go on.
+    pub replay: Option<&'a str>,
     /// The text of `--steps`: how many instructions a thread may begin.
     pub steps: Option<&'a str>,
     /// The text of `--patience`: how often a thread looks at what another holds.
     pub patience: Option<&'a str>,
     /// The text of `--edition`: the edition of JVMS by which classes are initialized.
     pub edition: Option<&'a str>,
+    /// Whether `--explain` is given: a fault is reported in words too.
+    pub explains: bool,
     /// The Jasmin files, in order.
     pub files: Vec<&'a str>,
 }
@@ -38,7 +44,7 @@ pub struct Check<'a> {
     pub mains: Option<&'a str>,
     /// The text of `--trace`: the file whose trace is judged.
     pub trace: &'a str,
-    /// Whether `--explain` is given: what is illegal is reported in words too.
+    /// Whether `--explain` is given: what is illegal, or a fault, is reported in words too.
     pub explains: bool,
     /// The text of `--edition`: the edition of JVMS by which classes are initialized.
     pub edition: Option<&'a str>,
@@ -51,6 +57,8 @@ pub struct Check<'a> {
 pub struct Needs<'a> {
     /// The text of `--edition`: the edition of JVMS by which classes are initialized.
     pub edition: Option<&'a str>,
+    /// Whether `--explain` is given: a fault is reported in words too.
+    pub explains: bool,
     /// The Jasmin files, in order.
     pub files: Vec<&'a str>,
 }
@@ -64,213 +72,19 @@ pub enum Asked<'a> {
     Check(Check<'a>),
     /// `jinit needs`.
     Needs(Needs<'a>),
-    /// Nothing that can be done: an option of one subcommand with another, which doesn't take it, or `check` without a trace.
-    Unfit,
+    /// `jinit explain`, with these codes of faults.
+    Explain(Vec<&'a str>),
+    /// Nothing that can be done: an option of one subcommand with another, which doesn't take it; `check` without a trace; an order beside a
+    /// trace to replay; a trace that would replace a file that is read; or more than one `-`.
+    Unfit {
+        /// Whether `--explain` is given.
+        explains: bool,
+        /// What doesn't fit, in words.
+        reason: &'static str,
+    },
 }
 
-/// An option with one value: its name, and for the help the name of the value, a line, and whether it is hidden.
-#[tactic(auto, unfolding(crate::specs::CommandLine::option_named))]
-fn option<'a>(
-    alloc: Global,
-    name: &'a str,
-    value: &'a str,
-    help: &'a str,
-    is_hidden: bool,
-) -> Arg<'a>
-    ensures rule { rule_of result ≡ option_named name.entry.now }
-    ensures local { result.global ≡ false }
-{
-    Arg::new(alloc, name)
-        .long(name)
-        .value_name(value)
-        .help(help)
-        .hide(is_hidden)
-}
-
-/// An option without a value.
-#[tactic(auto, unfolding(crate::specs::CommandLine::flag_named))]
-fn flag<'a>(alloc: Global, name: &'a str, help: &'a str, is_hidden: bool) -> Arg<'a>
-    ensures rule { rule_of result ≡ flag_named name.entry.now }
-    ensures local { result.global ≡ false }
-{
-    Arg::new(alloc, name)
-        .long(name)
-        .help(help)
-        .action(ArgAction::SetTrue)
-        .hide(is_hidden)
-}
-
-#[tactic(auto, unfolding(crate::specs::CommandLine::file_words))]
-fn files_argument<'a>(alloc: Global) -> Arg<'a>
-    ensures rule { rule_of result ≡ file_words }
-    ensures local { result.global ≡ false }
-{
-    Arg::new(alloc, "files")
-        .value_name("FILES")
-        .help("Jasmin files, one class each")
-        .action(ArgAction::Append)
-        .num_args(0..)
-}
-
-/// The command with one more argument.
-fn with_argument<'a>(command: Command<'a>, argument: Arg<'a>) -> Result<Command<'a>, AllocError>
-    requires argument { argument.global ≡ false }
-    ensures rules { IfOk result (λ c. app_of c ≡ with_rule (app_of command.entry) (rule_of argument.entry)) }
-    ensures local { IfOk result (λ c. (fields_of c).has_globals ≡ (fields_of command.entry).has_globals) }
-{
-    command.arg(argument)
-}
-
-/// The command with one more option that has a value, with what the help says of it.
-fn with_option<'a>(
-    alloc: Global,
-    command: Command<'a>,
-    name: &'a str,
-    value: &'a str,
-    help: &'a str,
-    is_hidden: bool,
-) -> Result<Command<'a>, AllocError>
-    ensures rules { IfOk result (λ c. app_of c ≡ with_rule (app_of command.entry) (option_named name.entry.now)) }
-    ensures local { IfOk result (λ c. (fields_of c).has_globals ≡ (fields_of command.entry).has_globals) }
-{
-    with_argument(command, option(alloc, name, value, help, is_hidden))
-}
-
-/// The command with the options of how the threads of a run go on, and how far.
-#[tactic(auto, unfolding(crate::specs::CommandLine::with_run_options))]
-fn with_run_options<'a>(
-    alloc: Global,
-    command: Command<'a>,
-    is_hidden: bool,
-) -> Result<Command<'a>, AllocError>
-    ensures rules { IfOk result (λ c. app_of c ≡ with_options_of_run (app_of command.entry)) }
-    ensures local { IfOk result (λ c. (fields_of c).has_globals ≡ (fields_of command.entry).has_globals) }
-{
-    let help =
-        "The threads go on in this order, one event at each number; then the lowest that can";
-    let command = with_option(alloc, command, "order", "N,..", help, is_hidden)?;
-    let help = "A thread that has begun so many instructions is ended; 1000000 if not given";
-    let command = with_option(alloc, command, "steps", "N", help, is_hidden)?;
-    let help = "A thread that looks so often at what another holds is ended; 0: never";
-    with_option(alloc, command, "patience", "N", help, is_hidden)
-}
-
-/// The command with the options of main classes and their trace, and of what is said of a trace.
-#[tactic(auto, unfolding(crate::specs::CommandLine::with_trace))]
-fn with_trace<'a>(
-    alloc: Global,
-    command: Command<'a>,
-    trace_help: Option<&'a str>,
-    explains: bool,
-) -> Result<Command<'a>, AllocError>
-    ensures rules { IfOk result (λ c. app_of c ≡ with_trace_options (app_of command.entry)) }
-    ensures local { IfOk result (λ c. (fields_of c).has_globals ≡ (fields_of command.entry).has_globals) }
-{
-    let is_hidden = trace_help.is_none();
-    let help = "The main classes, as their files name them, 1 to 16: each has a thread";
-    let command = with_option(alloc, command, "mains", "CLASS,..", help, is_hidden)?;
-    let help = trace_help.unwrap_or("");
-    let command = with_option(alloc, command, "trace", "FILE", help, is_hidden)?;
-    let help = "Says in words what is illegal, and what could have been done";
-    with_argument(command, flag(alloc, "explain", help, !explains))
-}
-
-/// What a subcommand shows of the options, all of which it knows.
-struct Shown<'a> {
-    /// What the trace is for; `--mains` and `--trace` are shown then.
-    trace: Option<&'a str>,
-    explain: bool,
-    run_options: bool,
-}
-
-/// A subcommand.
-#[tactic(auto, unfolding(crate::specs::CommandLine::subcommand_named))]
-fn subcommand<'a>(
-    alloc: Global,
-    name: &'a str,
-    about: &'a str,
-    shown: Shown<'a>,
-) -> Result<Command<'a>, AllocError>
-    ensures rules { IfOk result (λ c. app_of c ≡ subcommand_named name.entry.now) }
-    ensures local { IfOk result (λ c. (fields_of c).has_globals ≡ false) }
-{
-    let Shown {
-        trace,
-        explain,
-        run_options,
-    } = shown;
-    let command = Command::new(alloc, name).about(about);
-    let command = with_trace(alloc, command, trace, explain)?;
-    let command = with_run_options(alloc, command, !run_options)?;
-    let help = "JVMS edition: 7 initializes no superinterface before a class; 8 if not given";
-    let command = with_option(alloc, command, "edition", "7|8", help, false)?;
-    with_argument(command, files_argument(alloc))
-}
-
-/// The program's command line without its subcommands.
-#[tactic(auto, unfolding(crate::specs::CommandLine::bare_line))]
-fn bare_command<'a>(alloc: Global) -> Command<'a>
-    ensures { app_of result ≡ bare_line }
-{
-    Command::new(alloc, "jinit")
-        .about("Initializes Java classes as JLS SE 8 12.4.2 demands, and tells each step")
-        .version("0.1.0")
-        .subcommand_required(true)
-}
-
-/// The command with one more subcommand.
-fn with_command<'a>(
-    command: Command<'a>,
-    subcommand: Command<'a>,
-) -> Result<Command<'a>, AllocError>
-    requires { (fields_of subcommand).has_globals ≡ false }
-    ensures { IfOk result (λ c. app_of c ≡ with_subcommand (app_of command.entry) (app_of subcommand.entry).top) }
-{
-    command.subcommand(subcommand)
-}
-
-/// The command with the subcommand of that name.
-fn with_subcommand_named<'a>(
-    alloc: Global,
-    command: Command<'a>,
-    name: &'a str,
-    about: &'a str,
-    shown: Shown<'a>,
-) -> Result<Command<'a>, AllocError>
-    ensures { IfOk result (λ c. app_of c ≡ with_subcommand (app_of command.entry) (subcommand_named name.entry.now).top) }
-{
-    let named = subcommand(alloc, name, about, shown)?;
-    with_command(command, named)
-}
-
-/// The program's command line.
-#[tactic(auto, unfolding(crate::specs::CommandLine::command_line))]
-fn command<'a>(alloc: Global) -> Result<Command<'a>, AllocError>
-    ensures { IfOk result (λ c. app_of c ≡ command_line) }
-{
-    let about = "Initializes each main class on a thread of its own, with all that it needs";
-    let shown = Shown {
-        trace: Some("Writes every initialization step to FILE"),
-        explain: false,
-        run_options: true,
-    };
-    let command = with_subcommand_named(alloc, bare_command(alloc), "run", about, shown)?;
-    let about = "Judges whether a trace is a legal interleaving of the main classes' threads";
-    let shown = Shown {
-        trace: Some("The trace to judge"),
-        explain: true,
-        run_options: false,
-    };
-    let command = with_subcommand_named(alloc, command, "check", about, shown)?;
-    let about = "Writes for each class what is initialized before its own initializer runs";
-    let shown = Shown {
-        trace: None,
-        explain: false,
-        run_options: false,
-    };
-    with_subcommand_named(alloc, command, "needs", about, shown)
-}
-
+/// The words that are no option.
 fn files_of<'a>(alloc: Global, matches: &ArgMatches<'a>) -> Result<Vec<&'a str>, AllocError>
     ensures { IfOk result (λ files. texts files.items ≡ files_found (found_of matches.now)) }
 {
@@ -290,82 +104,201 @@ fn is_given(matches: &ArgMatches<'_>, name: &str) -> bool
     }
 }
 
-/// What is asked for of `check`.
-fn check_of<'a>(alloc: Global, matches: &ArgMatches<'a>) -> Result<Asked<'a>, AllocError>
-    ensures { IfOk result (λ asked. request_of asked ≡ check_found (found_of matches.now)) }
+/// All options, and the words that are none.
+fn options_of<'a>(alloc: Global, matches: &ArgMatches<'a>) -> Result<Run<'a>, AllocError>
+    ensures { IfOk result (λ options. run_words_of options ≡ options_found (found_of matches.now)) }
 {
-    let Some(trace) = matches.get_str("trace") else {
-        return Ok(Asked::Unfit);
-    };
-    Ok(Asked::Check(Check {
-        mains: matches.get_str("mains"),
-        trace,
-        explains: is_given(matches, "explain"),
-        edition: matches.get_str("edition"),
-        files: files_of(alloc, matches)?,
-    }))
-}
-
-/// What is asked for of `run`.
-fn run_of<'a>(alloc: Global, matches: &ArgMatches<'a>) -> Result<Asked<'a>, AllocError>
-    ensures { IfOk result (λ asked. request_of asked ≡ run_found (found_of matches.now)) }
-{
-    Ok(Asked::Run(Run {
+    Ok(Run {
         mains: matches.get_str("mains"),
         trace: matches.get_str("trace"),
         order: matches.get_str("order"),
+        replay: matches.get_str("replay"),
         steps: matches.get_str("steps"),
         patience: matches.get_str("patience"),
         edition: matches.get_str("edition"),
+        explains: is_given(matches, "explain"),
         files: files_of(alloc, matches)?,
-    }))
+    })
 }
 
-/// What is asked for of `needs`.
-fn needs_of<'a>(alloc: Global, matches: &ArgMatches<'a>) -> Result<Asked<'a>, AllocError>
-    ensures { IfOk result (λ asked. request_of asked ≡ needs_found (found_of matches.now)) }
+/// Whether a name is among those.
+fn holds(names: &[&str], name: &str) -> bool
+    ensures { result ≡ has_name (texts names.now) name.now }
 {
-    Ok(Asked::Needs(Needs {
-        edition: matches.get_str("edition"),
-        files: files_of(alloc, matches)?,
-    }))
+    let mut rest = names;
+    while let [first, after @ ..] = rest {
+        if *first == name {
+            return true;
+        }
+        rest = after;
+    }
+    false
 }
 
-/// Whether an option is given that says how the threads of a run go on, or how far.
-fn has_run_options(matches: &ArgMatches<'_>) -> bool
-    ensures { result ≡ run_options_found (found_of matches.now) }
+/// Whether an option has this text.
+fn is_option(option: Option<&str>, text: &str) -> bool
+    ensures { result ≡ is_text (text_of option.entry) text.now }
 {
-    let has_limits = matches.get_str("steps").is_some() || matches.get_str("patience").is_some();
-    matches.get_str("order").is_some() || has_limits
+    match option {
+        Some(given) => given == text,
+        None => false,
+    }
 }
 
-/// Whether an option is given that says what is run, or which trace is judged.
-fn has_mains_or_trace(matches: &ArgMatches<'_>) -> bool
-    ensures { result ≡ mains_or_trace_found (found_of matches.now) }
+/// Whether at most one of these names is a dash.
+fn holds_few_dashes(names: &[&str]) -> bool
+    ensures { result ≡ has_few_dashes (texts names.now) }
 {
-    matches.get_str("mains").is_some() || matches.get_str("trace").is_some()
+    let mut rest = names;
+    while let [first, after @ ..] = rest {
+        if *first == "-" {
+            return !holds(after, "-");
+        }
+        rest = after;
+    }
+    true
+}
+
+impl Run<'_> {
+    /// Whether the trace would replace a file that is read.
+    fn replaces_input(&self) -> bool
+        ensures { result ≡ replaces_input_of (run_words_of self.now) }
+    {
+        match self.trace {
+            Some(trace) => holds(&self.files, trace) || is_option(self.replay, trace),
+            None => false,
+        }
+    }
+
+    /// Whether a dash is given once at most.
+    fn has_one_dash(&self) -> bool
+        ensures { result ≡ has_one_dash_of (run_words_of self.now) }
+    {
+        if is_option(self.trace, "-") {
+            return !(is_option(self.replay, "-") || holds(&self.files, "-"));
+        }
+        if is_option(self.replay, "-") {
+            return !holds(&self.files, "-");
+        }
+        holds_few_dashes(&self.files)
+    }
+
+    /// Whether an option is given that says how the threads of a run go on, or how far.
+    fn has_run_options(&self) -> bool
+        ensures { result ≡ has_run_options_of (run_words_of self.now) }
+    {
+        let has_order = self.order.is_some() || self.replay.is_some();
+        has_order || (self.steps.is_some() || self.patience.is_some())
+    }
+
+    /// Whether an option is given that says what is run, or which trace is judged.
+    fn has_mains_or_trace(&self) -> bool
+        ensures { result ≡ has_mains_or_trace (run_words_of self.now) }
+    {
+        self.mains.is_some() || self.trace.is_some()
+    }
+
+    /// Whether `run` takes them.
+    fn fits_run(&self) -> bool
+        ensures { result ≡ fits_run_of (run_words_of self.now) }
+    {
+        let has_two_orders = self.order.is_some() && self.replay.is_some();
+        !has_two_orders && (!self.replaces_input() && self.has_one_dash())
+    }
+
+    /// Whether `check` takes them.
+    fn fits_check(&self) -> bool
+        ensures { result ≡ fits_check_of (run_words_of self.now) }
+    {
+        !self.has_run_options() && self.has_one_dash()
+    }
+
+    /// Whether `needs` takes them.
+    fn fits_needs(&self) -> bool
+        ensures { result ≡ fits_needs_of (run_words_of self.now) }
+    {
+        let has_others = self.has_mains_or_trace();
+        !self.has_run_options() && (!has_others && holds_few_dashes(&self.files))
+    }
+
+    /// Whether `explain` takes them.
+    fn fits_explain(&self) -> bool
+        ensures { result ≡ fits_explain_of (run_words_of self.now) }
+    {
+        let has_others = self.edition.is_some() || self.explains;
+        !self.has_run_options() && (!self.has_mains_or_trace() && !has_others)
+    }
+
+    /// What doesn't fit, in words.
+    fn misfit(&self, name: &str) -> &'static str {
+        if name == "explain" {
+            return "explain takes codes, and no options";
+        }
+        if name == "needs" && (self.has_run_options() || self.has_mains_or_trace()) {
+            return "needs takes --edition and --explain, and no other option";
+        }
+        if name == "check" && self.has_run_options() {
+            return "check takes no --order, no --replay, no --steps and no --patience";
+        }
+        if name == "check" && self.trace.is_none() {
+            return "check judges the trace that --trace names, and there is no --trace";
+        }
+        if self.order.is_some() && self.replay.is_some() {
+            return "--order and --replay both say in which order the threads go on";
+        }
+        if self.has_one_dash() {
+            return REPLACES_INPUT;
+        }
+        "`-` is given more than once: it is standard input among the files and as a trace that is read, and standard output as a trace that is written"
+    }
+}
+
+/// What doesn't fit where the trace would replace a file that is read.
+pub const REPLACES_INPUT: &str = "the trace would replace a file that is read";
+
+/// What is asked for of `check`.
+fn check_of(options: Run<'_>) -> Asked<'_>
+    ensures { request_of result ≡ check_by (run_words_of options.entry) }
+{
+    let Some(trace) = options.trace else {
+        return Asked::Unfit {
+            explains: options.explains,
+            reason: options.misfit("check"),
+        };
+    };
+    Asked::Check(Check {
+        mains: options.mains,
+        trace,
+        explains: options.explains,
+        edition: options.edition,
+        files: options.files,
+    })
 }
 
 /// What is asked for of the subcommand of that name, with these options and files.
-fn asked_of<'a>(
-    alloc: Global,
-    name: &str,
-    matches: &ArgMatches<'a>,
-) -> Result<Asked<'a>, AllocError>
-    ensures { IfOk result (λ asked. request_of asked ≡ request_found name.now (found_of matches.now)) }
+fn asked_of<'a>(name: &str, options: Run<'a>) -> Asked<'a>
+    ensures { request_of result ≡ request_to name.now (run_words_of options.entry) }
 {
-    let explains = is_given(matches, "explain");
-    let run_options = has_run_options(matches);
-    if name == "run" && !explains {
-        return run_of(alloc, matches);
+    if name == "run" && options.fits_run() {
+        return Asked::Run(options);
     }
-    if name == "check" && !run_options {
-        return check_of(alloc, matches);
+    if name == "check" && options.fits_check() {
+        return check_of(options);
     }
-    if name == "needs" && !explains && !run_options && !has_mains_or_trace(matches) {
-        return needs_of(alloc, matches);
+    if name == "needs" && options.fits_needs() {
+        return Asked::Needs(Needs {
+            edition: options.edition,
+            explains: options.explains,
+            files: options.files,
+        });
     }
-    Ok(Asked::Unfit)
+    if name == "explain" && options.fits_explain() {
+        return Asked::Explain(options.files);
+    }
+    Asked::Unfit {
+        explains: options.explains,
+        reason: options.misfit(name),
+    }
 }
 
 /// What `clap` finds in the words.
@@ -378,9 +311,11 @@ fn matches_of<'a>(alloc: Global, words: &'a [&'a str]) -> Result<ArgMatches<'a>,
 
 /// What the words ask for; the first word is the program's name.
 ///
-/// Subcommand, options and files are those that `clap` finds in the words: `run`, `check` and `needs` with any number of files, and
-/// with the options `--mains`, `--trace`, `--explain`, `--order`, `--steps`, `--patience` and `--edition`. Of these `run` takes all but
-/// `--explain`, `check` all but `--order`, `--steps` and `--patience`, and `--trace` always, and `needs` `--edition` alone.
+/// Subcommand, options and files are those that `clap` finds in the words: `run`, `check`, `needs` and `explain` with any number of files
+/// (of `explain`: codes), and with the options `--mains`, `--trace`, `--explain`, `--order`, `--replay`, `--steps`, `--patience` and
+/// `--edition`. Of these `run` takes all, but `--order` or `--replay` alone, `check` all but `--order`, `--replay`, `--steps` and
+/// `--patience`, and `--trace` always, `needs` `--edition` and `--explain`, and `explain` none. The trace of `run` has the name of none of
+/// the files and not that of the trace to replay, and a `-` is given once at most, among the files and as a trace.
 ///
 /// # Errors
 ///
@@ -392,7 +327,13 @@ pub fn parse<'a>(alloc: Global, words: &'a [&'a str]) -> Result<Asked<'a>, Error
 {
     let matches = matches_of(alloc, words)?;
     match matches.subcommand() {
-        Some((name, found)) => Ok(asked_of(alloc, name, found)?),
-        None => Ok(Asked::Unfit),
+        Some((name, found)) => {
+            let options = options_of(alloc, found)?;
+            Ok(asked_of(name, options))
+        }
+        None => Ok(Asked::Unfit {
+            explains: false,
+            reason: "",
+        }),
     }
 }

@@ -7,7 +7,6 @@ use cli::{MachineFiles, Named, serve};
 use std::alloc::{AllocError, Global};
 use std::io::Write;
 use std::process::ExitCode;
-use std::rt::Files;
 use std::sync::Wait;
 use std::thread::Threads;
 use std::{env, io};
@@ -44,36 +43,26 @@ fn args_of(rt: &HostRuntime) -> io::Result<Vec<String>> {
     Ok(args)
 }
 
-/// [`serve`] with nothing promised, over any files: of the machine's its contract is slow to state.
-fn serve_with<R: Threads + Wait + Sync, N: Named, O: Write, E: Write>(
-    rt: &R,
-    alloc: Global,
-    words: &[&str],
-    files: &mut N,
-    out: &mut O,
-    err: &mut E,
-) -> u8 {
-    serve(rt, alloc, words, files, out, err)
-}
-
-/// Does what the words of the command line ask for, and answers the exit status. An `Err` means out of memory.
-fn answer<R: Files + Threads + Wait + Sync, O: Write, E: Write>(
+/// Does what the words of the command line ask for, and answers the exit status. An `Err` means out of memory. Nothing is promised, and the
+/// files are any: of the machine's, the contract of [`serve`] is slow to state.
+fn answer<R: Threads + Wait + Sync, N: Named, O: Write, E: Write>(
     rt: &R,
     alloc: Global,
     args: &[String],
+    files: &mut N,
     out: &mut O,
     err: &mut E,
 ) -> io::Result<u8> {
     let words = texts_of(alloc, args)?;
-    let mut files = MachineFiles { rt };
-    Ok(serve_with(rt, alloc, &words, &mut files, out, err))
+    Ok(serve(rt, alloc, &words, files, out, err))
 }
 
 fn main(rt: HostRuntime) -> ExitCode {
     let mut out = rt.stdout();
     let mut err = rt.stderr();
+    let mut files = MachineFiles::new(&rt, rt.alloc(), rt.stdin(), out, err);
     let answered = match args_of(&rt) {
-        Ok(args) => answer(&rt, rt.alloc(), &args, &mut out, &mut err),
+        Ok(args) => answer(&rt, rt.alloc(), &args, &mut files, &mut out, &mut err),
         Err(error) => Err(error),
     };
     let status = match answered {

@@ -3,9 +3,11 @@
 ghost use Rattle.std.specs.Prelude.{◌≡◌, ◌≢◌, ◌≤◌, [], IfOk, false, length, vec_len};
 ghost use Rattle.judge.specs.declared.verdict.Verdict.TheVariants as verdicts;
 
+use crate::breach::Breach;
 use crate::judge::Judge;
 use crate::reader::Reader;
 use crate::state_words::Words;
+use crate::value_words::held_at;
 use crate::verdict::{Rule, Verdict};
 use hierarchy::{ClassId, Program};
 use init_core::{Event, Kind};
@@ -27,52 +29,8 @@ fn judge_after(
     Ok(judge)
 }
 
-/// What the label must be for an event of this kind.
-fn condition_of(kind: &Kind) -> &'static str {
-    match kind {
-        Kind::Waits => "step 2 is for a class that another thread initializes",
-        Kind::Recurs => "step 3 is for a class that this thread initializes",
-        Kind::FindsInitialized => "step 4 is for a class that is initialized",
-        Kind::FindsErroneous => "step 5 is for a class that is erroneous",
-        Kind::Begins => "step 6 is for a class that is prepared",
-        Kind::SuperFails(_) => "step 7 is for a class that this thread initializes",
-        Kind::Runs => "step 9 is for a class that this thread initializes",
-        Kind::Completes => "step 10 is for a class that this thread initializes",
-        Kind::Fails(_) => "step 12 is for a class that this thread initializes",
-        _ =>
-            "a static field is used once its class is initialized, or by the thread that initializes it",
-    }
-}
-
 impl Words<'_> {
-    /// The rule that an event of this kind breaks.
-    fn broken(&mut self, judge: &Judge, event: &Event, kind: &Kind, rule: Rule)
-        ensures { self.new.text.is_lost ≡ false → 1 ≤ length self.new.text.text }
-    {
-        match rule {
-            Rule::Word => self.wrong_word(judge, event, kind),
-            Rule::Label => {
-                self.say("JLS SE 8 12.4.2: ");
-                self.say(condition_of(kind));
-            }
-            Rule::Value | Rule::End => {
-                let state = match event.class() {
-                    Some(class) => judge.classes.states.get(class.number),
-                    None => None,
-                };
-                match (state, kind) {
-                    (Some(state), Kind::Gets { field, .. }) if *field < state.static_fields() => {
-                        self.say("the field holds ");
-                        self.value(state.value(*field));
-                    }
-                    _ => self.say("the class has no such field"),
-                }
-            }
-        }
-        self.say("\n");
-    }
-
-    /// What a thread is doing, the innermost open class first, and what it could do next.
+    /// What a thread is doing, the innermost open class first, and the beginning of what it could do next.
     fn thread_state(&mut self, thread: usize, reader: &Reader) {
         let open = reader.procedures.open_classes();
         'open: for class in open.iter().rev() {
@@ -86,30 +44,79 @@ impl Words<'_> {
                 " is in main\n"
             });
         }
-        self.possible(thread, reader);
+        self.thread(thread);
+        self.say(" could go on with: ");
     }
 
-    /// Of an illegal event: what it is, what its thread was doing, the label of its class, and the rule that it breaks.
+    /// What else a thread could do next, and the label of the event's class.
+    fn other_steps(&mut self, reader: &Reader, event: &Event) {
+        self.possible(event.thread(), reader);
+        if let Some(class) = event.class() {
+            self.label_line(class);
+        }
+    }
+
+    /// Of an event with a wrong value: the right one, and why it is right.
+    fn wrong_value(
+        &mut self,
+        alloc: Global,
+        judge: &Judge,
+        reader: &Reader,
+        event: &Event,
+        breach: &Breach,
+        kind: &Kind,
+    ) {
+        let held = held_at(self.program, judge, breach.class, kind);
+        if let Some(held) = &held {
+            self.right_get(alloc, breach.class, held);
+        }
+        self.other_steps(reader, event);
+        match &held {
+            Some(held) => self.holds(breach.class, held),
+            None => self.sentence("%c has no such static field", breach),
+        }
+    }
+
+    /// Of an illegal event: what its thread was doing and could have done, the label of the event's class, and the rule that the
+    /// event breaks.
+    fn illegal_of(
+        &mut self,
+        alloc: Global,
+        judge: &Judge,
+        reader: &Reader,
+        event: &Event,
+        rule: Rule,
+    ) {
+        self.thread_state(event.thread(), reader);
+        let Ok(kind) = event.kind() else {
+            self.lose();
+            return;
+        };
+        let breach = self.breach(reader, event, &kind);
+        if rule == Rule::Value {
+            self.wrong_value(alloc, judge, reader, event, &breach, &kind);
+        } else {
+            self.right_step(&breach);
+            self.other_steps(reader, event);
+            self.asked_by_editions(&breach);
+            self.broken(&breach, rule);
+        }
+    }
+
+    /// Of an illegal event: what it is, and all else.
     fn illegal_event(&mut self, alloc: Global, judge: &Judge, event: &Event, rule: Rule)
         ensures { self.new.text.is_lost ≡ false → 1 ≤ length self.new.text.text }
     {
         self.event(alloc, event);
         let thread = event.thread();
         match judge.readers.of_threads.get(thread) {
-            Some(reader) => self.thread_state(thread, reader),
+            Some(reader) => self.illegal_of(alloc, judge, reader, event, rule),
             None => {
-                self.say("there is no thread ");
+                self.say("there is a thread for each main class, but no thread ");
                 self.thread(thread);
-                self.say("\n");
             }
         }
-        if let Some(class) = event.class() {
-            self.label_line(class);
-        }
-        match event.kind() {
-            Ok(kind) => self.broken(judge, event, &kind, rule),
-            Err(_) => self.lose(),
-        }
+        self.say("\n");
     }
 
     /// Of a list that ends too early: each thread that has not ended what it began.
@@ -120,17 +127,35 @@ impl Words<'_> {
         'readers: for (thread, reader) in judge.readers.of_threads.iter().enumerate() {
             if !reader.procedures.may_stop() {
                 self.thread_state(thread, reader);
+                self.possible(thread, reader);
             }
         }
-        self.say("JLS SE 8 12.4.2: each thread goes on until all that it has begun is ended\n");
+        'unended: for (thread, reader) in judge.readers.of_threads.iter().enumerate() {
+            if !reader.procedures.may_stop() {
+                self.unended(thread, reader);
+            }
+        }
+        self.say("and what a thread begins it completes or fails: ");
+        self.edition();
+        self.say(" 12.4.2 steps 7, 10 and 12\n");
+    }
+
+    /// Which class a thread has begun first of those that it hasn't ended.
+    fn unended(&mut self, thread: usize, reader: &Reader) {
+        if let [outermost, ..] = reader.procedures.open_classes() {
+            self.thread(thread);
+            self.of_class(" has begun ", outermost.class);
+            self.say(", ");
+        }
     }
 }
 
 /// Says in plain lines why a list of events is illegal, where this is the verdict on it; nothing where it is legal.
 ///
 /// Of an illegal event: the event; what its thread was doing, the innermost open class first, with the numbers of the events
-/// at which it began each; what it could have done instead; the label of the event's class, and since which event; the step of
-/// JLS SE 8 12.4.2 that says so; and where the event is one that the other edition of JVMS asks for, what each of the two asks for.
+/// at which it began each; what it could have done instead, first the step that would have been right; the label of the event's class, and
+/// since which event; where the event is one that the other edition of JVMS asks for, what each of the two asks for; and last the rule
+/// that the event breaks, with its step of JLS 12.4.2.
 /// Where the list ends too early: the same of each thread that hasn't ended what it began, and whom it waits for.
 ///
 /// An `Err` means out of memory.

@@ -16,6 +16,7 @@ ghost use Rattle.init_core.specs.Interleaving.{IsLegal};
 ghost use Rattle.judge.specs.Verdicts.{IsVerdict};
 ghost use Rattle.judge.specs.declared.verdict.Verdict.TheVariants as verdicts;
 
+mod breach;
 mod classes;
 mod edition_words;
 mod explanation;
@@ -26,7 +27,10 @@ mod moves;
 mod open_class;
 mod reader;
 mod readers;
+mod rule_words;
+mod sentences;
 mod state_words;
+mod value_words;
 pub mod verdict;
 
 pub use explanation::explain;

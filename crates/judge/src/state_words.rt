@@ -20,8 +20,8 @@ const MACHINE_ERRORS: &str = " java/lang/InternalError or java/lang/OutOfMemoryE
 #[derive(Drop)]
 pub(crate) struct Words<'a> {
     pub(crate) program: &'a Program,
-    events: &'a [Event],
-    text: Writer,
+    pub(crate) events: &'a [Event],
+    pub(crate) text: Writer,
 }
 
 /// The label that an event of this kind gives its class, if it gives one.
@@ -35,7 +35,7 @@ fn label_by(thread: usize, kind: &Kind) -> Option<Label> {
 }
 
 /// The step that may come at a look at a class with this label; none while the thread waits for another.
-fn step_at_look(label: Label, thread: usize, waited: bool) -> Option<usize> {
+pub(crate) fn step_at_look(label: Label, thread: usize, waited: bool) -> Option<usize> {
     match label {
         Label::Prepared => Some(6),
         Label::InProgress(owner) if owner == thread => Some(3),
@@ -107,8 +107,19 @@ impl Words<'_> {
         }
     }
 
+    /// The class of a thread's last event; the first of the program where it has none.
+    pub(crate) fn last_class(&self, thread: usize) -> ClassId {
+        let mut found = ClassId { number: 0 };
+        'events: for event in self.events {
+            if event.thread() == thread {
+                found = event.class().unwrap_or(found);
+            }
+        }
+        found
+    }
+
     /// The label of a class after the events, and the number of the event that gave it.
-    fn label(&mut self, class: ClassId) -> (Label, usize) {
+    pub(crate) fn label(&mut self, class: ClassId) -> (Label, usize) {
         let mut found = (Label::Prepared, 0);
         let events = self.events;
         'events: for (number, event) in events.iter().enumerate() {
@@ -126,7 +137,7 @@ impl Words<'_> {
         found
     }
 
-    fn since(&mut self, number: usize) {
+    pub(crate) fn since(&mut self, number: usize) {
         self.say(" since event ");
         push_decimal(&mut self.text, number);
     }
@@ -139,23 +150,27 @@ impl Words<'_> {
         }
     }
 
+    /// That a class has this label.
+    pub(crate) fn labelled(&mut self, class: ClassId, label: Label) {
+        self.class(class);
+        self.say(match label {
+            Label::Prepared => " is prepared",
+            Label::InProgress(_) => " is being initialized by ",
+            Label::Initialized => " is initialized",
+            Label::Erroneous => " is erroneous",
+        });
+        if let Label::InProgress(owner) = label {
+            self.thread(owner);
+        }
+    }
+
     /// The label of a class, and since when.
     pub(crate) fn label_line(&mut self, class: ClassId) {
         let (label, number) = self.label(class);
-        self.class(class);
-        match label {
-            Label::Prepared => {
-                self.say(" is prepared\n");
-                return;
-            }
-            Label::InProgress(owner) => {
-                self.say(" is being initialized by ");
-                self.thread(owner);
-            }
-            Label::Initialized => self.say(" is initialized"),
-            Label::Erroneous => self.say(" is erroneous"),
+        self.labelled(class, label);
+        if label != Label::Prepared {
+            self.since(number);
         }
-        self.since(number);
         self.say("\n");
     }
 
@@ -197,13 +212,13 @@ impl Words<'_> {
     }
 
     /// Words about a class.
-    fn of_class(&mut self, words: &str, class: ClassId) {
+    pub(crate) fn of_class(&mut self, words: &str, class: ClassId) {
         self.say(words);
         self.class(class);
     }
 
     /// A step of this number at a class.
-    fn step(&mut self, number: usize, class: ClassId) {
+    pub(crate) fn step(&mut self, number: usize, class: ClassId) {
         self.say("step");
         push_decimal(&mut self.text, number);
         self.of_class(" ", class);
@@ -216,7 +231,7 @@ impl Words<'_> {
     }
 
     /// A step that ends a class by this error.
-    fn step_by(&mut self, number: usize, class: ClassId, error: ClassId) {
+    pub(crate) fn step_by(&mut self, number: usize, class: ClassId, error: ClassId) {
         self.step(number, class);
         self.of_class(" ", error);
     }
@@ -261,6 +276,7 @@ impl Words<'_> {
     fn within(&mut self, thread: usize, open: &OpenClass, last: Option<Completed>) {
         match &open.stage {
             Stage::Looking { waited } => self.look(thread, open.class, *waited),
+            // a class that needs another is never the innermost: the other one is open
             Stage::Needing(_) => {}
             Stage::Running { ran: false } => {
                 self.step(9, open.class);
@@ -282,10 +298,8 @@ impl Words<'_> {
         self.say(MACHINE_ERRORS);
     }
 
-    /// What a thread could do next.
+    /// What a thread could do next, as the rest of a line.
     pub(crate) fn possible(&mut self, thread: usize, reader: &Reader) {
-        self.thread(thread);
-        self.say(" could go on with: ");
         let last = reader.procedures.last;
         match reader.procedures.open_classes() {
             [] if reader.has_ended() => self.say("nothing"),

@@ -43,8 +43,7 @@ fn check<R: Threads + Wait + Sync>(
     }
 }
 
-/// Adds what is said of the trace that a run wrote, where it isn't judged legal: nothing where the run names no trace, or writes
-/// it over a class.
+/// Adds what is said of the trace that a run wrote, where it isn't judged legal: nothing where the run names no trace.
 pub(crate) fn judge_trace<R: Threads + Wait + Sync>(
     rt: &R,
     alloc: Global,
@@ -55,9 +54,6 @@ pub(crate) fn judge_trace<R: Threads + Wait + Sync>(
     let (Some(mains), Some(trace)) = (run.mains, run.trace) else {
         return;
     };
-    if run.files.contains(&trace) {
-        return;
-    }
     match words_to_check(alloc, run, mains, trace) {
         Ok(words) => check(rt, alloc, &words, files, came),
         Err(_) => came.is_refused = true,

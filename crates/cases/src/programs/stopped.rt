@@ -48,8 +48,19 @@ fn fills<R: Threads + Wait + Sync>(
         && err.written() == expected.err
 }
 
+/// The status where standard error takes just this front of its text: that of the whole, once the line of a fault is written that words
+/// explain, and else 3.
+fn status_at(whole: &Whole<'_>, front: &[u8]) -> u8 {
+    let is_explained = whole.words.contains(&"--explain") && !whole.err.starts_with(b"error:");
+    if whole.status == 2 && is_explained && front.contains(&b'\n') {
+        2
+    } else {
+        3
+    }
+}
+
 /// Runs a command line with each of its streams stopped at bytes of it, and adds each front at which something else comes than
-/// status 3.
+/// is to come: status 3, or that of a fault whose line is written.
 fn stop_at_each<R: Threads + Wait + Sync>(
     rt: &R,
     alloc: Global,
@@ -59,16 +70,17 @@ fn stop_at_each<R: Threads + Wait + Sync>(
     report: &mut Report<'_>,
 ) {
     let mut stopped = *whole;
-    stopped.status = 3;
     for at in 0..whole.err.len() {
         if is_tried(at) {
             report.stopped = report.stopped.saturating_add(1);
             stopped.err = &whole.err[..at];
+            stopped.status = status_at(whole, stopped.err);
             if !fills(rt, alloc, files, &stopped) {
                 came.put("stderr stopped", stopped.err);
             }
         }
     }
+    stopped.status = 3;
     stopped.err = UNWRITTEN;
     stopped.is_written = false;
     for at in 0..whole.out.len() {

@@ -1,7 +1,5 @@
-use Rattle.std.proofs.Common.{option_map, rules, sym}
-use Rattle.std.proofs.lemmas.Result.{IfErr-weaker}
-use Rattle.cli.specs.Orders.{numbers_of}
-use Rattle.cli.specs.Refusals.{of_edition, of_files, of_limits, of_order}
+use Rattle.std.proofs.Common.{option_map, sym}
+use Rattle.cli.specs.Refusals.{of_edition, of_limits, of_order}
 use Rattle.command_line.specs.CommandLine.{run as run_request, run_words_of}
 use Rattle.cli.proofs.CutShort.{none_begun}
 use Rattle.cli.proofs.serving.run.Goals as goal
@@ -14,10 +12,6 @@ returns-in-Err-limits_of-clause-refused g c = λ mended. of_limits (option_map (
 
 pub returns-in-Err-edition_of-clause-refused : goal.returns-in-Err-edition_of-clause-refused
 returns-in-Err-edition_of-clause-refused g c = λ mended. of_edition (option_map (λ all. all.items) c.in-Ok.order) c.in-Ok-limits_of.limits (sym c.in-Ok.ensures.said) c.in-Ok-limits_of.ensures.said c.in-Err-edition_of.ensures.refused
-
-pub returns-clause-refused : goal.returns-clause-refused
-returns-clause-refused g c =
-    IfErr-weaker c.run_within.result _ _ (λ f refused mended. of_files (numbers_of c.as_deref-order.result) c.in-Ok-limits_of.limits c.in-Ok-edition_of.edition (search rules) c.in-Ok-limits_of.ensures.said c.in-Ok-edition_of.ensures.said (refused mended)) c.run_within.ensures.refused
 
 pub returns-in-Err-clause-stopped : goal.returns-in-Err-clause-stopped
 returns-in-Err-clause-stopped g c = none_begun (g.N.Named.held c.args.named.now) (g.O.Write.contents c.args.out.now) (g.E.Write.contents c.args.err.now) (run_request (run_words_of c.args.words.now)) c.in-Err.fault (of_order c.in-Err.ensures.refused)

@@ -6,14 +6,15 @@ use Rattle.cli.proofs.Emitted.{told_front}
 use Rattle.cli.proofs.KnownOutput.{keeps_same}
 use Rattle.cli.proofs.serving.tell_words.Goals as goal
 
-pub returns-then-is_err-clause-cut : goal.returns-then-is_err-clause-cut
-returns-then-is_err-clause-cut g c = λ three. unshown (search rules) (told_front (g.E.Write.contents c.args.err.now) (g.E.Write.contents c.tell-then-is_err.new.err) (fault_line Output) c.tell-then-is_err.result c.tell-then-is_err.ensures.whole c.tell-then-is_err.ensures.short)
+pub returns-then-not-is_shown-clause-cut : goal.returns-then-not-is_shown-clause-cut
+returns-then-not-is_shown-clause-cut g c = λ three. unshown (search rules)
+    (told_front (g.E.Write.contents c.args.err.now) (g.E.Write.contents c.tell-then-not-is_shown.new.err) (fault_line Output) c.tell-then-not-is_shown.result c.tell-then-not-is_shown.ensures.whole c.tell-then-not-is_shown.ensures.short)
 
 pub returns-in-OutOfMemory-clause-cut : goal.returns-in-OutOfMemory-clause-cut
 returns-in-OutOfMemory-clause-cut g c = λ three. unread (search rules) (search rules) (told_front (g.E.Write.contents c.args.err.now) (g.E.Write.contents c.tell.new.err) (fault_line Memory) c.tell.result c.tell.ensures.whole c.tell.ensures.short)
 
-pub returns-then-is_err-3 : goal.returns-then-is_err-3
-returns-then-is_err-3 g c = record {
+pub returns-then-is_err : goal.returns-then-is_err
+returns-then-is_err g c = record {
   status = search rules;
   shown = λ low. absurd (omega (arith, low));
   quiet = λ low. absurd (omega (arith, low));

@@ -7,7 +7,7 @@ use Rattle.trace_reader.specs.TraceReading.{events_of}
 use Rattle.cli.specs.Checking.{faulty, no_room, unread}
 use Rattle.cli.proofs.KnownFiles.{whole_file}
 use Rattle.cli.proofs.Checked.{front_is}
-use Rattle.cli.proofs.checking.read_events.Goals as goal
+use Rattle.cli.proofs.trace_files.read_events.Goals as goal
 
 pub returns-in-Err-Io-clause-refused : goal.returns-in-Err-Io-clause-refused
 returns-in-Err-Io-clause-refused g c = unread {name = c.args.file} refl
