@@ -26,12 +26,6 @@ keeps_then but (Some files) None after first second = absurd first
 keeps_then but (Some files) (Some then) None first second = absurd second
 keeps_then but (Some files) (Some then) (Some now) first second = λ name other. second name other ∙ first name (no_name name)
 
-pub keeps_after : (but : Option (List ℕ)) (before middle after : Option Files) → KeepsAllBut but before middle → KeepsAllBut None middle after → KeepsAllBut but before after
-keeps_after but None middle after first second = tt
-keeps_after but (Some files) None after first second = absurd first
-keeps_after but (Some files) (Some then) None first second = absurd second
-keeps_after but (Some files) (Some then) (Some now) first second = λ name other. second name (no_name name) ∙ first name other
-
 pub held_before : (before after : Option Files) (name : List ℕ) (P : List ℕ → Type 0) → KeepsAllBut None before after → FileHolds after name P → FileHolds before name P
 held_before None after name P kept holds = tt
 held_before (Some files) None name P kept holds = absurd kept

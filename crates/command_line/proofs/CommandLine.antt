@@ -1,13 +1,12 @@
 -- What the getters of `clap` read, by the rows.
-use Rattle.std.proofs.Common.{◌≡◌, ◌∙◌, refl, rules, true, List, Option, Some, None, option_map, codes}
+use Rattle.std.proofs.Common.{◌≡◌, ◌∙◌, refl, rules, List, Option, Some, None, option_map, codes}
 use Rattle.clap.specs.Walk.{rows_of}
-use Rattle.clap.specs.Words.{Row, Text, is_simple, is_simple_and_free, subcommand_name_of, subcommand_rows_of}
+use Rattle.clap.specs.Words.{Row, Text, subcommand_name_of, subcommand_rows_of}
 use Rattle.clap.specs.declared.parser.matches.ArgMatches.{ArgMatches}
 use Rattle.clap.specs.declared.parser.matches.ArgMatches.TheViews.{out-ArgMatches}
 use Rattle.clap.specs.declared.parser.matches.Found.{Found}
 use Rattle.clap.proofs.WalkLemmas.{first_value-rows, raw_values-rows}
-use Rattle.clap.proofs.OnLiterals.{clap_on_literals}
-use Rattle.command_line.specs.CommandLine.{bare_line, command_line, file_words, flag_named, option_named, request_by, request_found, subcommand_named, with_run_options, with_trace}
+use Rattle.command_line.specs.CommandLine.{request_by, request_found}
 
 pub found_by_rows : (name : Text) (f : Found) → request_found name f ≡ request_by (Some (name, rows_of f))
 found_by_rows name f = rw (first_value-rows f (codes "mains"), first_value-rows f (codes "trace"), first_value-rows f (codes "explain"), first_value-rows f (codes "order"), first_value-rows f (codes "replay"), first_value-rows f (codes "steps"), first_value-rows f (codes "patience"), first_value-rows f (codes "edition"), raw_values-rows f (codes "files")) refl
@@ -35,12 +34,3 @@ none_of (Some p) n = cc
 -- a parse that entered no subcommand
 pub entered_none : (m : ArgMatches) → None ≡ subcommand_name_of m → subcommand_rows_of m ≡ None
 entered_none m n = none_of (subcommand_rows_of m) (n ∙ name_in_rows m)
-
--- the command line is one of which `clap` tells all
-pub is_told : is_simple command_line ≡ true
-unfolding clap_on_literals command_line bare_line subcommand_named with_trace with_run_options option_named flag_named file_words
-is_told = refl
-
-pub is_told_of_faults : is_simple_and_free command_line ≡ true
-unfolding clap_on_literals command_line bare_line subcommand_named with_trace with_run_options option_named flag_named file_words
-is_told_of_faults = refl

@@ -49,8 +49,11 @@ unfoldable pub bare_line : App
 bare_line = on_top (λ s. record s { has_version = true; subcommand_required = true }) (new_app (codes "jinit"))
 
 -- `jinit run`, `jinit check`, `jinit needs` and `jinit explain`, one of which is asked for
+abbrev pub line_of : (Text → App) → App
+line_of sub = with_subcommand (with_subcommand (with_subcommand (with_subcommand bare_line (sub (codes "run")).top) (sub (codes "check")).top) (sub (codes "needs")).top) (sub (codes "explain")).top
+
 unfoldable pub command_line : App
-command_line = with_subcommand (with_subcommand (with_subcommand (with_subcommand bare_line (subcommand_named (codes "run")).top) (subcommand_named (codes "check")).top) (subcommand_named (codes "needs")).top) (subcommand_named (codes "explain")).top
+command_line = line_of subcommand_named
 
 -- the texts of all options, whether faults are to be explained, and the words that are no option: the names of the files, or of `explain` codes
 pub record Options : Type 0 where
@@ -137,6 +140,13 @@ has_name names name = list_any (λ n. bytes_eq n name) names
 abbrev pub is_text : Option Text → Text → Bool
 is_text None name = false
 is_text (Some text) name = bytes_eq text name
+
+-- the command line with the options of those subcommands alone that the words name
+unfoldable pub subcommand_for : List Text → Text → App
+subcommand_for words name = if has_name words name then subcommand_named name else new_app name
+
+unfoldable pub line_for : List Text → App
+line_for words = line_of (subcommand_for words)
 
 -- the trace would replace a file that is read: it has the name of one of the files, or of the trace to be replayed
 abbrev pub replaces : Option Text → List Text → Option Text → Bool

@@ -306,7 +306,7 @@ fn matches_of<'a>(alloc: Global, words: &'a [&'a str]) -> Result<ArgMatches<'a>,
     ensures found { IfOk result (λ m. subcommand_rows_of m ≡ rows_in (texts words.entry.now)) }
     ensures fails { FailsBy (faults_in (texts words.entry.now)) result }
 {
-    command(alloc)?.try_get_matches_from(words)
+    command(alloc, words)?.try_get_matches_from(words)
 }
 
 /// What the words ask for; the first word is the program's name.

@@ -1,10 +1,12 @@
 //! The command line as `clap` is given it: subcommands, options, and what the help says of them.
 
 ghost use Rattle.std.specs.Prelude.{◌≡◌, IfOk, false};
+ghost use Rattle.clap.specs.Walk.{texts};
 ghost use Rattle.clap.specs.Words.{app_of, rule_of, with_rule, with_subcommand};
 ghost use Rattle.clap.specs.declared.builder.command.Command.TheViews.{out-Command as fields_of};
-ghost use Rattle.command_line.specs.CommandLine.{bare_line, command_line, file_words, flag_named, option_named, subcommand_named, with_run_options as with_options_of_run, with_trace as with_trace_options};
+ghost use Rattle.command_line.specs.CommandLine.{bare_line, file_words, flag_named, line_for, option_named, subcommand_for as subcommand_for_words, subcommand_named, with_run_options as with_options_of_run, with_trace as with_trace_options};
 
+use crate::holds;
 use clap::{Arg, ArgAction, Command};
 use std::alloc::{AllocError, Global};
 
@@ -212,16 +214,34 @@ fn with_command<'a>(
     command.subcommand(subcommand)
 }
 
+/// A subcommand, with its options if the words name it: `clap` reads the others' names alone.
+#[tactic(auto, unfolding(crate::specs::CommandLine::subcommand_for))]
+fn subcommand_for<'a>(
+    alloc: Global,
+    words: &[&str],
+    name: &'a str,
+    shown: Shown<'a>,
+) -> Result<Command<'a>, AllocError>
+    ensures rules { IfOk result (λ c. app_of c ≡ subcommand_for_words (texts words.now) name.entry.now) }
+    ensures local { IfOk result (λ c. (fields_of c).has_globals ≡ false) }
+{
+    if !holds(words, name) {
+        return Ok(Command::new(alloc, name).about(shown.about));
+    }
+    subcommand(alloc, name, shown)
+}
+
 /// The command with the subcommand of that name.
 fn with_subcommand_named<'a>(
     alloc: Global,
     command: Command<'a>,
+    words: &[&str],
     name: &'a str,
     shown: Shown<'a>,
 ) -> Result<Command<'a>, AllocError>
-    ensures { IfOk result (λ c. app_of c ≡ with_subcommand (app_of command.entry) (subcommand_named name.entry.now).top) }
+    ensures { IfOk result (λ c. app_of c ≡ with_subcommand (app_of command.entry) (subcommand_for_words (texts words.now) name.entry.now).top) }
 {
-    let named = subcommand(alloc, name, shown)?;
+    let named = subcommand_for(alloc, words, name, shown)?;
     with_command(command, named)
 }
 
@@ -287,13 +307,14 @@ fn help_of_explain<'a>() -> Shown<'a> {
     }
 }
 
-/// The program's command line.
-#[tactic(auto, unfolding(crate::specs::CommandLine::command_line))]
-pub(crate) fn command<'a>(alloc: Global) -> Result<Command<'a>, AllocError>
-    ensures { IfOk result (λ c. app_of c ≡ command_line) }
+/// The program's command line, with the options of those subcommands alone that the words name.
+#[tactic(auto, unfolding(crate::specs::CommandLine::line_for))]
+pub(crate) fn command<'a>(alloc: Global, words: &[&str]) -> Result<Command<'a>, AllocError>
+    ensures { IfOk result (λ c. app_of c ≡ line_for (texts words.now)) }
 {
-    let command = with_subcommand_named(alloc, bare_command(alloc), "run", help_of_run())?;
-    let command = with_subcommand_named(alloc, command, "check", help_of_check())?;
-    let command = with_subcommand_named(alloc, command, "needs", help_of_needs())?;
-    with_subcommand_named(alloc, command, "explain", help_of_explain())
+    let command = bare_command(alloc);
+    let command = with_subcommand_named(alloc, command, words, "run", help_of_run())?;
+    let command = with_subcommand_named(alloc, command, words, "check", help_of_check())?;
+    let command = with_subcommand_named(alloc, command, words, "needs", help_of_needs())?;
+    with_subcommand_named(alloc, command, words, "explain", help_of_explain())
 }
