@@ -8,12 +8,12 @@ use std::alloc::{AllocError, Global};
 /// The most names of a circle that are written.
 const MOST_NAMES: usize = 8;
 
-/// A class that names another one of the files as its supertype, by their places.
+/// A class that names another one of the files as its supertype, by their places, and by which of its lines.
 #[derive(Clone, Copy)]
-struct Edge<'a> {
+struct Edge {
     from: usize,
     to: usize,
-    naming: Naming<'a>,
+    line: usize,
 }
 
 /// The place of the first class that has this name.
@@ -27,26 +27,22 @@ fn place_of(classes: &[Class<'_>], name: &[u8]) -> Option<usize> {
 }
 
 /// Adds what a class names.
-fn add_edges<'a>(
-    edges: &mut Vec<Edge<'a>>,
-    classes: &[Class<'a>],
+fn add_edges(
+    edges: &mut Vec<Edge>,
+    classes: &[Class<'_>],
     from: usize,
-    class: &Class<'a>,
+    class: &Class<'_>,
 ) -> Result<(), AllocError> {
-    for naming in &class.supertypes {
+    for (line, naming) in class.supertypes.iter().enumerate() {
         if let Some(to) = place_of(classes, naming.name.bytes) {
-            edges.push(Edge {
-                from,
-                to,
-                naming: *naming,
-            })?;
+            edges.push(Edge { from, to, line })?;
         }
     }
     Ok(())
 }
 
 /// What the classes name.
-fn edges_of<'a>(alloc: Global, classes: &[Class<'a>]) -> Result<Vec<Edge<'a>>, AllocError> {
+fn edges_of(alloc: Global, classes: &[Class<'_>]) -> Result<Vec<Edge>, AllocError> {
     let mut edges = Vec::new(alloc);
     for (from, class) in classes.iter().enumerate() {
         add_edges(&mut edges, classes, from, class)?;
@@ -60,7 +56,7 @@ fn distance(distances: &[usize], place: usize) -> usize {
 }
 
 /// Takes each edge once into the distances. Whether one has become smaller.
-fn refine(distances: &mut [usize], edges: &[Edge<'_>]) -> bool {
+fn refine(distances: &mut [usize], edges: &[Edge]) -> bool {
     let mut changed = false;
     for edge in edges {
         let by_edge = distance(distances, edge.to).saturating_add(1);
@@ -78,7 +74,7 @@ fn refine(distances: &mut [usize], edges: &[Edge<'_>]) -> bool {
 fn distances_to(
     alloc: Global,
     count: usize,
-    edges: &[Edge<'_>],
+    edges: &[Edge],
     place: usize,
 ) -> Result<Vec<usize>, AllocError> {
     let mut distances = Vec::new(alloc);
@@ -94,7 +90,7 @@ fn distances_to(
 }
 
 /// The edge from a class that leads by the shortest way to the circle's beginning.
-fn best_edge<'a>(edges: &[Edge<'a>], distances: &[usize], from: usize) -> Option<Edge<'a>> {
+fn best_edge(edges: &[Edge], distances: &[usize], from: usize) -> Option<Edge> {
     let mut best = None;
     let mut least = usize::MAX;
     for edge in edges {
@@ -104,6 +100,35 @@ fn best_edge<'a>(edges: &[Edge<'a>], distances: &[usize], from: usize) -> Option
         }
     }
     best
+}
+
+/// The line by which a class names another.
+fn naming_of<'l, 'a>(classes: &'l [Class<'a>], edge: Edge) -> Option<&'l Naming<'a>> {
+    classes.get(edge.from)?.supertypes.get(edge.line)
+}
+
+/// Says what the classes of a circle extend, from this one on.
+fn say_circle(
+    page: &mut Page,
+    classes: &[Class<'_>],
+    edges: &[Edge],
+    distances: &[usize],
+    start: usize,
+) {
+    let mut place = start;
+    for _name in 0..MOST_NAMES {
+        let Some(edge) = best_edge(edges, distances, place) else {
+            return;
+        };
+        if let Some(naming) = naming_of(classes, edge) {
+            page.about(" extends ", naming.name.bytes, "");
+        }
+        place = edge.to;
+        if place == start {
+            return;
+        }
+    }
+    page.say(" ..");
 }
 
 /// Of `H3`: the line that begins the circle, and its names.
@@ -116,21 +141,12 @@ pub(crate) fn circle(
     let edges = edges_of(alloc, classes)?;
     let start = place_of(classes, name).unwrap_or(0);
     let distances = distances_to(alloc, classes.len(), &edges, start)?;
-    if let (Some(class), Some(edge)) = (classes.get(start), best_edge(&edges, &distances, start)) {
-        page.show_naming(class, &edge.naming);
+    if let (Some(class), Some(edge)) = (classes.get(start), best_edge(&edges, &distances, start))
+        && let Some(naming) = naming_of(classes, edge)
+    {
+        page.show_naming(class, naming);
     }
     page.about("a class is no supertype of its own: ", name, "");
-    let mut place = start;
-    for _name in 0..MOST_NAMES {
-        let Some(edge) = best_edge(&edges, &distances, place) else {
-            return Ok(());
-        };
-        page.about(" extends ", edge.naming.name.bytes, "");
-        place = edge.to;
-        if place == start {
-            return Ok(());
-        }
-    }
-    page.say(" ..");
+    say_circle(page, classes, &edges, &distances, start);
     Ok(())
 }

@@ -105,17 +105,19 @@ fn wrong_word(
 }
 
 /// Of a word before a name that is no access word.
-fn no_access(page: &mut Page, word: &[u8]) {
+fn no_access(page: &mut Page, spot: &Spot<'_, '_>, word: &Word<'_>) {
+    page.show_word(spot, word);
     page.about(
         "",
-        word,
+        word.bytes,
         " is no access word, and only these come before the name",
     );
-    page.perhaps(Nearest::to(word).with(&ACCESS_WORDS).found());
+    page.perhaps(Nearest::to(word.bytes).with(&ACCESS_WORDS).found());
 }
 
 /// Of a word too many.
-fn extra(page: &mut Page, before: &Word<'_>) {
+fn extra(page: &mut Page, spot: &Spot<'_, '_>, word: &Word<'_>, before: &Word<'_>) {
+    page.show_word(spot, word);
     if before.is(b"=") {
         page.say("a field of this type has no value: ints and strings have one");
     } else {
@@ -123,41 +125,45 @@ fn extra(page: &mut Page, before: &Word<'_>) {
     }
 }
 
+/// Of an access word that is left out, or that may not come there.
+fn access(page: &mut Page, spot: &Spot<'_, '_>, word: &Word<'_>, after: &str) {
+    page.show_word(spot, word);
+    page.about("", word.bytes, after);
+}
+
+/// Of a word after which something is missing.
+fn missing(page: &mut Page, spot: &Spot<'_, '_>, word: &Word<'_>, after: &str) {
+    page.show_word(spot, &word.after());
+    page.about("", word.bytes, after);
+}
+
 /// Of what is wrong in a line.
 fn finding(
     alloc: Global,
     page: &mut Page,
     spot: &Spot<'_, '_>,
-    found: Finding<'_>,
+    found: &Finding<'_>,
 ) -> Result<(), AllocError> {
-    let (at, word, after) = match found {
-        Finding::Nothing => return Ok(()),
-        Finding::Wrong(word, wanted, miss) => {
-            return wrong_word(alloc, page, spot, &word, wanted, miss);
-        }
-        Finding::Missing(word, _) => (word.after(), word, " lacks what comes after it: "),
-        Finding::Extra(word, before) => (word, before, ""),
-        Finding::NoAccess(word) => (word, word, ""),
-        Finding::NoName(word) => (
-            word.after(),
-            word,
-            " is an access word, and the name is missing after it",
-        ),
-        Finding::LeftOut(word) => (word, word, " is left out of this machine"),
-        Finding::Together(word) => (
-            word,
-            word,
-            " may not come here: abstract and static don't go together on a method",
-        ),
-    };
-    page.show_word(spot, &at);
     match found {
-        Finding::Extra(_, _) => extra(page, &word),
-        Finding::NoAccess(_) => no_access(page, word.bytes),
-        _ => page.about("", word.bytes, after),
-    }
-    if let Finding::Missing(_, wanted) = found {
-        page.wanted(wanted);
+        Finding::Nothing => {}
+        Finding::Wrong(word, wanted, miss) => {
+            return wrong_word(alloc, page, spot, word, *wanted, *miss);
+        }
+        Finding::Missing(word, wanted) => {
+            missing(page, spot, word, " lacks what comes after it: ");
+            page.wanted(*wanted);
+        }
+        Finding::Extra(word, before) => extra(page, spot, word, before),
+        Finding::NoAccess(word) => no_access(page, spot, word),
+        Finding::NoName(word) => {
+            let after = " is an access word, and the name is missing after it";
+            missing(page, spot, word, after);
+        }
+        Finding::LeftOut(word) => access(page, spot, word, " is left out of this machine"),
+        Finding::Together(word) => {
+            let after = " may not come here: abstract and static don't go together on a method";
+            access(page, spot, word, after);
+        }
     }
     Ok(())
 }
@@ -265,7 +271,7 @@ pub(crate) fn wrong_operand(
             page.say("a type has at most 255 dimensions, and a method at most 255 parameters");
         }
         (Finding::Nothing, _) => wrong_text(page, spot),
-        (found, _) => return finding(alloc, page, spot, found),
+        (found, _) => return finding(alloc, page, spot, &found),
     }
     Ok(())
 }
@@ -303,7 +309,7 @@ pub(crate) fn left_out(
     }
     match finding_in(spot.line, first) {
         Finding::Wrong(word, Wanted::Base, _) => {
-            finding(alloc, page, spot, Finding::LeftOut(word))
+            finding(alloc, page, spot, &Finding::LeftOut(word))
         }
         Finding::Wrong(word, Wanted::Exactly(_), _) => {
             page.show_word(spot, &word);
@@ -319,6 +325,6 @@ pub(crate) fn left_out(
             let miss = Miss::Descriptor(Stage::Opening);
             wrong_word(alloc, page, spot, &word, wanted, miss)
         }
-        found => finding(alloc, page, spot, found),
+        found => finding(alloc, page, spot, &found),
     }
 }
