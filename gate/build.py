@@ -23,7 +23,7 @@ SOURCES = "crates", "crates.txt", "HANDLES"
 # How many jobs the proof of a crate has where nothing is built, if not one, and which proofs run at the lower priority. It is nearly what
 # served best in a model of the build that was given measured times: the longest path goes first, and there each processor has work until all
 # that cli waits for ends, at about the same time; only what would leave one idle has several jobs, with which a proof takes more of them in all.
-JOBS = {"jasmin_words": 2, "jasmin_text": 2, "jasmin_reader": 2, "hierarchy": 3, "statics": 3, "init_core": 2, "heap": 3, "interpreter": 2, "cli": 4, "jinit": 4}
+JOBS = {"jasmin_words": 2, "jasmin_text": 2, "jasmin_reader": 2, "hierarchy": 3, "code": 2, "statics": 3, "init_core": 2, "heap": 3, "interpreter": 2, "cli": 4, "jinit": 4}
 LATER = {"texts", "command_line", "init_lock", "jasmin_reader", "trace", "trace_reader", "judge", "replayer"}
 began = time.time()
 

@@ -47,21 +47,36 @@ pub enum Does {
 
 /// What runs the bodies of one thread: its initializers, one within the other, and `main`.
 pub trait Bodies: Drop {
+    /// The code of a program, in the form in which it is run.
+    type Code;
+
+    /// Whether it is the code of this program.
+    ghost is_code: { Self.Code → LinkedProgram → Type 0 };
+
     /// What the bodies do, over the states of what runs them.
     ghost making: { LinkedProgram → Making Self };
 
     /// The initializer of a class begins, in step 9.
-    fn start(&mut self, alloc: Global, program: &Program, class: ClassId)
+    fn start(&mut self, alloc: Global, program: &Program, code: &Self::Code, class: ClassId)
+        requires code { is_code code.now program.now }
         requires class { IsOfFiles program.now class }
         ensures { (making program.now).starts self.old class self.new };
 
     /// The method `main` of a class begins, if the class has one.
-    fn enter(&mut self, alloc: Global, program: &Program, class: ClassId)
+    fn enter(&mut self, alloc: Global, program: &Program, code: &Self::Code, class: ClassId)
+        requires code { is_code code.now program.now }
         requires class { IsOfFiles program.now class }
         ensures { (making program.now).enters self.old class self.new };
 
     /// Goes on up to what the innermost body does next. It is told the procedure completed last, if nothing was done since.
-    fn next(&mut self, alloc: Global, program: &Program, last: Option<Completed>) -> Does
+    fn next(
+        &mut self,
+        alloc: Global,
+        program: &Program,
+        code: &Self::Code,
+        last: Option<Completed>,
+    ) -> Does
+        requires code { is_code code.now program.now }
         requires goes_on { GoesOn last }
         ensures does { (making program.now).does self.old last result self.new }
         ensures fits { MayDo program.now (making program.now) last result self.new };

@@ -11,15 +11,25 @@ use std::alloc::{AllocError, Global};
 pub struct NoCode;
 
 impl Bodies for NoCode {
+    type Code = ();
+
     ghost use Rattle.bodies.specs.Making.{comes_to_no_limit, empty_bodies, waits_for_nothing};
+
+    ghost is_code = { λ code p. Unit {0} };
 
     ghost making = { λ p. empty_bodies };
 
-    fn start(&mut self, _alloc: Global, _program: &Program, _class: ClassId) {}
+    fn start(&mut self, _alloc: Global, _program: &Program, _code: &(), _class: ClassId) {}
 
-    fn enter(&mut self, _alloc: Global, _program: &Program, _class: ClassId) {}
+    fn enter(&mut self, _alloc: Global, _program: &Program, _code: &(), _class: ClassId) {}
 
-    fn next(&mut self, _alloc: Global, _program: &Program, _last: Option<Completed>) -> Does {
+    fn next(
+        &mut self,
+        _alloc: Global,
+        _program: &Program,
+        _code: &(),
+        _last: Option<Completed>,
+    ) -> Does {
         Does::Over(None)
     }
 

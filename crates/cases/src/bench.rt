@@ -9,7 +9,6 @@
 
 mod bare;
 mod beside;
-mod code;
 mod files;
 mod harness;
 mod history;
@@ -23,6 +22,7 @@ mod passes;
 mod reader;
 mod rounds;
 mod sample;
+mod shapes;
 mod threads;
 mod traces;
 mod turns;

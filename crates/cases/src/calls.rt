@@ -76,7 +76,15 @@ fn runs_ordered(alloc: Global, program: &Program) -> &'static str {
     let Ok(bodies) = vec![in alloc; NoCode; 2] else {
         return answered(true, false);
     };
-    let run = run_ordered(alloc, program, &[main, main], &[0, 0, 1, 0, 1], bodies, ());
+    let run = run_ordered(
+        alloc,
+        program,
+        &(),
+        &[main, main],
+        &[0, 0, 1, 0, 1],
+        bodies,
+        (),
+    );
     answered(run.is_err(), false)
 }
 

@@ -4,6 +4,7 @@ ghost use Rattle.std.specs.Prelude.{◌≡◌, ◌⊎◌, ◌<◌, ◌≤◌, �
 ghost use Rattle.std.specs.List.{AllByRecursion};
 ghost use Rattle.std.specs.Option.{option_map};
 ghost use Rattle.clap.specs.Walk.{texts as texts_of};
+ghost use Rattle.code.specs.IsCode.{IsCode};
 ghost use Rattle.hierarchy.specs.FirstFault.{LinksAs};
 ghost use Rattle.init_core.specs.ProcedureWord.{IsOfFiles};
 ghost use Rattle.interpreter.specs.CodeRun.{code_bodies, interpreter_at_start};
@@ -25,6 +26,7 @@ use crate::files::{Named, read_texts};
 use crate::orders::fits;
 use crate::trace_files::order_for;
 use bodies::{Limits, Report};
+use code::{Code, resolve};
 use command_line::Run;
 use guest_threads::{NoGate, RunFault, run_threads};
 use hierarchy::{ClassId, Edition, LinkFaultKind, Program, link_as};
@@ -142,10 +144,12 @@ pub(crate) fn mains_of<'a>(
 fn run_alone<'a>(
     alloc: Global,
     program: &Program,
+    code: &Code,
     main: ClassId,
     order: &[usize],
     limits: Limits,
 ) -> Result<Report, Fault<'a>>
+    requires code { IsCode code.now program.now }
     requires file { IsOfFiles program.now main }
     requires order { AllByRecursion (λ t. t < 1) order.now }
     ensures ran { IfOk result (IsOrderedRunOf program.now nothing_shared (code_bodies program.now) tt (interpreter_at_start 0 limits.steps ∷ []) (main ∷ []) order.now) }
@@ -153,7 +157,7 @@ fn run_alone<'a>(
 {
     let mut bodies = Vec::new(alloc);
     bodies.push(Interpreter::new(alloc, 0, limits.steps))?;
-    let report = run_ordered(alloc, program, &[main], order, bodies, ())?;
+    let report = run_ordered(alloc, program, code, &[main], order, bodies, ())?;
     Ok(report)
 }
 
@@ -161,14 +165,16 @@ fn run_alone<'a>(
 fn run_one<'a>(
     alloc: Global,
     program: &Program,
+    code: &Code,
     main: ClassId,
     limits: Limits,
 ) -> Result<Report, Fault<'a>>
-    requires { IsOfFiles program.now main }
+    requires code { IsCode code.now program.now }
+    requires file { IsOfFiles program.now main }
     ensures ran { IfOk result (IsRunBy true program.now (interpreter_at_start 0 limits.steps ∷ []) (main ∷ []) limits) }
     ensures refused { IfErr result (λ fault. fault ≡ Memory) }
 {
-    run_alone(alloc, program, main, &[], limits)
+    run_alone(alloc, program, code, main, &[], limits)
 }
 
 /// What runs the code of so many threads, which share one heap. Where it `sleeps`, a thread that waits for a monitor does so until
@@ -198,9 +204,11 @@ fn run_several<'a, R: Threads + Wait + Sync>(
     rt: &R,
     alloc: Global,
     program: &Program,
+    code: &Code,
     mains: &[ClassId],
     limits: Limits,
 ) -> Result<Report, Fault<'a>>
+    requires code { IsCode code.now program.now }
     requires mains { AreMains program.now mains.now }
     ensures ran { IfOk result (IsRunOf program.now (shared_bodies program.now) (starts_of mains.now limits) mains.now limits) }
     ensures refused { IfErr result (λ fault. (fault ≡ Memory) ⊎ (fault ≡ Threads)) }
@@ -208,7 +216,7 @@ fn run_several<'a, R: Threads + Wait + Sync>(
     let shared = SharedObjects::new(alloc);
     let sleeps = limits.patience == 0;
     let bodies = interpreters(rt, alloc, &shared, mains.len(), limits, sleeps)?;
-    match run_threads(rt, alloc, program, mains, bodies, limits, &NoGate) {
+    match run_threads(rt, alloc, program, code, mains, bodies, limits, &NoGate) {
         Ok(report) => Ok(report),
         Err(RunFault::NoMemory) => Err(Fault::Memory),
         Err(RunFault::NoThread) => Err(Fault::Threads),
@@ -220,17 +228,19 @@ fn run_unordered<'a, R: Threads + Wait + Sync>(
     rt: &R,
     alloc: Global,
     program: &Program,
+    code: &Code,
     mains: &[ClassId],
     limits: Limits,
 ) -> Result<Report, Fault<'a>>
+    requires code { IsCode code.now program.now }
     requires mains { AreMains program.now mains.now }
     ensures ran { IfOk result (IsRunBy (nat_lt (length mains.now) 2) program.now (starts_of mains.now limits) mains.now limits) }
     ensures refused { IfErr result (λ fault. (fault ≡ Memory) ⊎ (fault ≡ Threads)) }
 {
     if let [main] = mains {
-        return run_one(alloc, program, *main, limits);
+        return run_one(alloc, program, code, *main, limits);
     }
-    run_several(rt, alloc, program, mains, limits)
+    run_several(rt, alloc, program, code, mains, limits)
 }
 
 /// What runs the code of so many threads, of which one goes on at a time.
@@ -255,17 +265,20 @@ fn turn_interpreters(
 fn run_several_in_order<'a>(
     alloc: Global,
     program: &Program,
+    code: &Code,
     mains: &[ClassId],
     order: &[usize],
     limits: Limits,
 ) -> Result<Report, Fault<'a>>
+    requires code { IsCode code.now program.now }
     requires mains { AreMains program.now mains.now }
     requires order { AllByRecursion (λ t. t < length mains.now) order.now }
     ensures ran { IfOk result (IsOrderedRunOf program.now objects_lent (turn_bodies program.now) objects_at_start (starts_of mains.now limits) mains.now order.now) }
     ensures refused { IfErr result (λ fault. fault ≡ Memory) }
 {
     let bodies = turn_interpreters(alloc, mains.len(), limits)?;
-    let report = run_ordered(alloc, program, mains, order, bodies, Objects::new(alloc))?;
+    let objects = Objects::new(alloc);
+    let report = run_ordered(alloc, program, code, mains, order, bodies, objects)?;
     Ok(report)
 }
 
@@ -273,22 +286,24 @@ fn run_several_in_order<'a>(
 fn run_in_order<'a>(
     alloc: Global,
     program: &Program,
+    code: &Code,
     mains: &[ClassId],
     order: &[usize],
     limits: Limits,
 ) -> Result<Report, Fault<'a>>
+    requires code { IsCode code.now program.now }
     requires mains { AreMains program.now mains.now }
     requires order { AllByRecursion (λ t. t < length mains.now) order.now }
     ensures ran { IfOk result (IsOrderedRunBy (nat_lt (length mains.now) 2) program.now (starts_of mains.now limits) mains.now order.now) }
     ensures refused { IfErr result (λ fault. fault ≡ Memory) }
 {
     if let [main] = mains {
-        return run_alone(alloc, program, *main, order, limits);
+        return run_alone(alloc, program, code, *main, order, limits);
     }
-    run_several_in_order(alloc, program, mains, order, limits)
+    run_several_in_order(alloc, program, code, mains, order, limits)
 }
 
-/// Runs these main classes: in this order on the calling thread, or, where there is none, in any.
+/// Resolves the code of the classes and runs these main classes: in this order on the calling thread, or, where there is none, in any.
 fn run_mains<'a, R: Threads + Wait + Sync>(
     rt: &R,
     alloc: Global,
@@ -302,9 +317,10 @@ fn run_mains<'a, R: Threads + Wait + Sync>(
     ensures ran { IfOk result (IsRunOfMains program.now mains.now (numbers_of order.entry) limits) }
     ensures refused { IfErr result (λ fault. (fault ≡ Memory) ⊎ ((fault ≡ Threads) × (numbers_of order.entry ≡ None))) }
 {
+    let code = resolve(alloc, program)?;
     match order {
-        Some(order) => run_in_order(alloc, program, mains, order, limits),
-        None => run_unordered(rt, alloc, program, mains, limits),
+        Some(order) => run_in_order(alloc, program, &code, mains, order, limits),
+        None => run_unordered(rt, alloc, program, &code, mains, limits),
     }
 }
 

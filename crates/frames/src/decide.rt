@@ -9,7 +9,8 @@ use crate::ints::{decide_arithmetic, decide_bits};
 use crate::jumps::{decide_jump_on_one, decide_jump_on_two};
 use crate::moves::decide_move;
 use crate::values::decide_value;
-use hierarchy::{BuiltIn, Op};
+use code::Op;
+use hierarchy::BuiltIn;
 
 /// What an instruction comes to. All but `Done` leave the frame as it is.
 #[derive(Clone, Copy)]

@@ -10,7 +10,7 @@ use crate::cell::Cell;
 use crate::place::FramePlace;
 use crate::run::Stop;
 use crate::slot::Slot;
-use hierarchy::{MethodCode, Op};
+use code::{MethodCode, Op};
 use std::alloc::{AllocError, Global};
 use std::marker::Model;
 

@@ -9,8 +9,9 @@ use crate::cell::Cell;
 use crate::decide::{Flow, VERIFY};
 use crate::operands::{replace_top, replace_two, top_int, top_ints};
 use crate::words::{Arithmetic, Conversion, Division};
+use code::Op;
 use descriptors::BaseType;
-use hierarchy::{BuiltIn, Op};
+use hierarchy::BuiltIn;
 use statics::narrowed_int;
 
 #[inline(always)]

@@ -9,7 +9,7 @@ use crate::cell::Cell;
 use crate::decide::{Flow, VERIFY};
 use crate::operands::{drop_top, drop_two, top_int, top_ints, top_reference, top_references};
 use crate::words::Comparison::{self, Equal, Greater, Less, NotEqual, NotGreater, NotLess};
-use hierarchy::Op;
+use code::Op;
 
 #[inline(always)]
 pub(crate) fn holds(comparison: Comparison, a: i32, b: i32) -> bool

@@ -8,7 +8,7 @@ ghost use Rattle.frames.specs.Rows.{Decides, row, moves, popped, popped_two, dup
 use crate::cell::Cell;
 use crate::decide::{Flow, VERIFY};
 use crate::operands::push;
-use hierarchy::Op;
+use code::Op;
 
 /// `pop`
 #[inline(always)]

@@ -11,7 +11,7 @@ use crate::cell::Cell;
 use crate::operands::{push, replace_many};
 use crate::place::FramePlace;
 use crate::run::{Stop, run};
-use hierarchy::{MethodCode, Op};
+use code::{MethodCode, Op};
 use std::alloc::{AllocError, Global};
 use std::marker::Model;
 

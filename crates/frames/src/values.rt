@@ -8,7 +8,7 @@ ghost use Rattle.frames.specs.Rows.{Decides, row, gives, loads_int, loads_refere
 use crate::cell::Cell;
 use crate::decide::{Flow, VERIFY};
 use crate::operands::{drop_top, local_int, local_reference, push, top_int, top_reference};
-use hierarchy::Op;
+use code::Op;
 
 /// One operand more.
 #[inline(always)]

@@ -32,7 +32,7 @@ impl<'a, G: Gate, B: Bodies> Task<'a, G, B> {
         let last = work.procedure.last();
         let mut looks: u32 = 0;
         'asking: for _ in rt.forever() {
-            let does = work.bodies.next(self.alloc, self.program, last);
+            let does = work.bodies.next(self.alloc, self.program, self.code, last);
             let Does::Waits = does else {
                 return does;
             };

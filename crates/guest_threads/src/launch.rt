@@ -43,7 +43,7 @@ impl<'a> Model for Plan<'a> {
 
 /// What one thread begins with.
 #[derive(Drop)]
-pub struct Job<B: Bodies> {
+pub struct Job<B> {
     /// Its pass.
     pub pass: Pass<Guarded>,
     /// What runs its bodies.
@@ -52,7 +52,7 @@ pub struct Job<B: Bodies> {
 
 /// What the thread of a job promises: what [`work_from`] says, for the main class of its number.
 #[derive(Drop)]
-pub struct WorkOf<'a, B: Bodies> {
+pub struct WorkOf<'a, B> {
     plan: &'a Plan<'a>,
     job: Snapshot<Job<B>>,
 }
@@ -109,10 +109,12 @@ fn do_job<W: Wait, G: Gate, B: Bodies>(
     rt: &W,
     alloc: Global,
     plan: &Plan,
+    code: &B::Code,
     gate: &G,
     signals: &Signals,
     job: Job<B>,
 ) -> Worked
+    requires code { B.is_code code.now plan.now.program }
     requires plan { IsPlan plan.now }
     requires pass { MayWork plan.now job.pass }
     ensures { Did B.making plan.now job result }
@@ -129,6 +131,7 @@ fn do_job<W: Wait, G: Gate, B: Bodies>(
         rt,
         alloc,
         plan.program,
+        code,
         plan.table,
         plan.limits,
         gate,
@@ -145,10 +148,14 @@ fn start<'s, 'a: 's, E: 's, R: Threads + Wait + Sync, G: Gate + Sync, B: Bodies 
     rt: &'a R,
     alloc: Global,
     plan: &'a Plan<'a>,
+    code: &'a B::Code,
     gate: &'a G,
     signals: &'a Signals,
     job: Job<B>,
 ) -> Result<PromisedHandle<Worked, WorkOf<'a, B>>, RunFault>
+where
+    B::Code: Sync,
+    requires code { B.is_code code.now plan.now.program }
     requires plan { IsPlan plan.now }
     requires pass { MayWork plan.now job.pass }
     ensures plan { IfOk result (λ child. child.promise.plan.now ≡ plan.now) }
@@ -161,9 +168,9 @@ fn start<'s, 'a: 's, E: 's, R: Threads + Wait + Sync, G: Gate + Sync, B: Bodies 
     let started = scope.spawn_with(
         promise,
         move || -> Worked
-            requires { IsPlan plan.now × MayWork plan.now job.pass }
+            requires { IsPlan plan.now × MayWork plan.now job.pass × B.is_code code.now plan.now.program }
             ensures { Did B.making plan.entry.now job result }
-        { do_job(rt, alloc, plan, gate, signals, job) },
+        { do_job(rt, alloc, plan, code, gate, signals, job) },
     );
     match started {
         Ok(child) => Ok(child),
@@ -177,10 +184,14 @@ fn start_all<'s, 'a: 's, E: 's, R: Threads + Wait + Sync, G: Gate + Sync, B: Bod
     rt: &'a R,
     alloc: Global,
     plan: &'a Plan<'a>,
+    code: &'a B::Code,
     gate: &'a G,
     signals: &'a Signals,
     jobs: Vec<Job<B>>,
 ) -> Result<Vec<PromisedHandle<Worked, WorkOf<'a, B>>>, RunFault>
+where
+    B::Code: Sync,
+    requires code { B.is_code code.now plan.now.program }
     requires plan { IsPlan plan.now }
     requires passes { AllByRecursion (λ j. MayWork plan.now j.pass) jobs.items }
     ensures plan { IfOk result (λ children. AllByRecursion (λ h. h.promise.plan.now ≡ plan.now) children.items) }
@@ -188,7 +199,7 @@ fn start_all<'s, 'a: 's, E: 's, R: Threads + Wait + Sync, G: Gate + Sync, B: Bod
 {
     let mut children = Vec::with_capacity(alloc, jobs.len())?;
     'starting: for job in jobs {
-        let started = start(scope, rt, alloc, plan, gate, signals, job);
+        let started = start(scope, rt, alloc, plan, code, gate, signals, job);
         let Ok(child) = started else {
             signals.tell_start(false);
             return Err(RunFault::NoThread);
@@ -206,9 +217,13 @@ pub(crate) fn run_each<R: Threads + Wait + Sync, G: Gate + Sync, B: Bodies + Sen
     rt: &R,
     alloc: Global,
     plan: &Plan,
+    code: &B::Code,
     gate: &G,
     jobs: Vec<Job<B>>,
 ) -> Result<Vec<Worked>, RunFault>
+where
+    B::Code: Sync,
+    requires code { B.is_code code.now plan.now.program }
     requires plan { IsPlan plan.now }
     requires passes { AllByRecursion (λ j. MayWork plan.now j.pass) jobs.items }
     requires numbers { map (λ j. j.pass.number) jobs.items ≡ numbers 0 (length plan.now.mains) }
@@ -220,11 +235,11 @@ pub(crate) fn run_each<R: Threads + Wait + Sync, G: Gate + Sync, B: Bodies + Sen
         thread::scope_env(),
         rt,
         |scope| -> Result<Vec<Worked>, RunFault>
-            requires { IsPlan plan.now × AllByRecursion (λ j. MayWork plan.now j.pass) jobs.items }
+            requires { IsPlan plan.now × AllByRecursion (λ j. MayWork plan.now j.pass) jobs.items × B.is_code code.now plan.now.program }
             ensures { IfOk result (λ done. Pairs (Did B.making plan.entry.now) jobs.items done.items) }
         {
             let done = Vec::with_capacity(alloc, jobs.len())?;
-            let children = start_all(scope, rt, alloc, plan, gate, signals, jobs)?;
+            let children = start_all(scope, rt, alloc, plan, code, gate, signals, jobs)?;
             Ok(join_all(rt, children, done))
         },
     )

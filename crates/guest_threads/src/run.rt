@@ -60,7 +60,8 @@ fn prepared(alloc: Global, program: &Program) -> Result<Vec<Guarded>, AllocError
 
 /// Runs main classes, the thread of each on a host thread of its own: thread t is that of the t-th.
 ///
-/// The initializers that it runs, and `main`, are what the t-th of `bodies` says that they do.
+/// The initializers that it runs, and `main`, are what the t-th of `bodies` says that they do; `code` is the code of the program, as they have
+/// it.
 /// Each event gets a stamp from one counter as it is made. The events of all threads, in the order of their stamps, are a
 /// legal interleaving (JLS SE 8 12.4.2). A thread that is refused memory is ended by OutOfMemoryError, and one that looked as
 /// often as `limits.patience` allows at one lock or at one class in progress by InternalError; it ends the classes that it has
@@ -72,11 +73,15 @@ pub fn run_threads<R: Threads + Wait + Sync, G: Gate + Sync, B: Bodies + Send>(
     rt: &R,
     alloc: Global,
     program: &Program,
+    code: &B::Code,
     mains: &[ClassId],
     bodies: Vec<B>,
     limits: Limits,
     gate: &G,
 ) -> Result<Report, RunFault>
+where
+    B::Code: Sync,
+    requires code { B.is_code code.now program.now }
     requires mains { AreMains program.now mains.now }
     requires bodies { vec_len bodies ≡ length mains.now }
     ensures merged { IfOk result (λ report. AreMerged (length mains.now) report.events) }
@@ -91,6 +96,6 @@ pub fn run_threads<R: Threads + Wait + Sync, G: Gate + Sync, B: Bodies + Send>(
         mains,
         limits,
     };
-    let done = run_each(rt, alloc, &plan, gate, jobs)?;
+    let done = run_each(rt, alloc, &plan, code, gate, jobs)?;
     Ok(report::<B>(alloc, table, done)?)
 }

@@ -117,7 +117,8 @@ impl<'a, G: Gate, B: Bodies> Task<'a, G, B> {
         self.table
             .draw(&mut work.pass, Event::new(self.number, class, Kind::Runs));
         work.procedure.run_body();
-        work.bodies.start(self.alloc, self.program, class);
+        work.bodies
+            .start(self.alloc, self.program, self.code, class);
         work.slack -= 1;
         self.gate.at(&Event::new(self.number, class, Kind::Runs));
     }

@@ -17,9 +17,11 @@ use std::snapshot::Snapshot;
 
 /// What one thread is to do: its number and main class, and all that it works with.
 #[derive(Drop)]
-pub(crate) struct Task<'a, G, B> {
+pub(crate) struct Task<'a, G, B: Bodies> {
     pub alloc: Global,
     pub program: &'a Program,
+    /// The program's code, as the bodies have it.
+    pub code: &'a B::Code,
     pub table: &'a InitTable<Guarded>,
     pub limits: Limits,
     pub gate: &'a G,
@@ -30,12 +32,14 @@ pub(crate) struct Task<'a, G, B> {
     pub start: Snapshot<B>,
 }
 
-impl<'a, G, B> Model for Task<'a, G, B> {
+impl<'a, G, B: Bodies> Model for Task<'a, G, B> {
     ghost use Rattle.guest_threads.specs.Tasks.{TaskFacts};
 
     ghost Value = { TaskFacts B };
 
     ghost view = { λ k. record { program = k.program.now; table = k.table.now; limits = k.limits; number = k.number; main = k.main; start = k.start.value } };
+
+    ghost invariant = { λ k. B.is_code k.code.now k.program.now };
 }
 
 /// Where the work of a thread stands.

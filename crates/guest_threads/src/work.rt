@@ -112,7 +112,8 @@ impl<'a, G: Gate, B: Bodies> Task<'a, G, B> {
         let Outcome::Normal = outcome else {
             return Some(outcome);
         };
-        work.bodies.enter(self.alloc, self.program, self.main);
+        work.bodies
+            .enter(self.alloc, self.program, self.code, self.main);
         work.procedure.forget_last();
         work.in_main = true;
         None
@@ -163,6 +164,7 @@ pub(crate) fn work_from<W: Wait, G: Gate, B: Bodies>(
     rt: &W,
     alloc: Global,
     program: &Program,
+    code: &B::Code,
     table: &InitTable<Guarded>,
     limits: Limits,
     gate: &G,
@@ -171,6 +173,7 @@ pub(crate) fn work_from<W: Wait, G: Gate, B: Bodies>(
     pass: Pass<Guarded>,
     bodies: B,
 ) -> Worked
+    requires code { B.is_code code.now program.now }
     requires main { IsOfFiles program.now main }
     requires begins { MayBegin program.now table.now pass }
     ensures number { result.pass.number ≡ pass.number }
@@ -187,6 +190,7 @@ pub(crate) fn work_from<W: Wait, G: Gate, B: Bodies>(
     let task = Task {
         alloc,
         program,
+        code,
         table,
         limits,
         gate,
@@ -214,7 +218,7 @@ pub(crate) fn work_from<W: Wait, G: Gate, B: Bodies>(
 /// class while they have records of the same table in hand: what they hold, have begun or published is what the class meets.
 /// The table is over a prepared [`Guarded`] for each class of the program, and `pass` is one of its passes, with which nothing was
 /// done yet. The pass comes back with the events of the thread in its journal, in the order in which they were made, and with
-/// no record.
+/// no record. `code` is the code of the program, as the bodies have it.
 ///
 /// At a lock that another pass has, and at a class that another thread has in progress, it looks as often as
 /// `limits.patience` allows, and is then ended by InternalError. With patience 0 it waits without limit: at the lock until the
@@ -224,6 +228,7 @@ pub fn run_one<W: Wait, G: Gate, B: Bodies>(
     rt: &W,
     alloc: Global,
     program: &Program,
+    code: &B::Code,
     table: &InitTable<Guarded>,
     limits: Limits,
     gate: &G,
@@ -231,6 +236,7 @@ pub fn run_one<W: Wait, G: Gate, B: Bodies>(
     pass: Pass<Guarded>,
     bodies: B,
 ) -> Worked
+    requires code { B.is_code code.now program.now }
     requires main { IsOfFiles program.now main }
     requires begins { MayBegin program.now table.now pass }
     ensures number { result.pass.number ≡ pass.number }
@@ -239,6 +245,6 @@ pub fn run_one<W: Wait, G: Gate, B: Bodies>(
 {
     let signals = Signals::new();
     work_from(
-        rt, alloc, program, table, limits, gate, &signals, main, pass, bodies,
+        rt, alloc, program, code, table, limits, gate, &signals, main, pass, bodies,
     )
 }

@@ -4,7 +4,7 @@ use Rattle.std.proofs.lemmas.Bool.Decides.{nat_tests}
 use Rattle.std.proofs.lemmas.List.{set_past, set-get_or}
 use Rattle.std.proofs.lemmas.Option.{get_or_from_slice_get, slice_get_past}
 use Rattle.std.specs.Prelude.{slice_get}
-use Rattle.hierarchy.specs.declared.code.ResolvedType.{ResolvedType}
+use Rattle.code.specs.declared.class_code.ResolvedType.{ResolvedType}
 use Rattle.hierarchy.specs.declared.value.Value.{Value}
 use Rattle.hierarchy.specs.LinkedProgram.{LinkedProgram}
 use Rattle.hierarchy.specs.Objects.{objects_at_start}

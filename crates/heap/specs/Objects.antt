@@ -4,9 +4,9 @@ use Rattle.descriptors.specs.declared.base.BaseType.{BaseType}
 use Rattle.hierarchy.specs.declared.built_in.BuiltIn.{BuiltIn}
 use Rattle.hierarchy.specs.declared.built_in.BuiltIn.TheVariants.{String, PrintStream, OutOfMemoryError, NoClassDefFoundError}
 use Rattle.hierarchy.specs.declared.class.ClassId.{ClassId}
-use Rattle.hierarchy.specs.declared.code.Element.{Element}
-use Rattle.hierarchy.specs.declared.code.Element.TheVariants as element
-use Rattle.hierarchy.specs.declared.code.ResolvedType.{ResolvedType}
+use Rattle.code.specs.declared.class_code.Element.{Element}
+use Rattle.code.specs.declared.class_code.Element.TheVariants as element
+use Rattle.code.specs.declared.class_code.ResolvedType.{ResolvedType}
 use Rattle.hierarchy.specs.declared.ready.ReadyObject.{ReadyObject}
 use Rattle.hierarchy.specs.declared.ready.ReadyObject.TheVariants as ready
 use Rattle.hierarchy.specs.declared.value.Value.{Value}

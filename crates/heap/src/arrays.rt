@@ -6,7 +6,8 @@ ghost use Rattle.heap.specs.Objects.{cells_of_all};
 
 use crate::Heap;
 use crate::object::HeapObject;
-use hierarchy::{Program, ResolvedType, Value};
+use code::ResolvedType;
+use hierarchy::{Program, Value};
 
 /// Writes an element of the array at a place, if there is one.
 fn put_item(made: &mut Vec<HeapObject>, place: usize, index: usize, value: Value) -> bool

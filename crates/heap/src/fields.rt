@@ -7,7 +7,8 @@ ghost use Rattle.heap.specs.Objects.{cells_of_all};
 use crate::Heap;
 use crate::object::HeapObject;
 use crate::types::{default_of, kept_by};
-use hierarchy::{Program, ResolvedType, Value};
+use code::ResolvedType;
+use hierarchy::{Program, Value};
 
 /// Writes a cell of the object at a place, if there is one.
 fn put_cell(made: &mut Vec<HeapObject>, place: usize, cell: usize, value: Value) -> bool

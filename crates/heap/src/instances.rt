@@ -1,13 +1,14 @@
 //! Which types references fit.
 
 ghost use Rattle.std.specs.Prelude.{◌≡◌, ◌↔◌, IsTrue};
-ghost use Rattle.hierarchy.specs.declared.code.Element.TheVariants as kinds;
+ghost use Rattle.code.specs.declared.class_code.Element.TheVariants as kinds;
 ghost use Rattle.heap.specs.Instances.{Fits, IsAny, IsArrayOf, IsElementBelow, IsInstance, IsOfClass, IsOfObjects, IsOfType, IsThere, class_at_reference, class_of_object};
 ghost use Rattle.heap.specs.Objects.{object_at};
 
 use crate::object::HeapObject;
 use crate::{Heap, ready_class};
-use hierarchy::{BuiltIn, ClassId, Element, Program, ResolvedType};
+use code::{Element, ResolvedType};
+use hierarchy::{BuiltIn, ClassId, Program};
 
 /// Whether a class is a subtype of what a type is made of.
 fn is_class_below(program: &Program, class: ClassId, wanted: Element) -> bool

@@ -8,8 +8,9 @@ use crate::Heap;
 use crate::cells::Cells;
 use crate::object::HeapObject;
 use crate::types::default_of;
+use code::ResolvedType;
 use frames::Thrown;
-use hierarchy::{BuiltIn, ClassId, Program, ResolvedType};
+use hierarchy::{BuiltIn, ClassId, Program};
 use std::alloc::AllocError;
 
 /// The heap has so many cells.

@@ -5,7 +5,8 @@ ghost use Rattle.heap.specs.Contents.{cell_in, element_in, has_cell, has_element
 
 use crate::cells::Cells;
 use crate::types::kept_by;
-use hierarchy::{ClassId, ResolvedType, Value};
+use code::ResolvedType;
+use hierarchy::{ClassId, Value};
 
 /// An object or an array that was made while the program runs.
 #[derive(Drop)]

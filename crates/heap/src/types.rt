@@ -4,8 +4,9 @@ ghost use Rattle.std.specs.Prelude.{◌≡◌};
 ghost use Rattle.heap.specs.Contents.{kept_by_type};
 ghost use Rattle.heap.specs.Objects.{base_of_type, default_of_type};
 
+use code::{Element, ResolvedType};
 use descriptors::BaseType;
-use hierarchy::{Element, ResolvedType, Value};
+use hierarchy::Value;
 use statics::narrowed;
 
 /// The base type that a type is, if it is one.

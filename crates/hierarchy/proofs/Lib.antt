@@ -5,7 +5,6 @@ pub mod CellTables
 pub mod ClassMembership
 pub mod ClassNames
 pub mod ClassSets
-pub mod CodeOfClasses
 pub mod Counts
 pub mod CoveredLists
 pub mod DeclaredMembers
@@ -15,25 +14,23 @@ pub mod Enumerations
 pub mod FieldOrders
 pub mod FinishedLists
 pub mod FirstGiven
-mod Gotten
+pub mod Gotten
 pub mod InRange
 pub mod InheritedLists
 pub mod Linked
-mod Made
+pub mod Made
 pub mod MemberOrder
 pub mod MemberPlaces
 pub mod Named
 pub mod ObjectCells
-pub mod OpTargets
 pub mod PlaceTables
 pub mod Positions
 pub mod ProvedByLinking
 pub mod Resolved
 pub mod Searches
-pub mod SelectionTables
 pub mod SmallNumbers
 pub mod SpellableMembers
-mod StaticMembers
+pub mod StaticMembers
 pub mod Subtypes
 pub mod Superclasses
 pub mod TextLists

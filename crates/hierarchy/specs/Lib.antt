@@ -3,7 +3,6 @@ pub mod BuiltIn
 pub mod BuiltInMethods
 pub mod ClassLists
 pub mod ClassNumbers
-pub mod Code
 pub mod DeclaredMembers
 pub mod Fields
 pub mod FinishedLists
@@ -20,14 +19,12 @@ pub mod Members
 pub mod MethodResolution
 pub mod Methods
 pub mod Objects
-pub mod OpTargets
-pub mod Ops
 pub mod OwnNames
 pub mod Quoted
 pub mod Searched
 pub mod Selection
-pub mod SelectionTable
 pub mod SpellableClass
+pub mod StaticFields
 pub mod Subclasses
 pub mod Superinterfaces
 pub mod Supertypes

@@ -1,11 +1,9 @@
 -- What a program keeps beside its classes.
-use Rattle.std.specs.Prelude.{◌≡◌, ℕ, ◌≤◌, List, Some, length, slice_get}
+use Rattle.std.specs.Prelude.{◌≡◌, ◌≤◌, List, length}
 use Rattle.hierarchy.specs.declared.class.Class.{Class}
-use Rattle.hierarchy.specs.declared.code.ClassCode.{ClassCode}
 use Rattle.hierarchy.specs.declared.tables.Tables.{Tables}
 use Rattle.hierarchy.specs.ClassLists.{distinct}
-use Rattle.hierarchy.specs.Code.{code_at}
-use Rattle.hierarchy.specs.LinkedProgram.{LinkedProgram, linked}
+use Rattle.hierarchy.specs.LinkedProgram.{linked}
 use Rattle.hierarchy.specs.Superinterfaces.{IsTable, superinterfaces}
 use Rattle.hierarchy.specs.Fields.{field_order}
 use Rattle.hierarchy.specs.InheritedLists.{inherited}
@@ -22,7 +20,3 @@ pub record AreTables (classes : List Class) (t : Tables) : Type 0 where
   pub cells : cells_of classes ≤ 1000000
   pub object_cells : IsTable (λ c. length (object_fields (linked classes) c)) (length classes) t.object_cells.items
   pub members : HavePlaces classes t.members.items
-
--- each entry is that of its class
-abbrev pub AreCodeOf : LinkedProgram → List ClassCode → Type 0
-AreCodeOf p code = (n : ℕ) (found : ClassCode) → slice_get code n ≡ Some found → code_at p n ≡ Some found

@@ -1,7 +1,7 @@
 //! Field resolution.
 
 ghost use Rattle.std.specs.Prelude.{◌≡◌, ◌≤◌, filter, length};
-ghost use Rattle.hierarchy.specs.Ops.{is_static_field};
+ghost use Rattle.hierarchy.specs.StaticFields.{is_static_field};
 ghost use Rattle.hierarchy.specs.Ancestry.{first_given, superclasses};
 ghost use Rattle.hierarchy.specs.ClassNumbers.{classes_in};
 ghost use Rattle.hierarchy.specs.MemberOrder.{key_of_field, AreSortedPlaces};

@@ -8,8 +8,7 @@
 //! Contracts see a program as one value, the list of its linked classes and the edition. In every program each way up
 //! the hierarchy ends, which [`Program::is_linked`] says. What linking found out beside the classes, as the
 //! superinterfaces of each and the classes in which its fields are looked up, is kept in the program and is no part
-//! of that value: so no call goes up the hierarchy by more than one way, that of the superclasses, and what is
-//! resolved later can be kept there too.
+//! of that value: so no call goes up the hierarchy by more than one way, that of the superclasses.
 //!
 //! Members are found by [`Program::resolve_field`] and [`Program::resolve_method`], and the method that a call
 //! runs by [`Program::select_for`], or by name with [`Program::select`]; a [`FieldId`] or a [`MethodId`] names the class that declares it, and its place there.
@@ -22,16 +21,12 @@
 mod assembly;
 pub mod built_in;
 pub mod built_in_method;
-mod call_ops;
 pub mod class;
-mod class_code;
 pub mod class_list;
 mod class_set;
-pub mod code;
 pub mod declared_method;
 pub mod edition;
 pub mod fault;
-mod field_ops;
 mod field_order;
 pub mod fields;
 mod finished_lists;
@@ -44,19 +39,15 @@ pub mod methods;
 mod naming;
 mod object_cells;
 pub mod objects;
-pub mod op;
-mod ops;
 mod order;
 pub mod program;
 mod quoted;
 pub mod ready;
 pub mod selection;
-mod selection_table;
 mod subtype;
 mod supertype_names;
 mod supertypes;
 mod tables;
-mod type_ops;
 mod upward;
 pub mod value;
 mod walk;
@@ -65,19 +56,17 @@ pub use built_in::{BUILT_IN_COUNT, BuiltIn};
 pub use built_in_method::{BuiltInMethod, Printed};
 pub use class::{Class, ClassId};
 pub use class_list::ClassList;
-pub use code::{ClassCode, Element, MethodCode, ResolvedType};
 pub use declared_method::MethodId;
 pub use edition::Edition;
 pub use fault::{LinkFault, LinkFaultKind};
 pub use fields::{FieldId, FieldKind, static_count};
 pub use laws::{
-    classes_are_found_by_name, fields_keep_their_cells, instructions_name_what_is_there,
-    members_are_looked_up_upward, members_have_own_descriptors, texts_have_own_references,
-    throwables_are_subclasses,
+    classes_are_found_by_name, fields_keep_their_cells, members_are_looked_up_upward,
+    members_have_own_descriptors, texts_have_own_references, throwables_are_subclasses,
 };
 pub use linking::{link, link_as};
 pub use methods::Invoke;
-pub use op::{ElementKind, Op};
+pub use objects::instance_count;
 pub use program::Program;
 pub use ready::ReadyObject;
 pub use selection::Call;

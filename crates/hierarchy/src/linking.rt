@@ -12,23 +12,18 @@ ghost use Rattle.hierarchy.specs.Members.{repeats_member};
 ghost use Rattle.hierarchy.specs.Objects.{HaveFewFields};
 ghost use Rattle.hierarchy.specs.MemberPlaces.{HavePlaces};
 ghost use Rattle.hierarchy.specs.Tables.{AreTables};
-ghost use Rattle.hierarchy.specs.Code.{code_of as code_of_program};
-ghost use Rattle.hierarchy.specs.SelectionTable.{AreSelectionsOf};
 ghost use Rattle.hierarchy.specs.Linking.{names_of, kinds_of, IsFirst};
 ghost use Rattle.hierarchy.specs.FirstFault.{HasNames, IsNameFault, HasNoCycle, HasDistinctMembers, FitsHeap, IsClassFault, IsFirstFault, LinksAs, LinksTo, IsMemory, name_in_text, name_in_class};
 ghost use Rattle.hierarchy.specs.declared.fault.LinkFaultKind.TheVariants as because;
 
 use crate::assembly::linked_classes;
 use crate::class::{Class, ClassId};
-use crate::class_code::code_of;
-use crate::code::ClassCode;
 use crate::edition::Edition;
 use crate::fault::{LinkFault, LinkFaultKind};
 use crate::member_places::{MemberPlaces, MemberSearch, search_members};
 use crate::naming::{first_repeated, first_reserved, kinds};
 use crate::program::Program;
 use crate::quoted::first_beyond_heap;
-use crate::selection_table::{Selections, selections_of};
 use crate::tables::{Tables, tables_with};
 use crate::upward::{SearchResult, search};
 use descriptors::ClassName;
@@ -202,37 +197,6 @@ fn name_of_class(classes: Vec<Class>, place: usize) -> ClassName
     classes.swap_remove(place).name
 }
 
-/// What running classes needs, and the methods that their calls run.
-#[derive(Drop)]
-struct Resolution {
-    code: Vec<ClassCode>,
-    selections: Selections,
-}
-
-fn resolve(alloc: Global, program: &Program) -> Result<Resolution, AllocError>
-    ensures code { IfOk result (λ made. made.code.items ≡ code_of_program program.now) }
-    ensures selections { IfOk result (λ made. AreSelectionsOf program.now made.selections.items) }
-{
-    let code = code_of(alloc, program)?;
-    let selections = selections_of(alloc, program, &code)?;
-    Ok(Resolution { code, selections })
-}
-
-/// The program with what running its classes needs, their instructions resolved.
-fn resolved(alloc: Global, program: Program) -> Result<Program, LinkFault>
-    requires some { 0 < length program.classes }
-    ensures same { IfOk result (λ made. made ≡ program) }
-    ensures fault { IfErr result IsMemory }
-{
-    match resolve(alloc, &program) {
-        Ok(Resolution { code, selections }) => Ok(program.with_code(code, selections)),
-        Err(_) => Err(LinkFault {
-            kind: LinkFaultKind::NoMemory,
-            class: name_of_class(program.into_classes(), 0),
-        }),
-    }
-}
-
 /// The program of classes whose supertypes' names are resolved.
 fn program_of(
     alloc: Global,
@@ -250,7 +214,7 @@ fn program_of(
     ensures fault { IfErr result (λ f. IsMemory f ⊎ ((i : ℕ) × IsClassFault classes.items f.kind i × (name_in_class (slice_get classes.items i) ≡ Some f.class))) }
 {
     match tables_of(alloc, &classes) {
-        Ok(tables) => resolved(alloc, Program::new(alloc, classes, edition, names, tables)),
+        Ok(tables) => Ok(Program::new(classes, edition, names, tables)),
         Err(at) => Err(LinkFault {
             kind: at.kind,
             class: name_of_class(classes, at.place),

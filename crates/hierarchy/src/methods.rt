@@ -57,8 +57,8 @@ pub(crate) fn is_init(name: &[u8]) -> bool
 }
 
 impl Program {
-    /// Class or interface. The built-in ones are classes.
-    pub(crate) fn kind_of(&self, id: ClassId) -> ClassKind
+    /// Whether a class is a class or an interface. The built-in ones are classes. Takes no memory.
+    pub fn kind_of(&self, id: ClassId) -> ClassKind
         ensures { result ≡ kind_of self.now id }
     {
         match self.class(id) {

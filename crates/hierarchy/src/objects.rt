@@ -1,15 +1,14 @@
 //! The cells of objects.
 
 ghost use Rattle.std.specs.Prelude.{◌≡◌, ◌≤◌, filter, length};
-ghost use Rattle.hierarchy.specs.Objects.{is_instance_field, object_fields, cells_in};
-ghost use Rattle.hierarchy.specs.Ancestry.{superclass_of};
+ghost use Rattle.hierarchy.specs.Objects.{is_instance_field, object_fields};
 
 use crate::class::ClassId;
 use crate::program::Program;
 use jasmin_text::Field;
 
-/// How many of these are instance fields.
-pub(crate) fn instance_count(fields: &[Field]) -> usize
+/// How many of these fields are instance fields. Takes no memory.
+pub fn instance_count(fields: &[Field]) -> usize
     ensures count { result ≡ length (filter is_instance_field fields.now) }
     ensures within { result ≤ length fields.now }
 {
@@ -33,16 +32,5 @@ impl Program {
     {
         self.is_linked();
         self.kept_cells(id)
-    }
-
-    /// How many cells an object of the superclass has.
-    pub(crate) fn cells_above(&self, id: ClassId) -> usize
-        ensures cells { result ≡ cells_in self.now (superclass_of self.now.classes id) }
-        ensures within { result ≤ 2000000 }
-    {
-        match self.superclass(id) {
-            Some(superclass) => self.object_cells(superclass),
-            None => 0,
-        }
     }
 }

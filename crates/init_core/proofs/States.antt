@@ -11,7 +11,7 @@ use Rattle.hierarchy.specs.declared.class.ClassId.{ClassId}
 use Rattle.hierarchy.specs.LinkedProgram.{LinkedProgram, class_at}
 use Rattle.hierarchy.specs.LinkedTexts.{IsLinked}
 use Rattle.hierarchy.proofs.ObjectCells.{few_own}
-use Rattle.hierarchy.specs.Ops.{is_static_field}
+use Rattle.hierarchy.specs.StaticFields.{is_static_field}
 use Rattle.statics.specs.Statics.{default_of, static_field, static_fields, static_fields_in, statics_of}
 use Rattle.init_core.specs.declared.event.Event.{Event}
 use Rattle.init_core.specs.declared.event.Kind.{Kind}

@@ -24,12 +24,12 @@ use Rattle.hierarchy.specs.declared.class.Class.{Class}
 use Rattle.hierarchy.specs.declared.class.ClassId.{ClassId}
 use Rattle.hierarchy.specs.declared.value.Value.{Value}
 use Rattle.hierarchy.specs.declared.value.Value.TheVariants as value
-use Rattle.hierarchy.specs.Code.{class_code, element_by_kind, element_named, element_of, resolved_type}
+use Rattle.code.specs.Code.{class_code, element_by_kind, element_named, element_of, resolved_type}
 use Rattle.hierarchy.specs.LinkedProgram.{LinkedProgram, class_at, class_named}
 use Rattle.hierarchy.specs.MethodResolution.{kind_of}
 use Rattle.hierarchy.specs.SpellableClass.{IsSpellableClass}
 use Rattle.statics.specs.Statics.{base_in, base_of_element, constant_value, kept_by, kept_in, narrowed, narrowed_int, referred, signed_low, static_field, static_fields_in, statics_of}
-use Rattle.hierarchy.specs.Ops.{is_static_field}
+use Rattle.hierarchy.specs.StaticFields.{is_static_field}
 use Rattle.init_core.specs.ProgramEvents.{IsHeldBy, IsValueOf}
 use Rattle.bodies.specs.Doing.{HoldsConstant}
 use Rattle.frames.specs.declared.cell.Cell.{Cell}
@@ -42,7 +42,7 @@ use Rattle.interpreter.specs.declared.phase.Phase.{Phase}
 use Rattle.interpreter.specs.declared.phase.Phase.TheVariants.{Ready}
 use Rattle.bodies.specs.declared.does.Does.TheVariants as does
 use Rattle.hierarchy.specs.LinkedTexts.{IsLinked}
-use Rattle.hierarchy.specs.OpTargets.{NamesStaticField}
+use Rattle.code.specs.OpTargets.{NamesStaticField}
 use Rattle.hierarchy.specs.OwnNames.{fields_in}
 use Rattle.hierarchy.proofs.ProvedByLinking.{linked_spellable}
 use Rattle.std.proofs.lemmas.List.{length-map}

@@ -1,14 +1,19 @@
 //! Which steps ask nothing of the heap and the monitors: a thread that shares these with others makes such a step without them.
 
+ghost use Rattle.code.specs.IsCode.{IsCode};
+
 use crate::interpreter::Interpreter;
 use crate::lead::{Lead, lead_of};
+use code::{Code, MethodCode, Op};
 use frames::{FramePlace, Stop};
-use hierarchy::{MethodCode, Op, Program};
+use hierarchy::Program;
 
 impl Interpreter {
     /// Whether the instruction for which a class was made ready makes and throws no object.
-    pub(crate) fn resumes_alone(&self, program: &Program) -> bool {
-        self.frames.len() < 512 && !matches!(self.op(program), Some(Op::New(_)))
+    pub(crate) fn resumes_alone(&self, program: &Program, resolved: &Code) -> bool
+        requires code { IsCode resolved.now program.now }
+    {
+        self.frames.len() < 512 && !matches!(self.op(program, resolved), Some(Op::New(_)))
     }
 
     /// Whether what comes after the instructions that the innermost frame did by itself asks nothing of the heap and the monitors: an
@@ -17,10 +22,13 @@ impl Interpreter {
     pub(crate) fn goes_on_alone(
         &self,
         program: &Program,
+        resolved: &Code,
         at: FramePlace,
         code: &MethodCode,
         stop: Stop,
-    ) -> bool {
+    ) -> bool
+        requires code { IsCode resolved.now program.now }
+    {
         let Stop::LeadsOut(op) = stop else {
             return false;
         };
@@ -29,7 +37,7 @@ impl Interpreter {
             Op::Switch | Op::Return | Op::ReturnInt => {}
             _ => return false,
         }
-        match lead_of(&self.frames, &self.heap, program, at, code, op) {
+        match lead_of(&self.frames, &self.heap, program, resolved, at, code, op) {
             Some(Lead::Uses(_)) | Some(Lead::Jumps(_)) => true,
             Some(Lead::Returns(_)) => self.taken_here().is_none(),
             _ => false,

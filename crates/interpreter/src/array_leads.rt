@@ -8,10 +8,11 @@ ghost use Rattle.interpreter.specs.ArrayLeads.{IsStorable, Stores, StoresIn, ele
 use crate::fitting::{cell_of, value_of};
 use crate::index::Index;
 use crate::lead::{Lead, VERIFY};
+use code::{Element, ElementKind, ResolvedType};
 use descriptors::BaseType;
 use frames::Cell;
 use heap::Heap;
-use hierarchy::{BuiltIn, Element, ElementKind, Program, ResolvedType, Value};
+use hierarchy::{BuiltIn, Program, Value};
 
 pub(crate) fn new_array(element: ResolvedType, length: Index) -> Lead
     ensures { result ≡ new_array_lead element length }

@@ -1,6 +1,7 @@
 //! What calls of instance methods come to (JVMS SE 8 6.5 invokevirtual, invokespecial, invokeinterface).
 
 ghost use Rattle.std.specs.Prelude.{◌≡◌, IfSome, Some, option_copied};
+ghost use Rattle.code.specs.IsCode.{IsCode};
 ghost use Rattle.hierarchy.specs.declared.built_in.BuiltIn.TheVariants.{Object};
 ghost use Rattle.hierarchy.specs.declared.declared_method.MethodId.TheVariants as method_id;
 ghost use Rattle.interpreter.specs.CallLeads.{CallsBy, CallsInterface, HasReceiver, built_in_lead, enters_lead, init_types, interface_lead, parameters_at, receiver_of, reference_at as reference_at_place, selected_by, selected_lead, init_lead, virtual_lead};
@@ -12,9 +13,10 @@ use crate::fitting::{built_in_type, is_callable_on, is_of_class};
 use crate::lead::{Lead, NULL, VERIFY, id};
 use crate::methods::{instruction_at, method_code};
 use crate::print_leads::print;
+use code::{Code, ResolvedType};
 use frames::{Cell, FramePlace, Frames};
 use heap::Heap;
-use hierarchy::{BuiltIn, BuiltInMethod, Call, MethodId, Program, ResolvedType};
+use hierarchy::{BuiltIn, BuiltInMethod, Call, MethodId, Program};
 use jasmin_text::{Instruction, MethodReference};
 
 /// What a call at a place names.
@@ -46,11 +48,18 @@ fn selected(
     }
 }
 
-/// A method is called with its receiver and its arguments, which must fit its locals; none where the program's code isn't resolved.
-fn entered(program: &Program, class: usize, method: usize, receiver: u32) -> Option<Lead>
+/// A method is called with its receiver and its arguments, which must fit its locals; none where there is no such method.
+fn entered(
+    program: &Program,
+    resolved: &Code,
+    class: usize,
+    method: usize,
+    receiver: u32,
+) -> Option<Lead>
+    requires code { IsCode resolved.now program.now }
     ensures { IfSome result (λ l. l ≡ enters_lead (method_at program.now class method) class method receiver) }
 {
-    let callee = method_code(program, class, method)?;
+    let callee = method_code(program, resolved, class, method)?;
     let count = callee.parameters.len();
     if count < callee.locals as usize {
         Some(Lead::Calls(class, method, count + 1, receiver))
@@ -72,12 +81,24 @@ fn built_in(method: BuiltInMethod) -> Lead
     }
 }
 
-fn run(program: &Program, selected: Result<MethodId, BuiltIn>, receiver: u32) -> Option<Lead>
+fn run(
+    program: &Program,
+    resolved: &Code,
+    selected: Result<MethodId, BuiltIn>,
+    receiver: u32,
+) -> Option<Lead>
+    requires code { IsCode resolved.now program.now }
     ensures { IfSome result (λ l. l ≡ selected_lead program.now selected receiver) }
 {
     match selected {
         Err(error) => Some(Lead::Throws(error)),
-        Ok(MethodId::Declared(class, method)) => entered(program, class.number, method, receiver),
+        Ok(MethodId::Declared(class, method)) => entered(
+            program,
+            resolved,
+            class.number,
+            method,
+            receiver,
+        ),
         Ok(MethodId::BuiltIn(_, method)) => Some(built_in(method)),
     }
 }
@@ -86,16 +107,18 @@ fn run(program: &Program, selected: Result<MethodId, BuiltIn>, receiver: u32) ->
 fn run_init(
     heap: &Heap,
     program: &Program,
+    resolved: &Code,
     at: FramePlace,
-    resolved: MethodId,
+    named: MethodId,
     receiver: u32,
 ) -> Option<Lead>
-    ensures { IfSome result (λ l. l ≡ init_lead program.now heap.now at resolved receiver) }
+    requires code { IsCode resolved.now program.now }
+    ensures { IfSome result (λ l. l ≡ init_lead program.now heap.now at named receiver) }
 {
     match heap.class_of(program, receiver) {
         Some(class) => {
-            let selected = selected(program, at, Call::Virtual(class), resolved);
-            run(program, selected, receiver)
+            let selected = selected(program, at, Call::Virtual(class), named);
+            run(program, resolved, selected, receiver)
         }
         None => Some(VERIFY),
     }
@@ -105,16 +128,19 @@ fn run_init(
 fn run_virtual(
     heap: &Heap,
     program: &Program,
+    resolved: &Code,
     class: u16,
     method: u16,
     receiver: u32,
 ) -> Option<Lead>
+    requires code { IsCode resolved.now program.now }
     ensures { IfSome result (λ l. l ≡ virtual_lead program.now heap.now class method receiver) }
 {
     match heap.class_of(program, receiver) {
         Some(held) => {
-            let selected = program.select_for(Call::Virtual(held), id(class), method as usize);
-            run(program, selected, receiver)
+            let call = Call::Virtual(held);
+            let found = resolved.select_for(program, call, id(class), method as usize);
+            run(program, resolved, found, receiver)
         }
         None => Some(VERIFY),
     }
@@ -124,11 +150,13 @@ fn run_virtual(
 fn run_interface(
     heap: &Heap,
     program: &Program,
+    resolved: &Code,
     class: u16,
     method: u16,
     implements: bool,
     receiver: u32,
 ) -> Option<Lead>
+    requires code { IsCode resolved.now program.now }
     ensures { IfSome result (λ l. l ≡ interface_lead program.now heap.now class method implements receiver) }
 {
     if !implements {
@@ -136,8 +164,13 @@ fn run_interface(
     }
     match heap.class_of(program, receiver) {
         Some(held) => {
-            let selected = program.select_for(Call::Interface(held), id(class), method as usize);
-            run(program, selected, receiver)
+            let selected = resolved.select_for(
+                program,
+                Call::Interface(held),
+                id(class),
+                method as usize,
+            );
+            run(program, resolved, selected, receiver)
         }
         None => Some(VERIFY),
     }
@@ -180,11 +213,17 @@ fn find_receiver(
     receiver_by(callable, frames.operand(types.len()))
 }
 
-/// The types of a method's parameters; none where the program's code isn't resolved.
-fn parameters(program: &Program, class: u16, method: u16) -> Option<&[ResolvedType]>
+/// The types of a method's parameters; none where there is no such method.
+fn parameters<'c>(
+    program: &Program,
+    resolved: &'c Code,
+    class: u16,
+    method: u16,
+) -> Option<&'c [ResolvedType]>
+    requires code { IsCode resolved.now program.now }
     ensures { IfSome result (λ types. types.now ≡ parameters_at program.now class method) }
 {
-    let callee = method_code(program, class as usize, method as usize)?;
+    let callee = method_code(program, resolved, class as usize, method as usize)?;
     Some(callee.parameters.as_slice())
 }
 
@@ -192,17 +231,19 @@ pub(crate) fn call_virtual(
     frames: &Frames,
     heap: &Heap,
     program: &Program,
+    resolved: &Code,
     named: u16,
     class: u16,
     method: u16,
 ) -> Option<Lead>
+    requires code { IsCode resolved.now program.now }
     ensures { IfSome result (CallsBy program.now heap.now frames.now named (parameters_at program.now class method) (virtual_lead program.now heap.now class method)) }
 {
-    let types = parameters(program, class, method)?;
+    let types = parameters(program, resolved, class, method)?;
     match find_receiver(frames, heap, program, named, types) {
         Receiver::Unfit => Some(VERIFY),
         Receiver::Null => Some(NULL),
-        Receiver::At(receiver) => run_virtual(heap, program, class, method, receiver),
+        Receiver::At(receiver) => run_virtual(heap, program, resolved, class, method, receiver),
     }
 }
 
@@ -210,20 +251,22 @@ pub(crate) fn call_interface(
     frames: &Frames,
     heap: &Heap,
     program: &Program,
+    resolved: &Code,
     named: u16,
     class: u16,
     method: u16,
 ) -> Option<Lead>
+    requires code { IsCode resolved.now program.now }
     ensures { IfSome result (CallsInterface program.now heap.now frames.now named class method) }
 {
-    let types = parameters(program, class, method)?;
+    let types = parameters(program, resolved, class, method)?;
     let object = frames.operand(types.len());
     let implements = is_of_class(heap, program, named, object);
     match find_receiver(frames, heap, program, named, types) {
         Receiver::Unfit => Some(VERIFY),
         Receiver::Null => Some(NULL),
         Receiver::At(receiver) => {
-            run_interface(heap, program, class, method, implements, receiver)
+            run_interface(heap, program, resolved, class, method, implements, receiver)
         }
     }
 }
@@ -232,17 +275,25 @@ pub(crate) fn call_special(
     frames: &Frames,
     heap: &Heap,
     program: &Program,
+    resolved: &Code,
     named: u16,
     class: u16,
     method: u16,
 ) -> Option<Lead>
+    requires code { IsCode resolved.now program.now }
     ensures { IfSome result (CallsBy program.now heap.now frames.now named (parameters_at program.now class method) (enters_lead (method_at program.now class method) class method)) }
 {
-    let types = parameters(program, class, method)?;
+    let types = parameters(program, resolved, class, method)?;
     match find_receiver(frames, heap, program, named, types) {
         Receiver::Unfit => Some(VERIFY),
         Receiver::Null => Some(NULL),
-        Receiver::At(receiver) => entered(program, class as usize, method as usize, receiver),
+        Receiver::At(receiver) => entered(
+            program,
+            resolved,
+            class as usize,
+            method as usize,
+            receiver,
+        ),
     }
 }
 
@@ -250,14 +301,16 @@ pub(crate) fn fail_special(
     frames: &Frames,
     heap: &Heap,
     program: &Program,
+    resolved: &Code,
     error: BuiltIn,
     named: u16,
     class: u16,
     method: u16,
 ) -> Option<Lead>
+    requires code { IsCode resolved.now program.now }
     ensures { IfSome result (CallsBy program.now heap.now frames.now named (parameters_at program.now class method) (λ r. lead.Throws error)) }
 {
-    let types = parameters(program, class, method)?;
+    let types = parameters(program, resolved, class, method)?;
     match find_receiver(frames, heap, program, named, types) {
         Receiver::Unfit => Some(VERIFY),
         Receiver::Null => Some(NULL),
@@ -289,18 +342,20 @@ fn call_init(
     frames: &Frames,
     heap: &Heap,
     program: &Program,
+    resolved: &Code,
     at: FramePlace,
     named: u16,
     method: BuiltInMethod,
 ) -> Option<Lead>
+    requires code { IsCode resolved.now program.now }
     ensures { IfSome result (CallsBy program.now heap.now frames.now named (init_types program.now method) (init_lead program.now heap.now at (method_id.BuiltIn Object method))) }
 {
     match built_in_receiver(frames, heap, program, named, method) {
         Receiver::Unfit => Some(VERIFY),
         Receiver::Null => Some(NULL),
         Receiver::At(receiver) => {
-            let resolved = MethodId::BuiltIn(BuiltIn::Object, method);
-            run_init(heap, program, at, resolved, receiver)
+            let init = MethodId::BuiltIn(BuiltIn::Object, method);
+            run_init(heap, program, resolved, at, init, receiver)
         }
     }
 }
@@ -326,15 +381,17 @@ pub(crate) fn call_built_in(
     frames: &Frames,
     heap: &Heap,
     program: &Program,
+    resolved: &Code,
     at: FramePlace,
     named: u16,
     method: BuiltInMethod,
 ) -> Option<Lead>
+    requires code { IsCode resolved.now program.now }
     ensures { IfSome result (CallsBuiltIn program.now heap.now frames.now at named method) }
 {
     match method {
         BuiltInMethod::Init | BuiltInMethod::InitWithText => {
-            call_init(frames, heap, program, at, named, method)
+            call_init(frames, heap, program, resolved, at, named, method)
         }
         BuiltInMethod::Print(_) | BuiltInMethod::PrintLine(_) | BuiltInMethod::PrintLineAlone => {
             Some(print(frames, heap, program, method))

@@ -1,6 +1,7 @@
 //! Bodies made by code.
 
 ghost use Rattle.std.specs.Prelude.{◌≡◌, ◌↔◌, ◌⊎◌, IfOk, IsTrue, OnErr, OnOk};
+ghost use Rattle.code.specs.IsCode.{IsCode};
 ghost use Rattle.hierarchy.specs.Subclasses.{IsError};
 ghost use Rattle.heap.specs.Objects.{no_texts, reference_of_new, with_new};
 ghost use Rattle.init_core.specs.ProcedureWord.{GoesOn};
@@ -16,6 +17,7 @@ use crate::phase::Phase;
 use crate::says::is_throwable;
 use crate::taken::TakenMonitors;
 use bodies::{Bodies, Does, Lends, Limit};
+use code::Code;
 use frames::{Cell, Frames, Thrown};
 use heap::{Heap, Monitor, Monitors, no_class, out_of_memory};
 use hierarchy::{BuiltIn, ClassId, Program, Value, throwables_are_subclasses};
@@ -97,14 +99,16 @@ impl Interpreter {
     fn begin(
         &mut self,
         program: &Program,
+        resolved: &Code,
         class: ClassId,
         method: usize,
         given: &[Cell],
     ) -> Result<(), AllocError>
+        requires code { IsCode resolved.now program.now }
         ensures ok { OnOk result (Begins program.now class method given.now self.old self.new) }
         ensures err { OnErr result (self.new ≡ self.old) }
     {
-        let Some(code) = method_code(program, class.number, method) else {
+        let Some(code) = method_code(program, resolved, class.number, method) else {
             return Err(AllocError);
         };
         if given.len() > code.locals as usize {
@@ -141,15 +145,21 @@ impl Interpreter {
     }
 
     /// Begins the initializer of a class, if it has one. An `Err` means out of memory, and changes nothing.
-    pub(crate) fn try_start(&mut self, program: &Program, class: ClassId) -> Result<(), AllocError>
+    pub(crate) fn try_start(
+        &mut self,
+        program: &Program,
+        resolved: &Code,
+        class: ClassId,
+    ) -> Result<(), AllocError>
+        requires code { IsCode resolved.now program.now }
         ensures ok { OnOk result (Starts program.now self.old class self.new) }
         ensures err { OnErr result (self.new ≡ self.old) }
     {
-        let Some(code) = program.code(class.number) else {
+        let Some(code) = resolved.class(class.number) else {
             return Err(AllocError);
         };
         match code.initializer {
-            Some(method) => self.begin(program, class, method, &[]),
+            Some(method) => self.begin(program, resolved, class, method, &[]),
             None => {
                 self.phase = Phase::Over(None);
                 Ok(())
@@ -158,11 +168,17 @@ impl Interpreter {
     }
 
     /// Begins the method `main` of a class, if it has one, with a new array of no texts. An `Err` means out of memory.
-    pub(crate) fn try_enter(&mut self, program: &Program, class: ClassId) -> Result<(), AllocError>
+    pub(crate) fn try_enter(
+        &mut self,
+        program: &Program,
+        resolved: &Code,
+        class: ClassId,
+    ) -> Result<(), AllocError>
+        requires code { IsCode resolved.now program.now }
         ensures ok { OnOk result (Enters program.now self.old class self.new) }
         ensures err { OnErr result ((self.new ≡ self.old) ⊎ (self.new ≡ record self.old { heap = with_new program.now self.old.heap (no_texts program.now) })) }
     {
-        let Some(code) = program.code(class.number) else {
+        let Some(code) = resolved.class(class.number) else {
             return Err(AllocError);
         };
         let Some(method) = code.main else {
@@ -171,7 +187,13 @@ impl Interpreter {
         };
         match new_texts(&mut self.heap, program)? {
             Some(reference) => {
-                self.begin(program, class, method, &[Cell::Reference(reference)])
+                self.begin(
+                    program,
+                    resolved,
+                    class,
+                    method,
+                    &[Cell::Reference(reference)],
+                )
             },
             None => {
                 self.phase = Phase::Over(Some(out_of_memory(program)));
@@ -204,11 +226,12 @@ impl Interpreter {
 
     /// Goes on up to what the innermost body does next, where there is no other thread.
     #[tactic(auto, using(crate::proofs::TakingTurns::alone_at_wait, crate::proofs::TakingTurns::alone_otherwise))]
-    fn say_alone(&mut self, alloc: Global, program: &Program) -> Does
+    fn say_alone(&mut self, alloc: Global, program: &Program, resolved: &Code) -> Does
+        requires code { IsCode resolved.now program.now }
         ensures says { SaysNext program.now self.old result self.new }
         ensures sayable { IsSayable program.now self.old.phase result }
     {
-        match self.say(alloc, program) {
+        match self.say(alloc, program, resolved) {
             // (there is no other thread that could hold a monitor)
             Does::Waits => Does::Ended(Limit::Memory),
             does => does,
@@ -229,26 +252,36 @@ impl Interpreter {
 }
 
 impl Bodies for Interpreter {
+    type Code = Code;
+
     ghost use Rattle.interpreter.specs.CodeRun.{code_bodies, never_waits, stays_ended};
+
+    ghost is_code = { λ c p. IsCode c p };
 
     ghost making = { λ p. code_bodies p };
 
-    fn start(&mut self, _alloc: Global, program: &Program, class: ClassId) {
-        if self.try_start(program, class).is_err() {
+    fn start(&mut self, _alloc: Global, program: &Program, resolved: &Code, class: ClassId) {
+        if self.try_start(program, resolved, class).is_err() {
             self.phase = Phase::Refused;
         }
     }
 
-    fn enter(&mut self, _alloc: Global, program: &Program, class: ClassId) {
-        if self.try_enter(program, class).is_err() {
+    fn enter(&mut self, _alloc: Global, program: &Program, resolved: &Code, class: ClassId) {
+        if self.try_enter(program, resolved, class).is_err() {
             self.phase = Phase::Refused;
         }
     }
 
     #[tactic(auto, using(crate::proofs::TakingTurns::alone_may_do))]
-    fn next(&mut self, alloc: Global, program: &Program, last: Option<Completed>) -> Does {
+    fn next(
+        &mut self,
+        alloc: Global,
+        program: &Program,
+        resolved: &Code,
+        last: Option<Completed>,
+    ) -> Does {
         self.tell(program, last);
-        self.say_alone(alloc, program)
+        self.say_alone(alloc, program, resolved)
     }
 
     fn get(&mut self, _program: &Program, value: Value) {

@@ -9,9 +9,10 @@ ghost use Rattle.interpreter.specs.Fitting.{AreOnTop, FitsType, IsCallable, IsCa
 ghost use Rattle.jasmin_text.specs.declared.class_text.ClassKind.TheVariants as kind;
 ghost use Rattle.interpreter.specs.Rows.{IsKindOf};
 
+use code::{Element, MethodCode, ResolvedType};
 use frames::{Cell, Frames};
 use heap::Heap;
-use hierarchy::{BuiltIn, ClassId, Element, MethodCode, Program, ResolvedType, Value};
+use hierarchy::{BuiltIn, ClassId, Program, Value};
 use jasmin_text::ClassKind;
 
 /// A built-in class as a type.

@@ -1,11 +1,13 @@
 //! Code on several threads of which one goes on at a time.
 
 ghost use Rattle.std.specs.Prelude.{◌≡◌};
+ghost use Rattle.code.specs.IsCode.{IsCode};
 ghost use Rattle.interpreter.specs.CodeRun.{interpreter_at_start};
 
 use crate::interpreter::Interpreter;
 use crate::objects::Objects;
 use bodies::{Bodies, Does, Lends};
+use code::Code;
 use hierarchy::{ClassId, Program, Value};
 use init_core::Completed;
 use std::alloc::{AllocError, Global};
@@ -43,23 +45,33 @@ impl TurnInterpreter {
 }
 
 impl Bodies for TurnInterpreter {
+    type Code = Code;
+
     ghost use Rattle.interpreter.specs.CodeRun.{stays_ended};
     ghost use Rattle.interpreter.specs.TurnRun.{turn_bodies, turn_waits_once};
 
+    ghost is_code = { λ c p. IsCode c p };
+
     ghost making = { λ p. turn_bodies p };
 
-    fn start(&mut self, alloc: Global, program: &Program, class: ClassId) {
-        self.inside.start(alloc, program, class);
+    fn start(&mut self, alloc: Global, program: &Program, resolved: &Code, class: ClassId) {
+        self.inside.start(alloc, program, resolved, class);
     }
 
-    fn enter(&mut self, alloc: Global, program: &Program, class: ClassId) {
-        self.inside.enter(alloc, program, class);
+    fn enter(&mut self, alloc: Global, program: &Program, resolved: &Code, class: ClassId) {
+        self.inside.enter(alloc, program, resolved, class);
     }
 
     #[tactic(auto, using(crate::proofs::TakingTurns::turn_may_do))]
-    fn next(&mut self, alloc: Global, program: &Program, last: Option<Completed>) -> Does {
+    fn next(
+        &mut self,
+        alloc: Global,
+        program: &Program,
+        resolved: &Code,
+        last: Option<Completed>,
+    ) -> Does {
         self.inside.tell(program, last);
-        self.inside.say(alloc, program)
+        self.inside.say(alloc, program, resolved)
     }
 
     fn get(&mut self, program: &Program, value: Value) {

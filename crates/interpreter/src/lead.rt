@@ -1,9 +1,10 @@
 //! What an instruction comes to that asks something of what lies outside of its frame.
 
 ghost use Rattle.std.specs.Prelude.{◌≡◌, IfSome};
+ghost use Rattle.code.specs.IsCode.{IsCode};
 ghost use Rattle.hierarchy.specs.LinkedProgram.{id as class_id};
 ghost use Rattle.hierarchy.specs.declared.built_in.BuiltIn.TheVariants.{VerifyError};
-ghost use Rattle.hierarchy.specs.declared.op.Op.TheVariants as op;
+ghost use Rattle.code.specs.declared.op.Op.TheVariants as op;
 ghost use Rattle.interpreter.specs.Fitting.{when as allowed_by};
 ghost use Rattle.interpreter.specs.Leads.{LeadsTo};
 
@@ -20,9 +21,10 @@ use crate::switching::switch;
 use crate::type_leads::{
     cast, cast_missing, enter_monitor, exit_monitor, instance, instance_missing, throw,
 };
+use code::{Code, MethodCode, Op, ResolvedType};
 use frames::{Cell, FramePlace, Frames, Thrown};
 use heap::Heap;
-use hierarchy::{BuiltIn, BuiltInMethod, ClassId, MethodCode, Op, Program, ResolvedType, Value};
+use hierarchy::{BuiltIn, BuiltInMethod, ClassId, Program, Value};
 
 /// What an instruction comes to that asks something of what lies outside of its frame.
 #[derive(Clone, Copy)]
@@ -84,14 +86,16 @@ fn put(
     frames: &Frames,
     heap: &Heap,
     program: &Program,
+    resolved: &Code,
     at: FramePlace,
     code: &MethodCode,
     class: u16,
     field: u16,
 ) -> Option<Lead>
+    requires code { IsCode resolved.now program.now }
     ensures { IfSome result (LeadsTo program.now heap.now frames.now at code.now (op.PutStatic class field)) }
 {
-    let wanted = static_type(program, class as usize, field as usize)?;
+    let wanted = static_type(program, resolved, class as usize, field as usize)?;
     let fits = is_fit(heap, program, wanted, frames.operand(0));
     Some(when(fits, Lead::Uses(id(class))))
 }
@@ -100,14 +104,16 @@ fn call(
     frames: &Frames,
     heap: &Heap,
     program: &Program,
+    resolved: &Code,
     at: FramePlace,
     code: &MethodCode,
     class: u16,
     method: u16,
 ) -> Option<Lead>
+    requires code { IsCode resolved.now program.now }
     ensures { IfSome result (LeadsTo program.now heap.now frames.now at code.now (op.InvokeStatic class method)) }
 {
-    let callee = method_code(program, class as usize, method as usize)?;
+    let callee = method_code(program, resolved, class as usize, method as usize)?;
     Some(when(
         is_callable(frames, heap, program, callee),
         Lead::Uses(id(class)),
@@ -128,15 +134,17 @@ fn put_out(
     when(fits, Lead::Drops(1))
 }
 
-/// What an instruction comes to that leads out of its frame; none where the program's code isn't resolved. Takes no memory.
+/// What an instruction comes to that leads out of its frame; none where there is no such member. Takes no memory.
 pub(crate) fn lead_of(
     frames: &Frames,
     heap: &Heap,
     program: &Program,
+    resolved: &Code,
     at: FramePlace,
     code: &MethodCode,
     op: Op,
 ) -> Option<Lead>
+    requires code { IsCode resolved.now program.now }
     ensures { IfSome result (LeadsTo program.now heap.now frames.now at code.now op) }
 {
     let top = frames.operand(0);
@@ -161,30 +169,34 @@ pub(crate) fn lead_of(
         Op::InstanceOfMissing => Some(instance_missing(top)),
         Op::EnterMonitor => Some(enter_monitor(top)),
         Op::ExitMonitor => Some(exit_monitor(top)),
-        Op::GetField(named, class, field) => get_field(heap, program, named, class, field, top),
+        Op::GetField(named, class, field) => get_field(
+            heap, program, resolved, named, class, field, top,
+        ),
         Op::PutField(named, class, field) => {
             let receiver = frames.operand(1);
-            put_field(heap, program, named, class, field, receiver, top)
+            put_field(heap, program, resolved, named, class, field, receiver, top)
         }
         Op::GetStatic(class, _) => Some(when(frames.has_room(), Lead::Uses(id(class)))),
-        Op::PutStatic(class, field) => put(frames, heap, program, at, code, class, field),
+        Op::PutStatic(class, field) => put(frames, heap, program, resolved, at, code, class, field),
         Op::GetOut => Some(when(frames.has_room(), Lead::Gives(0, Cell::Reference(0)))),
         Op::PutOut => Some(put_out(frames, heap, program, at, code)),
-        Op::InvokeStatic(class, method) => call(frames, heap, program, at, code, class, method),
+        Op::InvokeStatic(class, method) => call(
+            frames, heap, program, resolved, at, code, class, method,
+        ),
         Op::InvokeVirtual(named, class, method) => {
-            call_virtual(frames, heap, program, named, class, method)
+            call_virtual(frames, heap, program, resolved, named, class, method)
         }
         Op::InvokeInterface(named, class, method) => {
-            call_interface(frames, heap, program, named, class, method)
+            call_interface(frames, heap, program, resolved, named, class, method)
         }
         Op::InvokeSpecial(named, class, method) => {
-            call_special(frames, heap, program, named, class, method)
+            call_special(frames, heap, program, resolved, named, class, method)
         }
         Op::InvokeSpecialFails(error, named, class, method) => {
-            fail_special(frames, heap, program, error, named, class, method)
+            fail_special(frames, heap, program, resolved, error, named, class, method)
         }
         Op::InvokeBuiltIn(named, method) => {
-            call_built_in(frames, heap, program, at, named, method)
+            call_built_in(frames, heap, program, resolved, at, named, method)
         }
         Op::InvokeSpecialBuiltIn(named, method) => {
             Some(call_special_built_in(frames, heap, program, named, method))

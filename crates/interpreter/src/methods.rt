@@ -1,26 +1,40 @@
 //! The code that a program has.
 
 ghost use Rattle.std.specs.Prelude.{◌≡◌, IfSome, Some, option_copied};
+ghost use Rattle.code.specs.IsCode.{IsCode};
 ghost use Rattle.interpreter.specs.Methods.{instruction_at as instruction_of, method_at, static_type as type_of_static, text_in_method};
 
-use hierarchy::{ClassId, MethodCode, Program, ResolvedType};
+use code::{Code, MethodCode, ResolvedType};
+use hierarchy::{ClassId, Program};
 use jasmin_text::{Instruction, Method};
 
 /// The code of a method.
-pub(crate) fn method_code(program: &Program, class: usize, method: usize) -> Option<&MethodCode>
+pub(crate) fn method_code<'c>(
+    program: &Program,
+    resolved: &'c Code,
+    class: usize,
+    method: usize,
+) -> Option<&'c MethodCode>
+    requires code { IsCode resolved.now program.now }
     ensures { IfSome result (λ code. method_at program.now class method ≡ Some code.now) }
 {
-    let Some(class) = program.code(class) else {
+    let Some(class) = resolved.class(class) else {
         return None;
     };
     class.methods.as_slice().get(method)
 }
 
 /// The type of a static field.
-pub(crate) fn static_type(program: &Program, class: usize, field: usize) -> Option<ResolvedType>
+pub(crate) fn static_type(
+    program: &Program,
+    resolved: &Code,
+    class: usize,
+    field: usize,
+) -> Option<ResolvedType>
+    requires code { IsCode resolved.now program.now }
     ensures { IfSome result (λ found. type_of_static program.now class field ≡ Some found) }
 {
-    let Some(class) = program.code(class) else {
+    let Some(class) = resolved.class(class) else {
         return None;
     };
     class.statics.as_slice().get(field).copied()

@@ -1,15 +1,17 @@
 //! What instructions on objects and their fields come to (JVMS SE 8 6.5 new, getfield, putfield).
 
 ghost use Rattle.std.specs.Prelude.{◌≡◌, ◌↔◌, IfSome, IsTrue, Some};
+ghost use Rattle.code.specs.IsCode.{IsCode};
 ghost use Rattle.hierarchy.specs.MethodResolution.{kind_of};
 ghost use Rattle.jasmin_text.specs.declared.class_text.ClassKind.TheVariants as kind;
 ghost use Rattle.interpreter.specs.ObjectLeads.{GetsFrom, IsHolder, MayPut, PutsIn, field_place, get_lead, held, new_lead, put_lead};
 
 use crate::fitting::{cell_of, fits, is_kind, is_of_class, value_of};
 use crate::lead::{Lead, VERIFY, id, when};
+use code::{Code, ResolvedType};
 use frames::Cell;
 use heap::Heap;
-use hierarchy::{BuiltIn, ClassId, Program, ResolvedType};
+use hierarchy::{BuiltIn, ClassId, Program};
 use jasmin_text::ClassKind;
 
 /// An instance field: its type, and its cell in objects.
@@ -30,10 +32,16 @@ pub(crate) fn new_object(program: &Program, class: u16) -> Lead
 }
 
 /// An instance field of a class of the files, by its place among those.
-pub(crate) fn place_of(program: &Program, class: u16, field: u16) -> Option<FieldPlace>
+pub(crate) fn place_of(
+    program: &Program,
+    resolved: &Code,
+    class: u16,
+    field: u16,
+) -> Option<FieldPlace>
+    requires code { IsCode resolved.now program.now }
     ensures { IfSome result (λ place. field_place program.now class field ≡ Some place) }
 {
-    let Some(code) = program.code(class as usize) else {
+    let Some(code) = resolved.class(class as usize) else {
         return None;
     };
     let held = code.fields.as_slice().get(field as usize).copied()?;
@@ -92,14 +100,16 @@ fn get_by(
 pub(crate) fn get_field(
     heap: &Heap,
     program: &Program,
+    resolved: &Code,
     named: u16,
     class: u16,
     field: u16,
     receiver: Option<Cell>,
 ) -> Option<Lead>
+    requires code { IsCode resolved.now program.now }
     ensures { IfSome result (GetsFrom program.now heap.now named class field receiver) }
 {
-    let place = place_of(program, class, field)?;
+    let place = place_of(program, resolved, class, field)?;
     let is = is_holder(heap, program, named, class, receiver);
     Some(get_by(heap, program, is, place, receiver))
 }
@@ -141,15 +151,17 @@ fn put_by(may: bool, place: FieldPlace, receiver: Option<Cell>, value: Cell) -> 
 pub(crate) fn put_field(
     heap: &Heap,
     program: &Program,
+    resolved: &Code,
     named: u16,
     class: u16,
     field: u16,
     receiver: Option<Cell>,
     value: Option<Cell>,
 ) -> Option<Lead>
+    requires code { IsCode resolved.now program.now }
     ensures { IfSome result (PutsIn program.now heap.now named class (field_place program.now class field) receiver value) }
 {
-    let place = place_of(program, class, field)?;
+    let place = place_of(program, resolved, class, field)?;
     let Some(value) = value else {
         return Some(VERIFY);
     };

@@ -1,6 +1,7 @@
 //! What instructions do that lead out of their frame and make no event.
 
 ghost use Rattle.std.specs.Prelude.{◌≡◌, ◌∷◌, List, Some, OnErr, OnOk, length};
+ghost use Rattle.code.specs.IsCode.{IsCode};
 ghost use Rattle.frames.specs.Activations.{Activation, at_place, dropped, left, next_place, place_of, replaced};
 ghost use Rattle.heap.specs.Objects.{new_array, new_object};
 ghost use Rattle.interpreter.specs.Rows.{Calls, Does as DoesLead, EntersMonitor, ExitsMonitor, HasRoomFor, IsLeftBy, Makes, PutsElementOf, PutsFieldOf, Returns, phase_of as phase_by, taken_at, with_frame};
@@ -13,9 +14,10 @@ use crate::lead::Lead;
 use crate::methods::method_code;
 use crate::moves::{come_back, give, has_operands, jump, take};
 use crate::phase::Phase;
+use code::{Code, MethodCode, ResolvedType};
 use frames::{Cell, FramePlace};
 use heap::{Monitor, out_of_memory};
-use hierarchy::{BuiltIn, ClassId, MethodCode, Program, ResolvedType, Value};
+use hierarchy::{BuiltIn, ClassId, Program, Value};
 use std::alloc::AllocError;
 
 /// The phase of a body whose innermost frame was just entered: a synchronized method takes its monitor first (JVMS SE 8 2.11.10).
@@ -203,17 +205,19 @@ impl Interpreter {
     pub(crate) fn call(
         &mut self,
         program: &Program,
+        resolved: &Code,
         at: FramePlace,
         class: usize,
         method: usize,
         count: usize,
         monitor: Monitor,
     ) -> Result<(), AllocError>
-        requires { place_of self.old.frames ≡ Some at }
+        requires code { IsCode resolved.now program.now }
+        requires at { place_of self.old.frames ≡ Some at }
         ensures ok { OnOk result (Calls program.now class method count monitor self.old self.new) }
         ensures err { OnErr result (self.new ≡ self.old) }
     {
-        let Some(callee) = method_code(program, class, method) else {
+        let Some(callee) = method_code(program, resolved, class, method) else {
             return Err(AllocError);
         };
         if count > callee.locals as usize || !has_operands(&self.frames, count) {
@@ -257,9 +261,11 @@ impl Interpreter {
     pub(crate) fn perform(
         &mut self,
         program: &Program,
+        resolved: &Code,
         at: FramePlace,
         lead: Lead,
     ) -> Result<(), AllocError>
+        requires code { IsCode resolved.now program.now }
         requires at { place_of self.old.frames ≡ Some at }
         ensures ok { OnOk result ((a : Activation) (below : List Activation) → self.old.frames ≡ a ∷ below → DoesLead program.now a below lead self.old self.new) }
         ensures err { OnErr result (self.new ≡ self.old) }
@@ -284,7 +290,7 @@ impl Interpreter {
             }
             Lead::Calls(class, method, count, receiver) => {
                 let monitor = Monitor::Object(receiver);
-                self.call(program, at, class, method, count, monitor)
+                self.call(program, resolved, at, class, method, count, monitor)
             }
             Lead::EntersMonitor(reference) => self.enter_monitor(reference),
             Lead::ExitsMonitor(reference) => self.exit_monitor(program, reference),

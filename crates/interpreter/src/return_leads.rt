@@ -1,14 +1,15 @@
 //! What returns with a value come to (JVMS SE 8 6.5 ireturn, areturn).
 
 ghost use Rattle.std.specs.Prelude.{◌↔◌, IsTrue};
-ghost use Rattle.hierarchy.specs.declared.op.Op.TheVariants as op;
+ghost use Rattle.code.specs.declared.op.Op.TheVariants as op;
 ghost use Rattle.interpreter.specs.Leads.{IsResult, LeadsTo, MayReturn};
 
 use crate::fitting::fits;
 use crate::lead::{Lead, VERIFY, when};
+use code::{MethodCode, ResolvedType};
 use frames::{Cell, FramePlace, Frames};
 use heap::Heap;
-use hierarchy::{MethodCode, Program, ResolvedType};
+use hierarchy::Program;
 
 /// Whether a method returns such a value, and its caller has room for it.
 fn is_result(

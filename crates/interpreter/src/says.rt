@@ -1,10 +1,11 @@
 //! What the innermost body does next.
 
 ghost use Rattle.std.specs.Prelude.{◌≡◌, ◌↔◌, ◌≤◌, IsTrue, true, IfOk, IfSome, None, OnErr, OnOk, Some, length};
+ghost use Rattle.code.specs.IsCode.{IsCode};
 ghost use Rattle.frames.specs.Activations.{dropped, has_room, next_place, operands_of};
 ghost use Rattle.bodies.specs.declared.does.Does.TheVariants as does;
 ghost use Rattle.hierarchy.specs.LinkedProgram.{id};
-ghost use Rattle.hierarchy.specs.declared.op.Op.TheVariants as op;
+ghost use Rattle.code.specs.declared.op.Op.TheVariants as op;
 ghost use Rattle.interpreter.specs.Fitting.{on_top};
 ghost use Rattle.hierarchy.specs.Subclasses.{IsThrowable};
 ghost use Rattle.interpreter.specs.Rows.{HasArguments, IsAtOp, Row, WaitsFor, with_frame};
@@ -18,12 +19,10 @@ use crate::methods::{method_code, static_type};
 use crate::moves::take;
 use crate::phase::Phase;
 use bodies::{Does, Limit};
+use code::{Code, MethodCode, Op, instructions_name_what_is_there};
 use frames::{Cell, Thrown};
 use heap::Monitor;
-use hierarchy::{
-    BuiltIn, ClassId, MethodCode, Op, Program, Value, instructions_name_what_is_there,
-    throwables_are_subclasses,
-};
+use hierarchy::{BuiltIn, ClassId, Program, Value, throwables_are_subclasses};
 use std::alloc::{AllocError, Global};
 
 /// The operand on top as a static field takes it.
@@ -47,13 +46,14 @@ pub(crate) fn is_throwable(program: &Program, class: ClassId) -> bool
 
 impl Interpreter {
     /// The instruction at the innermost frame's place.
-    pub(crate) fn op(&self, program: &Program) -> Option<Op>
+    pub(crate) fn op(&self, program: &Program, resolved: &Code) -> Option<Op>
+        requires code { IsCode resolved.now program.now }
         ensures { IfSome result (IsAtOp program.now self.now.frames) }
     {
         let Some(at) = self.frames.at() else {
             return None;
         };
-        let Some(code) = method_code(program, at.class, at.method) else {
+        let Some(code) = method_code(program, resolved, at.class, at.method) else {
             return None;
         };
         code.ops.as_slice().get(at.place).copied()
@@ -89,15 +89,22 @@ impl Interpreter {
         }
     }
 
-    /// Whether an instruction waits for a class, to do its second half. An `Err`: the program's code isn't resolved.
+    /// Whether an instruction waits for a class, to do its second half. An `Err`: there is no such member.
     #[tactic(auto, using(crate::proofs::Saying::same_number, crate::proofs::Saying::number_of, crate::proofs::Saying::waits_kind, crate::proofs::Saying::kind_waits, crate::proofs::Saying::waits_called, crate::proofs::Saying::called_waits))]
-    fn waits_for(&self, program: &Program, op: Op, class: ClassId) -> Result<bool, AllocError>
+    fn waits_for(
+        &self,
+        program: &Program,
+        resolved: &Code,
+        op: Op,
+        class: ClassId,
+    ) -> Result<bool, AllocError>
+        requires code { IsCode resolved.now program.now }
         ensures { IfOk result (λ waits. IsTrue waits ↔ WaitsFor program.now self.now.frames op class) }
     {
         match op {
             Op::GetStatic(wanted, _) => Ok(class.number == wanted as usize),
             Op::PutStatic(wanted, field) => {
-                match static_type(program, wanted as usize, field as usize) {
+                match static_type(program, resolved, wanted as usize, field as usize) {
                     Some(held) => Ok(
                         class.number == wanted as usize && is_kind_of(held, self.frames.operand(0)),
                     ),
@@ -106,7 +113,7 @@ impl Interpreter {
             }
             Op::New(wanted) => Ok(class.number == wanted as usize && self.frames.has_room()),
             Op::InvokeStatic(wanted, method) => {
-                match method_code(program, wanted as usize, method as usize) {
+                match method_code(program, resolved, wanted as usize, method as usize) {
                     Some(callee) => {
                         Ok(class.number == wanted as usize && self.has_arguments(callee))
                     }
@@ -150,10 +157,12 @@ impl Interpreter {
     fn call_static(
         &mut self,
         program: &Program,
+        resolved: &Code,
         ready: ClassId,
         class: u16,
         method: u16,
     ) -> Result<(), AllocError>
+        requires code { IsCode resolved.now program.now }
         requires phase { self.old.phase ≡ phases.Ready ready }
         requires ready { ready ≡ id class }
         requires at { IsAtOp program.now self.old.frames (op.InvokeStatic class method) }
@@ -164,13 +173,21 @@ impl Interpreter {
             return Err(AllocError);
         };
         let (class, method) = (class as usize, method as usize);
-        let Some(callee) = method_code(program, class, method) else {
+        let Some(callee) = method_code(program, resolved, class, method) else {
             return Err(AllocError);
         };
         let count = callee.parameters.len();
         self.phase = Phase::Runs;
         if self
-            .call(program, at, class, method, count, Monitor::Class(ready))
+            .call(
+                program,
+                resolved,
+                at,
+                class,
+                method,
+                count,
+                Monitor::Class(ready),
+            )
             .is_err()
         {
             self.phase = Phase::Ready(ready);
@@ -202,9 +219,11 @@ impl Interpreter {
     pub(crate) fn resume(
         &mut self,
         program: &Program,
+        resolved: &Code,
         class: ClassId,
     ) -> Result<Option<Does>, AllocError>
-        requires { self.old.phase ≡ phases.Ready class }
+        requires code { IsCode resolved.now program.now }
+        requires phase { self.old.phase ≡ phases.Ready class }
         ensures row { IfOk result (λ d. d ≡ None → Row program.now self.old self.new) }
         ensures says { IfOk result (λ d. IfSome d (λ x. Says program.now self.old x self.new)) }
         ensures sayable { IfOk result (λ d. IfSome d (IsSayable program.now self.old.phase)) }
@@ -212,10 +231,10 @@ impl Interpreter {
     {
         program.is_linked();
         instructions_name_what_is_there(program);
-        let Some(op) = self.op(program) else {
+        let Some(op) = self.op(program, resolved) else {
             return Err(AllocError);
         };
-        match self.waits_for(program, op, class) {
+        match self.waits_for(program, resolved, op, class) {
             Ok(true) => {}
             Ok(false) => {
                 self.phase = Phase::Runs;
@@ -231,7 +250,7 @@ impl Interpreter {
                 Err(_) => Err(AllocError),
             },
             Op::InvokeStatic(wanted, method) => {
-                match self.call_static(program, class, wanted, method) {
+                match self.call_static(program, resolved, class, wanted, method) {
                     Ok(()) => Ok(None),
                     Err(_) => Err(AllocError),
                 }
@@ -241,22 +260,24 @@ impl Interpreter {
     }
 
     /// Goes on up to what the innermost body does next, or up to a monitor that another thread holds.
-    pub(crate) fn say(&mut self, alloc: Global, program: &Program) -> Does
+    pub(crate) fn say(&mut self, alloc: Global, program: &Program, resolved: &Code) -> Does
+        requires code { IsCode resolved.now program.now }
         ensures says { TurnSaysNext program.now self.old result self.new }
         ensures sayable { IsSayable program.now self.old.phase result }
     {
         match self.phase {
-            Phase::Ready(class) => match self.resume(program, class) {
-                Ok(None) => self.say_running(alloc, program),
+            Phase::Ready(class) => match self.resume(program, resolved, class) {
+                Ok(None) => self.say_running(alloc, program, resolved),
                 Ok(Some(does)) => does,
                 Err(_) => Does::Ended(Limit::Memory),
             },
-            _ => self.say_running(alloc, program),
+            _ => self.say_running(alloc, program, resolved),
         }
     }
 
     /// Goes on up to what the innermost body does next, which waits for no class, or up to a monitor that another thread holds.
-    fn say_running(&mut self, alloc: Global, program: &Program) -> Does
+    fn say_running(&mut self, alloc: Global, program: &Program, resolved: &Code) -> Does
+        requires code { IsCode resolved.now program.now }
         ensures says { TurnSaysNext program.now self.old result self.new }
         ensures sayable { (phase : _) → IsSayable program.now phase result }
     {
@@ -271,7 +292,7 @@ impl Interpreter {
                     Ok(false) => return Does::Waits,
                     Err(_) => return Does::Ended(Limit::Memory),
                 },
-                Phase::Runs => match self.turn(alloc, program) {
+                Phase::Runs => match self.turn(alloc, program, resolved) {
                     Ok(None) => {}
                     Ok(Some(does)) => return does,
                     Err(_) => return Does::Ended(Limit::Memory),

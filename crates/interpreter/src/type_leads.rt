@@ -7,9 +7,10 @@ ghost use Rattle.interpreter.specs.declared.lead.Lead.TheVariants as lead;
 use crate::fitting::is_instance_in;
 use crate::lead::{Lead, VERIFY};
 use crate::says::is_throwable;
+use code::ResolvedType;
 use frames::{Cell, Thrown};
 use heap::Heap;
-use hierarchy::{BuiltIn, Program, ResolvedType};
+use hierarchy::{BuiltIn, Program};
 
 pub(crate) fn cast(
     heap: &Heap,

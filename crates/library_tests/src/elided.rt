@@ -162,7 +162,16 @@ fn passes<W: Wait>(rt: &W, alloc: Global, program: &Program) -> Result<bool, All
     };
     let main = ClassId { number: 0 };
     let worked = run_one(
-        rt, alloc, program, &table, limits, &NoGate, main, second, NoCode,
+        rt,
+        alloc,
+        program,
+        &(),
+        &table,
+        limits,
+        &NoGate,
+        main,
+        second,
+        NoCode,
     );
     table.give_back(&mut first, held);
     let is_normal = worked.outcome == ThreadOutcome::Normal;

@@ -2,8 +2,9 @@
 
 use crate::frame_steps::{Deed, begin, call, drop_operands, push};
 use crate::programs::{Question, Row};
+use code::{MethodCode, Op};
 use frames::{Cell, FramePlace, Frames, Stop};
-use hierarchy::{BuiltIn, MethodCode, Op};
+use hierarchy::BuiltIn;
 
 /// Why a run of instructions stops.
 #[derive(Clone, Copy, PartialEq, Eq)]

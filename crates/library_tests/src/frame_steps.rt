@@ -2,8 +2,9 @@
 
 use crate::frame_runs::{Run, calls, drops_two, reaches_again, runs};
 use crate::frame_throws::{Throw, comes_out};
+use code::MethodCode;
 use frames::{Cell, Frames};
-use hierarchy::{MethodCode, Program};
+use hierarchy::Program;
 use sequence::Sequence;
 use std::alloc::{AllocError, Global};
 

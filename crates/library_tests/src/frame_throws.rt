@@ -2,8 +2,9 @@
 
 use crate::frame_steps::{Deed, begin, call, push};
 use crate::programs::{Question, Row};
+use code::MethodCode;
 use frames::{Cell, FramePlace, Frames, Thrown};
-use hierarchy::{MethodCode, Program};
+use hierarchy::Program;
 use std::alloc::AllocError;
 
 /// Three methods: the first catches exceptions at its places 1 and 2, at place 3; the second at place 1 alone; the third none.

@@ -1,9 +1,10 @@
 //! The heap of a program without classes, and its monitors.
 
 use crate::programs::{Question, Row};
+use code::{Element, ResolvedType};
 use descriptors::BaseType;
 use heap::{Entry, Heap, Holder, Monitor, Monitors, no_class, out_of_memory};
-use hierarchy::{BuiltIn, Element, Program, ResolvedType, Value};
+use hierarchy::{BuiltIn, Program, Value};
 use std::alloc::Global;
 
 /// The type of bytes.

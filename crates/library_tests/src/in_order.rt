@@ -24,7 +24,15 @@ pub(crate) fn is_in_order(alloc: Global, program: &Program) -> bool {
     let Ok(bodies) = vec![in alloc; NoCode; 2] else {
         return false;
     };
-    match run_ordered(alloc, program, &[main, main], &[0, 0, 1, 0, 1], bodies, ()) {
+    match run_ordered(
+        alloc,
+        program,
+        &(),
+        &[main, main],
+        &[0, 0, 1, 0, 1],
+        bodies,
+        (),
+    ) {
         Ok(report) => {
             report.labels.as_slice() == [Label::Initialized].as_slice()
                 && is_traced(alloc, program, report.events.as_slice(), TRACE)

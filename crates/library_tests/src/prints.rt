@@ -3,6 +3,7 @@
 use crate::programs::{Question, Row};
 use crate::runs::are_of_files;
 use bodies::{Limits, Report};
+use code::resolve;
 use guest_threads::{Gate, run_threads};
 use hierarchy::{ClassId, Program};
 use init_core::Event;
@@ -61,13 +62,14 @@ pub(crate) fn run_code<R: Threads + Wait + Sync, G: Gate + Sync>(
     if !are_of_files(program, &mains) {
         return None;
     }
+    let code = resolve(alloc, program).ok()?;
     let shared = SharedObjects::new(alloc);
     let mut bodies = Vec::new(alloc);
     let body = SharedInterpreter::new(rt, alloc, &shared, 0, limits.steps, false);
     bodies.push(body).ok()?;
     let body = SharedInterpreter::new(rt, alloc, &shared, 1, limits.steps, false);
     bodies.push(body).ok()?;
-    run_threads(rt, alloc, program, &mains, bodies, limits, gate).ok()
+    run_threads(rt, alloc, program, &code, &mains, bodies, limits, gate).ok()
 }
 
 /// A run in which this thread prints first.

@@ -75,7 +75,7 @@ fn answers<R: Threads + Wait + Sync + Clock>(
         Question::Handlers => handlers(program),
         Question::Frames(deed) => is_done(alloc, program, deed),
         Question::Heap(part) => is_right(alloc, program, *part),
-        Question::Resolved => resolved(program),
+        Question::Resolved => resolved(alloc, program),
         Question::Compared(case) => is_as_compared(alloc, program, case) == Ok(true),
         Question::Played(scene) => is_as_played(alloc, program, scene),
         Question::InOrder => is_in_order(alloc, program),

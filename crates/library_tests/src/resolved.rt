@@ -1,11 +1,10 @@
 //! Instructions as they are resolved, and what else running a class needs.
 
 use crate::programs::{Question, Row};
+use code::{Code, Element, ElementKind, MethodCode, Op, ResolvedType, resolve};
 use descriptors::BaseType;
-use hierarchy::{
-    BuiltIn, BuiltInMethod, Element, ElementKind, MethodCode, Op, Printed, Program, ResolvedType,
-    static_count,
-};
+use hierarchy::{BuiltIn, BuiltInMethod, Printed, Program, static_count};
+use std::alloc::Global;
 
 /// A class with static and instance fields, an initializer, and static methods.
 const MEMBERS: &[u8] =
@@ -24,8 +23,8 @@ invokevirtual java/io/PrintStream/println(I)V\narraylength\nEnd:\nreturn\n.end m
 .limit stack 9\ninvokevirtual C/f()V\ninvokespecial D/f()V\ninvokespecial java/lang/Object/<init>()V\nathrow\nmonitorenter\nmonitorexit\n.end method";
 
 /// A method of a class.
-fn method(program: &Program, class: usize, place: usize) -> Option<&MethodCode> {
-    program.code(class)?.methods.as_slice().get(place)
+fn method(code: &Code, class: usize, place: usize) -> Option<&MethodCode> {
+    code.class(class)?.methods.as_slice().get(place)
 }
 
 /// An instruction as it was resolved: its name, and its numbers, also that of an error, of an array's elements or of a type.
@@ -163,8 +162,8 @@ fn is_int(found: Option<&ResolvedType>) -> bool {
 }
 
 /// The types of the static fields, and the places of the methods that start.
-fn has_places(program: &Program) -> bool {
-    let (Some(members), Some(main)) = (program.code(0), program.code(1)) else {
+fn has_places(code: &Code) -> bool {
+    let (Some(members), Some(main)) = (code.class(0), code.class(1)) else {
         return false;
     };
     let [array, int] = members.statics.as_slice() else {
@@ -184,8 +183,8 @@ fn has_places(program: &Program) -> bool {
 }
 
 /// Whether a method has these instructions.
-fn has_ops(program: &Program, class: usize, place: usize, wanted: &[Seen]) -> bool {
-    let Some(code) = method(program, class, place) else {
+fn has_ops(code: &Code, class: usize, place: usize, wanted: &[Seen]) -> bool {
+    let Some(code) = method(code, class, place) else {
         return false;
     };
     let ops = code.ops.as_slice();
@@ -199,8 +198,8 @@ fn has_ops(program: &Program, class: usize, place: usize, wanted: &[Seen]) -> bo
 }
 
 /// Whether the methods have their limits and types, and the one that takes a monitor says so.
-fn has_methods(program: &Program) -> bool {
-    let (Some(code), Some(locked)) = (method(program, 0, 2), method(program, 0, 3)) else {
+fn has_methods(code: &Code) -> bool {
+    let (Some(code), Some(locked)) = (method(code, 0, 2), method(code, 0, 3)) else {
         return false;
     };
     code.stack == 7
@@ -228,15 +227,18 @@ fn has_statics(program: &Program) -> bool {
 }
 
 /// Whether the classes are resolved exactly, and no class beside them.
-pub(crate) fn resolved(program: &Program) -> bool {
-    has_ops(program, 1, 1, MAIN_OPS)
-        && has_ops(program, 1, 2, OBJECT_OPS)
-        && has_ops(program, 0, 2, DECLARED_OPS)
-        && has_ops(program, 0, 0, &[])
-        && has_methods(program)
-        && has_places(program)
+pub(crate) fn resolved(alloc: Global, program: &Program) -> bool {
+    let Ok(code) = resolve(alloc, program) else {
+        return false;
+    };
+    has_ops(&code, 1, 1, MAIN_OPS)
+        && has_ops(&code, 1, 2, OBJECT_OPS)
+        && has_ops(&code, 0, 2, DECLARED_OPS)
+        && has_ops(&code, 0, 0, &[])
+        && has_methods(&code)
+        && has_places(&code)
         && has_statics(program)
-        && program.code(2).is_none()
+        && code.class(2).is_none()
 }
 
 pub(crate) const RESOLVED: &[Row] = &[Row {

@@ -120,19 +120,29 @@ fn end(program: &Program, _last: Option<Completed>, throws: bool) -> Does
 }
 
 impl Bodies for Scripted {
+    type Code = ();
+
     ghost use Rattle.library_tests.specs.AnyBodies.{any_bodies, may_come_to_it, may_wait};
+
+    ghost is_code = { λ code p. Unit {0} };
 
     ghost making = { λ p. any_bodies (λ s. s.done ≡ 5) };
 
-    fn start(&mut self, _alloc: Global, _program: &Program, _class: ClassId) {
+    fn start(&mut self, _alloc: Global, _program: &Program, _code: &(), _class: ClassId) {
         self.depth = self.depth.saturating_add(1);
     }
 
-    fn enter(&mut self, _alloc: Global, _program: &Program, _class: ClassId) {
+    fn enter(&mut self, _alloc: Global, _program: &Program, _code: &(), _class: ClassId) {
         self.done = 0;
     }
 
-    fn next(&mut self, alloc: Global, program: &Program, last: Option<Completed>) -> Does {
+    fn next(
+        &mut self,
+        alloc: Global,
+        program: &Program,
+        _code: &(),
+        last: Option<Completed>,
+    ) -> Does {
         if self.depth > 0 {
             self.depth -= 1;
             return end(program, last, self.throws);
@@ -226,9 +236,19 @@ fn run<R: Threads + Wait + Sync>(
     };
     bodies.push(body).ok()?;
     if script.ordered {
-        run_ordered(alloc, program, &mains, &[], bodies, ()).ok()
+        run_ordered(alloc, program, &(), &mains, &[], bodies, ()).ok()
     } else {
-        run_threads(rt, alloc, program, &mains, bodies, Limits::USUAL, &NoGate).ok()
+        run_threads(
+            rt,
+            alloc,
+            program,
+            &(),
+            &mains,
+            bodies,
+            Limits::USUAL,
+            &NoGate,
+        )
+        .ok()
     }
 }
 

@@ -162,9 +162,11 @@ impl<H, B: Lends<H>> Thread<Lent<B, H>> {
         &mut self,
         alloc: Global,
         program: &Program,
+        code: &B::Code,
         log: &EventLog,
         shared: &mut Shared<H>,
     ) -> Does
+        requires code { B.is_code code.now program.now }
         requires resting { Resting program.now (lent_bodies B.lending (B.making program.now)) log.now self.old }
         requires body { IsInBody self.old }
         requires goes_on { GoesOn self.old.procedure.last }
@@ -174,7 +176,8 @@ impl<H, B: Lends<H>> Thread<Lent<B, H>> {
     {
         let _ = &log.events;
         let last = self.procedure.last();
-        self.bodies.next(alloc, program, self.number, shared, last)
+        self.bodies
+            .next(alloc, program, code, self.number, shared, last)
     }
 
     /// What the innermost body does next. An `Err` means out of memory, of the machine or of what runs the bodies.
@@ -182,9 +185,11 @@ impl<H, B: Lends<H>> Thread<Lent<B, H>> {
         &mut self,
         alloc: Global,
         program: &Program,
+        code: &B::Code,
         log: &mut EventLog,
         shared: &mut Shared<H>,
     ) -> Result<Turn, AllocError>
+        requires code { B.is_code code.now program.now }
         requires resting { Resting program.now (lent_bodies B.lending (B.making program.now)) log.old self.old }
         requires body { IsInBody self.old }
         ensures turn { IfOk result (TurnsWith program.now B.lending (B.making program.now) shared.new.state log.old self.old log.new self.new) }
@@ -199,7 +204,7 @@ impl<H, B: Lends<H>> Thread<Lent<B, H>> {
         if self.bodies.waits(program, shared) {
             return Ok(Turn::Waits);
         }
-        match self.next(alloc, program, log, shared) {
+        match self.next(alloc, program, code, log, shared) {
             Does::Asks(class) => {
                 self.use_class(program, log, class)?;
                 Ok(Turn::Silent)

@@ -72,16 +72,18 @@ impl<H, B: Lends<H>> Lent<B, H> {
         &mut self,
         alloc: Global,
         program: &Program,
+        code: &B::Code,
         number: usize,
         shared: &mut Shared<H>,
         class: ClassId,
     )
-        requires { IsOfFiles program.now class }
+        requires code { B.is_code code.now program.now }
+        requires class { IsOfFiles program.now class }
         ensures starts { (lent_bodies B.lending (B.making program.now)).starts self.old class self.new }
         ensures turned { HasTurned number shared.old shared.new self.old.uses self.new.uses }
     {
         let met = self.take(shared);
-        self.bodies.start(alloc, program, class);
+        self.bodies.start(alloc, program, code, class);
         self.give_back(number, met, shared);
     }
 
@@ -89,16 +91,18 @@ impl<H, B: Lends<H>> Lent<B, H> {
         &mut self,
         alloc: Global,
         program: &Program,
+        code: &B::Code,
         number: usize,
         shared: &mut Shared<H>,
         class: ClassId,
     )
-        requires { IsOfFiles program.now class }
+        requires code { B.is_code code.now program.now }
+        requires class { IsOfFiles program.now class }
         ensures enters { (lent_bodies B.lending (B.making program.now)).enters self.old class self.new }
         ensures turned { HasTurned number shared.old shared.new self.old.uses self.new.uses }
     {
         let met = self.take(shared);
-        self.bodies.enter(alloc, program, class);
+        self.bodies.enter(alloc, program, code, class);
         self.give_back(number, met, shared);
     }
 
@@ -106,17 +110,19 @@ impl<H, B: Lends<H>> Lent<B, H> {
         &mut self,
         alloc: Global,
         program: &Program,
+        code: &B::Code,
         number: usize,
         shared: &mut Shared<H>,
         last: Option<Completed>,
     ) -> Does
-        requires { GoesOn last }
+        requires code { B.is_code code.now program.now }
+        requires goes_on { GoesOn last }
         ensures does { (lent_bodies B.lending (B.making program.now)).does self.old last result self.new }
         ensures fits { MayDo program.now (lent_bodies B.lending (B.making program.now)) last result self.new }
         ensures turned { HasTurned number shared.old shared.new self.old.uses self.new.uses }
     {
         let met = self.take(shared);
-        let does = self.bodies.next(alloc, program, last);
+        let does = self.bodies.next(alloc, program, code, last);
         self.give_back(number, met, shared);
         does
     }

@@ -76,7 +76,7 @@ fn report<H: Drop, B: Lends<H>>(
 /// Runs 1 to 16 main classes of a program in this order, on the calling thread. Thread t is that of the t-th main class: the
 /// procedure for that class, with all that it needs, and then the method `main` (JLS SE 8 12.4.2). What its initializers and
 /// `main` do is what the t-th of `bodies` says that they do. What the threads share is `shared` at first; each has it for each step of its
-/// bodies, and meets it as the step before, of whichever thread, left it.
+/// bodies, and meets it as the step before, of whichever thread, left it. `code` is the code of the program, as the bodies have it.
 ///
 /// Each number of the order lets that thread go on until it has made one event, has ended or can't go on; it can't go on while it
 /// waits for a class that another thread initializes, or in a body. Then the number is used up. After the order the lowest
@@ -88,19 +88,21 @@ fn report<H: Drop, B: Lends<H>>(
 pub fn run_ordered<H: Drop, B: Lends<H>>(
     alloc: Global,
     program: &Program,
+    code: &B::Code,
     mains: &[ClassId],
     order: &[usize],
     bodies: Vec<B>,
     shared: H,
 ) -> Result<Report, AllocError>
+    requires code { B.is_code code.now program.now }
     requires mains { AreMains program.now mains.now }
     requires count { vec_len bodies ≡ length mains.now }
     requires order { AllByRecursion (λ t. t < length mains.now) order.now }
     ensures { IfOk result (IsOrderedRunOf program.now B.lending (B.making program.now) shared bodies.items mains.now order.now) }
 {
     let mut run = Run::begin(alloc, program, mains, bodies, shared)?;
-    run.follow(alloc, program, order)?;
-    run.finish(alloc, program)?;
+    run.follow(alloc, program, code, order)?;
+    run.finish(alloc, program, code)?;
     let report = report(alloc, program, run)?;
     Ok(report)
 }

@@ -63,7 +63,14 @@ impl<H: Drop, B: Lends<H>> Run<Lent<B, H>, H> {
 
     /// A thread goes on until it has made one event, has ended or can't go on; `Ended` where it had ended before. An `Err` is out of
     /// memory.
-    fn go(&mut self, alloc: Global, program: &Program, number: usize) -> Result<Turn, AllocError>
+    fn go(
+        &mut self,
+        alloc: Global,
+        program: &Program,
+        code: &B::Code,
+        number: usize,
+    ) -> Result<Turn, AllocError>
+        requires code { B.is_code code.now program.now }
         requires going { AreGoing program.now (lent_bodies B.lending (B.making program.now)) self.old }
         requires in_turn { AreInTurn self.old }
         requires number { number < length self.old.threads.items }
@@ -75,7 +82,7 @@ impl<H: Drop, B: Lends<H>> Run<Lent<B, H>, H> {
         if let Some(done) = thread.done {
             return Ok(Turn::Ended(done));
         }
-        match thread.advance(alloc, program, &mut self.log, &mut self.shared)? {
+        match thread.advance(alloc, program, code, &mut self.log, &mut self.shared)? {
             Turn::Ended(done) => {
                 thread.end(program, &mut self.shared, done);
                 Ok(Turn::Silent)
@@ -90,8 +97,10 @@ impl<H: Drop, B: Lends<H>> Run<Lent<B, H>, H> {
         &mut self,
         alloc: Global,
         program: &Program,
+        code: &B::Code,
         order: &[usize],
     ) -> Result<(), AllocError>
+        requires code { B.is_code code.now program.now }
         requires going { AreGoing program.now (lent_bodies B.lending (B.making program.now)) self.old }
         requires in_turn { AreInTurn self.old }
         requires order { AllByRecursion (λ t. t < length self.old.threads.items) order.now }
@@ -99,13 +108,19 @@ impl<H: Drop, B: Lends<H>> Run<Lent<B, H>, H> {
         ensures follows { OnOk result (HasFollowed program.now B.lending (B.making program.now) order.now self.old [] self.new) }
     {
         'order: for number in order {
-            self.go(alloc, program, *number)?;
+            self.go(alloc, program, code, *number)?;
         }
         Ok(())
     }
 
     /// The lowest thread that can goes on: each lower one had ended or waits, and stays so. An `Err` means out of memory.
-    fn go_lowest(&mut self, alloc: Global, program: &Program) -> Result<Found, AllocError>
+    fn go_lowest(
+        &mut self,
+        alloc: Global,
+        program: &Program,
+        code: &B::Code,
+    ) -> Result<Found, AllocError>
+        requires code { B.is_code code.now program.now }
         requires going { AreGoing program.now (lent_bodies B.lending (B.making program.now)) self.old }
         requires in_turn { AreInTurn self.old }
         ensures still { IfOk result (λ found. StillGoes program.now B.lending (B.making program.now) self.old self.new) }
@@ -113,7 +128,7 @@ impl<H: Drop, B: Lends<H>> Run<Lent<B, H>, H> {
     {
         let mut held = None;
         'threads: for number in 0..self.threads.len() {
-            match self.go(alloc, program, number)? {
+            match self.go(alloc, program, code, number)? {
                 Turn::Event | Turn::Silent => return Ok(Found::GoesOn),
                 Turn::Waits => held = held.or(Some(number)),
                 Turn::Ended(_) => (),
@@ -144,7 +159,13 @@ impl<H: Drop, B: Lends<H>> Run<Lent<B, H>, H> {
 
     /// All threads go on to their end: the lowest that can, and where none can the lowest that waits gives up. An `Err` is out
     /// of memory; so are more events than there are numbers.
-    pub(crate) fn finish(&mut self, alloc: Global, program: &Program) -> Result<(), AllocError>
+    pub(crate) fn finish(
+        &mut self,
+        alloc: Global,
+        program: &Program,
+        code: &B::Code,
+    ) -> Result<(), AllocError>
+        requires code { B.is_code code.now program.now }
         requires going { AreGoing program.now (lent_bodies B.lending (B.making program.now)) self.old }
         requires in_turn { AreInTurn self.old }
         ensures still { OnOk result (StillGoes program.now B.lending (B.making program.now) self.old self.new) }
@@ -152,7 +173,7 @@ impl<H: Drop, B: Lends<H>> Run<Lent<B, H>, H> {
         ensures ended { OnOk result (AllThreads (λ t w. HasDone w) self.new) }
     {
         'rounds: for _ in 0..u64::MAX {
-            match self.go_lowest(alloc, program)? {
+            match self.go_lowest(alloc, program, code)? {
                 Found::GoesOn => (),
                 Found::Held(number) => self.give_up(program, number),
                 Found::Ended => return Ok(()),

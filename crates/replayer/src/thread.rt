@@ -134,10 +134,12 @@ impl<H, B: Lends<H>> Thread<Lent<B, H>> {
         &mut self,
         alloc: Global,
         program: &Program,
+        code: &B::Code,
         log: &mut EventLog,
         shared: &mut Shared<H>,
         class: ClassId,
     ) -> Result<(), AllocError>
+        requires code { B.is_code code.now program.now }
         requires going { Going program.now (lent_bodies B.lending (B.making program.now)) log.old self.old }
         requires next { next_of self.old.procedure.frames ≡ nexts.Body class }
         requires before { is_running self.old.procedure.frames ≡ false }
@@ -148,7 +150,7 @@ impl<H, B: Lends<H>> Thread<Lent<B, H>> {
         log.add(program, self.number, class, Kind::Runs)?;
         self.procedure.run_body();
         self.bodies
-            .start(alloc, program, self.number, shared, class);
+            .start(alloc, program, code, self.number, shared, class);
         Ok(())
     }
 
@@ -177,9 +179,11 @@ impl<H, B: Lends<H>> Thread<Lent<B, H>> {
         &mut self,
         alloc: Global,
         program: &Program,
+        code: &B::Code,
         log: &EventLog,
         shared: &mut Shared<H>,
     ) -> Option<Outcome>
+        requires code { B.is_code code.now program.now }
         requires going { Going program.now (lent_bodies B.lending (B.making program.now)) log.now self.old }
         requires idle { next_of self.old.procedure.frames ≡ nexts.Idle }
         requires before { self.old.in_main ≡ false }
@@ -195,7 +199,7 @@ impl<H, B: Lends<H>> Thread<Lent<B, H>> {
             return Some(outcome);
         };
         self.bodies
-            .enter(alloc, program, self.number, shared, self.main);
+            .enter(alloc, program, code, self.number, shared, self.main);
         self.procedure.forget_last();
         self.in_main = true;
         None
@@ -206,10 +210,12 @@ impl<H, B: Lends<H>> Thread<Lent<B, H>> {
         &mut self,
         alloc: Global,
         program: &Program,
+        code: &B::Code,
         log: &mut EventLog,
         shared: &mut Shared<H>,
     ) -> Result<Turn, AllocError>
-        requires { Resting program.now (lent_bodies B.lending (B.making program.now)) log.old self.old }
+        requires code { B.is_code code.now program.now }
+        requires resting { Resting program.now (lent_bodies B.lending (B.making program.now)) log.old self.old }
         ensures turn { IfOk result (TurnsWith program.now B.lending (B.making program.now) shared.new.state log.old self.old log.new self.new) }
         ensures same { IsSameThread self.old self.new }
         ensures turned { IfOk result (λ turn. HasTurned self.old.number shared.old shared.new self.old.bodies.uses self.new.bodies.uses) }
@@ -218,16 +224,16 @@ impl<H, B: Lends<H>> Thread<Lent<B, H>> {
         match self.procedure.next() {
             Next::Idle => {
                 if self.in_main {
-                    return self.go_on(alloc, program, log, shared);
+                    return self.go_on(alloc, program, code, log, shared);
                 }
-                Ok(turn_of(self.enter_main(alloc, program, log, shared)))
+                Ok(turn_of(self.enter_main(alloc, program, code, log, shared)))
             }
             Next::Look(class) => self.look(alloc, program, log, shared, class),
             Next::Body(class) => {
                 if self.procedure.is_running() {
-                    return self.go_on(alloc, program, log, shared);
+                    return self.go_on(alloc, program, code, log, shared);
                 }
-                event_of(self.run_body(alloc, program, log, shared, class))
+                event_of(self.run_body(alloc, program, code, log, shared, class))
             }
             Next::End(class, ending) => event_of(self.end_class(program, log, class, ending)),
         }
@@ -239,10 +245,12 @@ impl<H, B: Lends<H>> Thread<Lent<B, H>> {
         &mut self,
         alloc: Global,
         program: &Program,
+        code: &B::Code,
         log: &mut EventLog,
         shared: &mut Shared<H>,
     ) -> Result<Turn, AllocError>
-        requires { Resting program.now (lent_bodies B.lending (B.making program.now)) log.old self.old }
+        requires code { B.is_code code.now program.now }
+        requires resting { Resting program.now (lent_bodies B.lending (B.making program.now)) log.old self.old }
         ensures turn { IfOk result (TurnsWith program.now B.lending (B.making program.now) shared.new.state log.old self.old log.new self.new) }
         ensures moves { IfOk result (λ turn. turn ≢ turns.Silent) }
         ensures same { IsSameThread self.old self.new }
@@ -251,7 +259,7 @@ impl<H, B: Lends<H>> Thread<Lent<B, H>> {
     {
         let mut has_gone_on = false;
         'turns: for _ in 0..u64::MAX {
-            let turn = self.turn(alloc, program, log, shared)?;
+            let turn = self.turn(alloc, program, code, log, shared)?;
             if turn != Turn::Silent {
                 return Ok(if has_gone_on && turn == Turn::Waits {
                     Turn::Comes

@@ -6,7 +6,7 @@ use Rattle.hierarchy.specs.declared.class.Class.{Class}
 use Rattle.hierarchy.specs.declared.class.ClassId.{ClassId}
 use Rattle.hierarchy.specs.LinkedProgram.{LinkedProgram, class_at}
 use Rattle.hierarchy.specs.OwnNames.{fields_in, fields_of}
-use Rattle.hierarchy.specs.Ops.{is_static_field, place_among_statics}
+use Rattle.hierarchy.specs.StaticFields.{is_static_field, place_among_statics}
 use Rattle.hierarchy.proofs.Positions.{filtered_there}
 use Rattle.statics.specs.Statics.{static_fields_in, static_fields}
 

@@ -15,7 +15,7 @@ use Rattle.hierarchy.specs.declared.class.ClassId.{ClassId}
 use Rattle.hierarchy.specs.declared.value.Value.{Value}
 use Rattle.hierarchy.specs.declared.value.Value.TheVariants as value
 use Rattle.hierarchy.specs.LinkedProgram.{LinkedProgram, class_at}
-use Rattle.hierarchy.specs.Ops.{is_static_field}
+use Rattle.hierarchy.specs.StaticFields.{is_static_field}
 use Rattle.hierarchy.specs.Quoted.{text_reference}
 use Rattle.statics.specs.declared.static_field.StaticField.{StaticField}
 

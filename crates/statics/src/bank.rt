@@ -2,7 +2,7 @@
 
 ghost use Rattle.std.specs.Prelude.{◌≡◌, ◌<◌, Some, IfOk, length, map, filter, set, slice_get};
 ghost use Rattle.statics.specs.Statics.{statics_of, static_field as static_field_of, default_of, with_constants};
-ghost use Rattle.hierarchy.specs.Ops.{is_static_field};
+ghost use Rattle.hierarchy.specs.StaticFields.{is_static_field};
 
 use crate::static_field::{StaticField, static_field};
 use hierarchy::{ClassId, Program, Value};

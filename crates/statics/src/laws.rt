@@ -3,7 +3,7 @@
 ghost use Rattle.std.specs.Prelude.{◌≡◌, ℕ, Some, slice_get, true};
 ghost use Rattle.jasmin_text.specs.declared.class_text.Field.{Field};
 ghost use Rattle.hierarchy.specs.LinkedProgram.{LinkedProgram};
-ghost use Rattle.hierarchy.specs.Ops.{is_static_field, place_among_statics};
+ghost use Rattle.hierarchy.specs.StaticFields.{is_static_field, place_among_statics};
 ghost use Rattle.hierarchy.specs.OwnNames.{fields_of};
 ghost use Rattle.hierarchy.specs.declared.class.ClassId.{ClassId};
 ghost use Rattle.statics.specs.Statics.{static_fields};

@@ -1,7 +1,7 @@
 //! What is known of a static field before the program runs.
 
 ghost use Rattle.std.specs.Prelude.{◌≡◌, pos, ◌<ℤ◌, ◌≤ℤ◌, filter, option_copied, slice_get};
-ghost use Rattle.hierarchy.specs.Ops.{is_static_field};
+ghost use Rattle.hierarchy.specs.StaticFields.{is_static_field};
 ghost use Rattle.statics.specs.Statics.{base_in, default_of, signed_low, narrowed_int, narrowed as narrowed_value, constant_value, with_constant, static_field as static_field_of, static_fields, text_value};
 
 use descriptors::{BaseType, ElementType, FieldType};

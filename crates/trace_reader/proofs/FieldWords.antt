@@ -27,7 +27,7 @@ use Rattle.hierarchy.specs.declared.class.ClassId.{ClassId}
 use Rattle.hierarchy.specs.LinkedProgram.{LinkedProgram, class_at}
 use Rattle.hierarchy.specs.LinkedTexts.{IsLinked}
 use Rattle.hierarchy.specs.OwnNames.{fields_in, fields_of}
-use Rattle.hierarchy.specs.Ops.{is_static_field}
+use Rattle.hierarchy.specs.StaticFields.{is_static_field}
 use Rattle.hierarchy.proofs.DistinctMembers.{own_fields}
 use Rattle.statics.specs.Statics.{base_in, static_field, static_fields_in, static_fields, statics_of}
 use Rattle.init_core.specs.declared.event.TheConstants.{FIELD_PLACES}

@@ -4,7 +4,7 @@ ghost use Rattle.std.specs.Prelude.{◌≡◌, ◌<◌, ◌==◌, ◌++◌, ◌�
 ghost use Rattle.std.specs.List.{list_any};
 ghost use Rattle.std.specs.Str.{bytes_eq};
 ghost use Rattle.descriptors.specs.Spelling.{field_spelling, element_spelling};
-ghost use Rattle.hierarchy.specs.Ops.{is_static_field};
+ghost use Rattle.hierarchy.specs.StaticFields.{is_static_field};
 ghost use Rattle.sequence.specs.Gives.{Gives};
 ghost use Rattle.statics.specs.Statics.{static_fields};
 ghost use Rattle.trace.specs.TraceText.{field_in_trace};

@@ -1,10 +1,10 @@
 //! Times of reading a part of a file, beside the same of a file of the same shape with fewer parts; and of reading a byte of
 //! code, beside one pass over the bytes of the same file, which counts the ends of its lines.
 
-use crate::bench::code::{ARITHMETIC, CALLS, FIELDS, MIXED, STRINGS, SWITCHES};
 use crate::bench::files::{self, Files};
 use crate::bench::harness::{Failure, Row, Watch};
 use crate::bench::sample::Sample;
+use crate::bench::shapes::{ARITHMETIC, CALLS, FIELDS, MIXED, STRINGS, SWITCHES};
 use jasmin_reader::read_class;
 use std::alloc::Global;
 use std::rt::Clock;

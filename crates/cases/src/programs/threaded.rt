@@ -4,6 +4,7 @@ use crate::linked::add_class;
 use crate::programs::named_texts::Texts;
 use bodies::{Limits, Report};
 use cli::{Named, write_outcomes};
+use code::resolve;
 use command_line::Run;
 use guest_threads::{NoGate, run_threads};
 use hierarchy::{ClassId, Edition, LinkFault, Program, link_as};
@@ -56,6 +57,10 @@ fn run_main<R: Threads + Wait + Sync>(
     if main.number >= program.len() {
         return;
     }
+    let Ok(code) = resolve(alloc, program) else {
+        ran.is_refused = true;
+        return;
+    };
     let shared = SharedObjects::new(alloc);
     let mut bodies = Vec::new(alloc);
     let sleeps = limits.patience == 0;
@@ -64,7 +69,7 @@ fn run_main<R: Threads + Wait + Sync>(
         ran.is_refused = true;
         return;
     }
-    match run_threads(rt, alloc, program, &[main], bodies, limits, &NoGate) {
+    match run_threads(rt, alloc, program, &code, &[main], bodies, limits, &NoGate) {
         Ok(report) => put_report(alloc, program, &report, ran),
         Err(_) => ran.is_refused = true,
     }

@@ -1,6 +1,6 @@
 use Rattle.std.proofs.Common.{◌≡◌, ◌+◌, ◌≤◌, length}
 use Rattle.std.specs.Prelude.{filter}
-use Rattle.hierarchy.specs.Ops.{is_static_field}
+use Rattle.hierarchy.specs.StaticFields.{is_static_field}
 use Rattle.hierarchy.proofs.fields.static_count.Given as goal
 
 abbrev pub invariant-loop-rest : goal.invariant-loop-rest

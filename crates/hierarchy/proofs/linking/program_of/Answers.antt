@@ -1,5 +1,3 @@
-use Rattle.std.proofs.Common.{◌≡◌}
-use Rattle.std.proofs.lemmas.Result.{IfOk-weaker}
 use Rattle.hierarchy.specs.FirstFault.{HasNoCycle}
 use Rattle.hierarchy.specs.LinkedProgram.{id}
 use Rattle.hierarchy.proofs.Acyclic.{not_cyclic}
@@ -24,4 +22,4 @@ new-requires-clause-linked c =
 pub returns-in-Ok-clause-cycles : goal.returns-in-Ok-clause-cycles
 returns-in-Ok-clause-cycles c =
     let none : HasNoCycle c.args.classes.items = λ n. not_cyclic c.args.classes.items (rw c.deref.ensures.value at c.in-Ok.ensures.acyclic) (id n) in
-    IfOk-weaker c.resolved.result (λ made. made ≡ c.new.result) (λ made. HasNoCycle c.args.classes.items) (λ made same. none) c.resolved.ensures.same
+    none

@@ -1,7 +1,7 @@
 use Rattle.std.proofs.Common.{◌≡◌, ℕ, Bool, true, Option, sym, ap, ◌∙◌}
 use Rattle.std.specs.Prelude.{◌&&◌, if◌then◌else◌}
-use Rattle.hierarchy.specs.declared.code.ResolvedType.{ResolvedType}
-use Rattle.hierarchy.specs.declared.op.ElementKind.{ElementKind}
+use Rattle.code.specs.declared.class_code.ResolvedType.{ResolvedType}
+use Rattle.code.specs.declared.op.ElementKind.{ElementKind}
 use Rattle.hierarchy.specs.declared.value.Value.{Value}
 use Rattle.frames.specs.declared.cell.Cell.{Cell}
 use Rattle.interpreter.specs.declared.index.Index.{Index}

@@ -1,6 +1,6 @@
 use Rattle.std.proofs.Common.{◌≡◌, length, slice_get}
 use Rattle.std.specs.Prelude.{filter}
-use Rattle.hierarchy.specs.Ops.{is_static_field}
+use Rattle.hierarchy.specs.StaticFields.{is_static_field}
 use Rattle.statics.proofs.static_field.static_among.Given as goal
 
 abbrev pub invariant-loop-rest : goal.invariant-loop-rest

@@ -1,6 +1,6 @@
 use Rattle.std.proofs.Common.{◌≡◌, Some, None, subst, sym}
 use Rattle.bodies.specs.declared.does.Does.{Does}
-use Rattle.hierarchy.specs.declared.op.Op.TheVariants as op
+use Rattle.code.specs.declared.op.Op.TheVariants as op
 use Rattle.interpreter.specs.Rows.{IsAtOp}
 use Rattle.interpreter.specs.Says.{IsSayable}
 use Rattle.interpreter.proofs.Saying.{gets_said, gets_then, idles_then, number_of, puts_said, puts_then, still_waits}
@@ -10,7 +10,7 @@ not_none : {A P : Type 0} (x : A) → Some x ≡ None → P
 not_none x e = cc
 
 pub returns-in-Ok-false-clause-row : goal.returns-in-Ok-false-clause-row
-returns-in-Ok-false-clause-row c _ = idles_then c.args.program.now c.args.self.now c.args.class c.in-Some.op c.in-Ok-false.field-0 c.requires c.in-Some.ensures c.in-Ok-false.ensures c.in-Ok-false.field-0-test
+returns-in-Ok-false-clause-row c _ = idles_then c.args.program.now c.args.self.now c.args.class c.in-Some.op c.in-Ok-false.field-0 c.requires.phase c.in-Some.ensures c.in-Ok-false.ensures c.in-Ok-false.field-0-test
 
 pub make-requires-clause-ready : goal.make-requires-clause-ready
 make-requires-clause-ready c = (still_waits c.args.program.now c.args.self.now.frames c.in-Some.op (op.New c.in-New.wanted) c.args.class c.in-Ok-true.field-0 c.in-Ok-true.ensures c.in-Ok-true.field-0-test c.in-New.is).0
@@ -19,7 +19,7 @@ pub call_static-requires-clause-ready : goal.call_static-requires-clause-ready
 call_static-requires-clause-ready c = (still_waits c.args.program.now c.args.self.now.frames c.in-Some.op (op.InvokeStatic c.in-InvokeStatic.wanted c.in-InvokeStatic.method) c.args.class c.in-Ok-true.field-0 c.in-Ok-true.ensures c.in-Ok-true.field-0-test c.in-InvokeStatic.is).0
 
 pub returns-in-GetStatic-clause-says : goal.returns-in-GetStatic-clause-says
-returns-in-GetStatic-clause-says c = gets_then c.args.program.now c.args.self.now c.get_static.new.self c.get_static.result c.in-Some.op c.args.class c.in-GetStatic.field-0 c.in-GetStatic.field c.requires c.in-Some.ensures c.in-GetStatic.is
+returns-in-GetStatic-clause-says c = gets_then c.args.program.now c.args.self.now c.get_static.new.self c.get_static.result c.in-Some.op c.args.class c.in-GetStatic.field-0 c.in-GetStatic.field c.requires.phase c.in-Some.ensures c.in-GetStatic.is
     (still_waits c.args.program.now c.args.self.now.frames c.in-Some.op (op.GetStatic c.in-GetStatic.field-0 c.in-GetStatic.field) c.args.class c.in-Ok-true.field-0 c.in-Ok-true.ensures c.in-Ok-true.field-0-test c.in-GetStatic.is)
     c.get_static.ensures.does c.get_static.ensures.same
 
@@ -28,10 +28,10 @@ returns-in-GetStatic-clause-sayable c =
     let waits = still_waits c.args.program.now c.args.self.now.frames c.in-Some.op (op.GetStatic c.in-GetStatic.field-0 c.in-GetStatic.field) c.args.class c.in-Ok-true.field-0 c.in-Ok-true.ensures c.in-Ok-true.field-0-test c.in-GetStatic.is in
     subst (λ (d : Does). IsSayable c.args.program.now c.args.self.now.phase d) (sym c.get_static.ensures.does)
     (gets_said c.args.program.now c.args.self.now.frames c.args.self.now.phase c.args.class c.in-GetStatic.field-0 c.in-GetStatic.field c.is_linked.ensures.linked c.instructions_name_what_is_there.ensures
-    (sym (number_of c.args.class c.in-GetStatic.field-0 waits)) c.requires (subst (IsAtOp c.args.program.now c.args.self.now.frames) c.in-GetStatic.is c.in-Some.ensures))
+    (sym (number_of c.args.class c.in-GetStatic.field-0 waits)) c.requires.phase (subst (IsAtOp c.args.program.now c.args.self.now.frames) c.in-GetStatic.is c.in-Some.ensures))
 
 pub returns-in-PutStatic-clause-says : goal.returns-in-PutStatic-clause-says
-returns-in-PutStatic-clause-says c = puts_then c.args.program.now c.args.self.now c.put_static.new.self c.put_static.result c.in-Some.op c.args.class c.in-PutStatic.field-0 c.in-PutStatic.field c.requires c.in-Some.ensures c.in-PutStatic.is
+returns-in-PutStatic-clause-says c = puts_then c.args.program.now c.args.self.now c.put_static.new.self c.put_static.result c.in-Some.op c.args.class c.in-PutStatic.field-0 c.in-PutStatic.field c.requires.phase c.in-Some.ensures c.in-PutStatic.is
     (still_waits c.args.program.now c.args.self.now.frames c.in-Some.op (op.PutStatic c.in-PutStatic.field-0 c.in-PutStatic.field) c.args.class c.in-Ok-true.field-0 c.in-Ok-true.ensures c.in-Ok-true.field-0-test c.in-PutStatic.is)
     c.put_static.ensures.does c.put_static.ensures.taken
 
@@ -40,7 +40,7 @@ returns-in-PutStatic-clause-sayable c =
     let waits = still_waits c.args.program.now c.args.self.now.frames c.in-Some.op (op.PutStatic c.in-PutStatic.field-0 c.in-PutStatic.field) c.args.class c.in-Ok-true.field-0 c.in-Ok-true.ensures c.in-Ok-true.field-0-test c.in-PutStatic.is in
     subst (λ (d : Does). IsSayable c.args.program.now c.args.self.now.phase d) (sym c.put_static.ensures.does)
     (puts_said c.args.program.now c.args.self.now.frames c.args.self.now.phase c.args.class c.in-PutStatic.field-0 c.in-PutStatic.field c.instructions_name_what_is_there.ensures
-    (sym (number_of c.args.class c.in-PutStatic.field-0 waits.0)) c.requires (subst (IsAtOp c.args.program.now c.args.self.now.frames) c.in-PutStatic.is c.in-Some.ensures) waits.1)
+    (sym (number_of c.args.class c.in-PutStatic.field-0 waits.0)) c.requires.phase (subst (IsAtOp c.args.program.now c.args.self.now.frames) c.in-PutStatic.is c.in-Some.ensures) waits.1)
 
 pub make-requires-clause-at : goal.make-requires-clause-at
 make-requires-clause-at c = subst (IsAtOp c.args.program.now c.args.self.now.frames) c.in-New.is c.in-Some.ensures

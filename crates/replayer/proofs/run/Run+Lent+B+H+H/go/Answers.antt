@@ -63,8 +63,8 @@ returns-in_default-2 g c =
     c.in_ok-turn.ensures.turn) c.requires.going in
     record { alone = record { still = record { going = x.going; in_turn = in_turn; first = turned.first }; turned = record { turned = turned.turned; own = turned.own; turns = turned.turns }; others = x.others }; gone = x.gone; there = x.there }
 
-pub advance-requires : goal.advance-requires
-advance-requires g c =
+pub advance-requires-clause-resting : goal.advance-requires-clause-resting
+advance-requires-clause-resting g c =
     let p = c.args.program.now in
     let M = lent_bodies g.B.Lends.lending (g.B.Bodies.making p) in
     let w = c.index_mut-thread.result.now in

@@ -50,12 +50,12 @@ returns-in_err-turn-clause-same g c = same_then c.turns.invariant.same c.turn.en
 pub turns-init : goal.turns-init
 turns-init g c =
     record {
-      rests = c.requires;
+      rests = c.requires.resting;
       log = refl;
       same = record { number = refl; main = refl; start = refl; gave_up = refl; done = refl };
       turned = no_turn c.args.self.now.number c.args.shared.now c.args.self.now.bodies.uses;
       still = λ q. refl;
     }
 
-pub turn-requires : goal.turn-requires
-turn-requires g c = c.turns.invariant.rests
+pub turn-requires-clause-resting : goal.turn-requires-clause-resting
+turn-requires-clause-resting g c = c.turns.invariant.rests

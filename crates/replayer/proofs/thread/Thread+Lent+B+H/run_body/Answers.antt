@@ -17,5 +17,5 @@ add-requires-clause-class g c = run_files c.args.program.now (lent_bodies g.B.Le
 pub add-requires-clause-allowed : goal.add-requires-clause-allowed
 add-requires-clause-allowed g c = run_allowed c.args.program.now (lent_bodies g.B.Lends.lending (g.B.Bodies.making c.args.program.now)) c.args.log.now c.args.self.now c.args.class c.requires.next c.requires.before c.requires.going
 
-pub start-requires : goal.start-requires
-start-requires g c = run_files c.args.program.now (lent_bodies g.B.Lends.lending (g.B.Bodies.making c.args.program.now)) c.args.log.now c.args.self.now c.args.class c.requires.next c.requires.before c.requires.going
+pub start-requires-clause-class : goal.start-requires-clause-class
+start-requires-clause-class g c = run_files c.args.program.now (lent_bodies g.B.Lends.lending (g.B.Bodies.making c.args.program.now)) c.args.log.now c.args.self.now c.args.class c.requires.next c.requires.before c.requires.going

@@ -8,22 +8,22 @@ use Rattle.replayer.proofs.Turned.{none_turned}
 use Rattle.replayer.proofs.thread.Thread+Lent+B+H.turn.Goals as goal
 
 pub go_on-requires-clause-body : goal.go_on-requires-clause-body
-go_on-requires-clause-body g c = main_rests c.args.program.now (lent_bodies g.B.Lends.lending (g.B.Bodies.making c.args.program.now)) c.args.log.now c.args.self.now (sym c.next.ensures ∙ c.in-Idle.is) c.if-self.true c.requires
+go_on-requires-clause-body g c = main_rests c.args.program.now (lent_bodies g.B.Lends.lending (g.B.Bodies.making c.args.program.now)) c.args.log.now c.args.self.now (sym c.next.ensures ∙ c.in-Idle.is) c.if-self.true c.requires.resting
 
 pub enter_main-requires-clause-going : goal.enter_main-requires-clause-going
-enter_main-requires-clause-going g c = before_main c.args.program.now (lent_bodies g.B.Lends.lending (g.B.Bodies.making c.args.program.now)) c.args.log.now c.args.self.now c.if-self.false (sym c.next.ensures ∙ c.in-Idle.is) c.requires
+enter_main-requires-clause-going g c = before_main c.args.program.now (lent_bodies g.B.Lends.lending (g.B.Bodies.making c.args.program.now)) c.args.log.now c.args.self.now c.if-self.false (sym c.next.ensures ∙ c.in-Idle.is) c.requires.resting
 
 pub look-requires-clause-going : goal.look-requires-clause-going
-look-requires-clause-going g c = looks_still c.args.program.now (lent_bodies g.B.Lends.lending (g.B.Bodies.making c.args.program.now)) c.args.log.now c.args.self.now c.in-Look.class (sym c.next.ensures ∙ c.in-Look.is) c.requires
+look-requires-clause-going g c = looks_still c.args.program.now (lent_bodies g.B.Lends.lending (g.B.Bodies.making c.args.program.now)) c.args.log.now c.args.self.now c.in-Look.class (sym c.next.ensures ∙ c.in-Look.is) c.requires.resting
 
 pub go_on-requires-then-is_running-clause-body : goal.go_on-requires-then-is_running-clause-body
 go_on-requires-then-is_running-clause-body g c = class_body c.args.program.now (lent_bodies g.B.Lends.lending (g.B.Bodies.making c.args.program.now)) c.args.self.now (sym c.is_running.ensures ∙ c.if-is_running.true)
 
 pub run_body-requires-clause-going : goal.run_body-requires-clause-going
-run_body-requires-clause-going g c = runs_still c.args.program.now (lent_bodies g.B.Lends.lending (g.B.Bodies.making c.args.program.now)) c.args.log.now c.args.self.now c.in-Body.class (sym c.next.ensures ∙ c.in-Body.is) (sym c.is_running.ensures ∙ c.if-is_running.false) c.requires
+run_body-requires-clause-going g c = runs_still c.args.program.now (lent_bodies g.B.Lends.lending (g.B.Bodies.making c.args.program.now)) c.args.log.now c.args.self.now c.in-Body.class (sym c.next.ensures ∙ c.in-Body.is) (sym c.is_running.ensures ∙ c.if-is_running.false) c.requires.resting
 
 pub end_class-requires-clause-going : goal.end_class-requires-clause-going
-end_class-requires-clause-going g c = ends_still c.args.program.now (lent_bodies g.B.Lends.lending (g.B.Bodies.making c.args.program.now)) c.args.log.now c.args.self.now c.in-End.class c.in-End.ending (sym c.next.ensures ∙ c.in-End.is) c.requires
+end_class-requires-clause-going g c = ends_still c.args.program.now (lent_bodies g.B.Lends.lending (g.B.Bodies.making c.args.program.now)) c.args.log.now c.args.self.now c.in-End.class c.in-End.ending (sym c.next.ensures ∙ c.in-End.is) c.requires.resting
 
 pub returns-else-self-clause-turn : goal.returns-else-self-clause-turn
 returns-else-self-clause-turn g c = turn_done c.args.program.now (lent_bodies g.B.Lends.lending (g.B.Bodies.making c.args.program.now)) (WaitsAt g.B.Lends.lending (g.B.Bodies.making c.args.program.now) c.enter_main.new.shared.state) c.args.log.now c.args.self.now c.enter_main.new.self c.turn_of.result c.enter_main.result c.turn_of.ensures c.enter_main.ensures.going
