@@ -96,6 +96,7 @@ def main(words):
     if os.path.isfile(PROGRAM):
         counted(tally, "archives", ["tests/archives/run", PROGRAM])
         counted(tally, "archives", ["tests/explanations/run", PROGRAM])
+        counted(tally, "archives", ["tests/instructions/run"])
         if kit.version() in kit.KNOWN:
             counted(tally, "package", ["package/test", PROGRAM])
         seed = str(int(time.time()))
