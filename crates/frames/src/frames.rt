@@ -279,9 +279,8 @@ impl Frames {
         }
     }
 
-    /// So many operands of the innermost frame are dropped.
+    /// So many operands of the innermost frame are dropped, or all where there are fewer.
     pub fn drop_operands(&mut self, count: usize)
-        requires { count ≤ length (operands_of self.old) }
         ensures { self.new ≡ in_innermost (dropped count) self.old }
     {
         if let Some(slot) = &mut self.innermost {

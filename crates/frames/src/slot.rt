@@ -165,11 +165,12 @@ impl Slot {
     }
 
     #[inline(always)]
+    #[tactic(auto, using(crate::proofs::Stacks::dropped_at_most))]
     pub(crate) fn drop_operands(&mut self, count: usize)
-        requires { count ≤ length self.old.frame.stack }
         ensures { self.new ≡ in_frame (dropped count) self.old }
     {
-        self.parts.top -= count;
+        let parts = &mut *self.parts;
+        parts.top = parts.top.saturating_sub(count);
     }
 
     #[inline(always)]

@@ -110,5 +110,9 @@ is_no_class b = false
 abbrev pub thrown_by : LinkedProgram → BuiltIn → List HeapObject → Thrown
 thrown_by p b made = if is_no_class b then ready_no_class p else if has_cells p made 1 then record { reference = next_reference p made; class = built_in p b } else ready_out_of_memory p
 
+-- a new object is made of it
+abbrev pub makes_thrown : LinkedProgram → BuiltIn → List HeapObject → Bool
+makes_thrown p b made = if is_no_class b then false else has_cells p made 1
+
 abbrev pub with_thrown : LinkedProgram → BuiltIn → List HeapObject → List HeapObject
 with_thrown p b made = if is_no_class b then made else with_new p made (Instance (built_in p b) [])

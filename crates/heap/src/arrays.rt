@@ -1,6 +1,6 @@
 //! The elements of arrays.
 
-ghost use Rattle.std.specs.Prelude.{◌≡◌};
+ghost use Rattle.std.specs.Prelude.{◌≡◌, ◌<◌, ◌≤◌, IfSome};
 ghost use Rattle.heap.specs.Contents.{PutsElement, PutsItem, array_length, element_at, element_type as element_type_of};
 ghost use Rattle.heap.specs.Objects.{cells_of_all};
 
@@ -29,11 +29,27 @@ impl Heap {
         self.made_at(program, reference)?.element_type()
     }
 
-    /// How many elements the array has to which a reference refers, if it refers to one (JVMS SE 8 6.5 arraylength). Takes no memory.
-    pub fn length(&self, program: &Program, reference: u32) -> Option<usize>
+    /// No more cells are taken than the heap has.
+    fn is_within(&self)
+        ensures { cells_of_all self.now ≤ 1000000 }
+    {
+        let _taken = self.taken;
+    }
+
+    fn length_at(&self, program: &Program, reference: u32) -> Option<usize>
         ensures { result ≡ array_length program.now self.now reference }
     {
         self.made_at(program, reference)?.length()
+    }
+
+    /// How many elements the array has to which a reference refers, if it refers to one (JVMS SE 8 6.5 arraylength): fewer than the heap has
+    /// cells. Takes no memory.
+    pub fn length(&self, program: &Program, reference: u32) -> Option<usize>
+        ensures length { result ≡ array_length program.now self.now reference }
+        ensures few { IfSome result (λ length. length < 1000000) }
+    {
+        self.is_within();
+        self.length_at(program, reference)
     }
 
     /// What an element of an array holds: none where the reference refers to no array with such an element (JVMS SE 8 6.5 iaload).

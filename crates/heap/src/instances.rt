@@ -2,8 +2,7 @@
 
 ghost use Rattle.std.specs.Prelude.{◌≡◌, ◌↔◌, IsTrue};
 ghost use Rattle.code.specs.declared.class_code.Element.TheVariants as kinds;
-ghost use Rattle.heap.specs.Instances.{Fits, IsAny, IsArrayOf, IsElementBelow, IsInstance, IsOfClass, IsOfObjects, IsOfType, IsThere, class_at_reference, class_of_object};
-ghost use Rattle.heap.specs.Objects.{object_at};
+ghost use Rattle.heap.specs.Instances.{Fits, IsAny, IsArrayOf, IsElementBelow, IsInstance, IsOfClass, IsOfObjects, IsOfType, class_at_reference, class_of_object};
 
 use crate::object::HeapObject;
 use crate::{Heap, ready_class};
@@ -117,20 +116,12 @@ impl Heap {
         }
     }
 
-    /// Whether a reference refers to anything.
-    fn is_there(&self, program: &Program, reference: u32) -> bool
-        ensures { IsTrue result ↔ IsThere (object_at program.now self.now reference) }
-    {
-        program.ready_object(reference).is_some() || self.made_at(program, reference).is_some()
-    }
-
     /// Whether a reference other than null fits a type: whether it refers to an instance of it, or the type's innermost class is
     /// an interface or not there. Takes no memory.
     pub fn fits(&self, program: &Program, wanted: ResolvedType, reference: u32) -> bool
         ensures { IsTrue result ↔ Fits program.now self.now wanted reference }
     {
-        self.is_instance(program, wanted, reference)
-            || is_any(wanted.element) && self.is_there(program, reference)
+        is_any(wanted.element) || self.is_instance(program, wanted, reference)
     }
 
     /// The class at which the selection of a method starts for what a reference refers to (JVMS SE 8 6.5 invokevirtual): an object's

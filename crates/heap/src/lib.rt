@@ -42,7 +42,7 @@ impl Drop for Heap {
 }
 
 impl Model for Heap {
-    ghost use Rattle.std.specs.Prelude.{◌≡◌, List};
+    ghost use Rattle.std.specs.Prelude.{◌≡◌, ◌≤◌, List};
     ghost use Rattle.heap.specs.declared.object.HeapObject.{HeapObject};
     ghost use Rattle.heap.specs.Objects.{cells_of_all};
 
@@ -50,7 +50,10 @@ impl Model for Heap {
 
     ghost view = { λ h. h.made.items };
 
-    ghost invariant = { λ h. h.taken ≡ cells_of_all h.made.items };
+    ghost invariant = { λ h. record {
+      cells : h.taken ≡ cells_of_all h.made.items;
+      few : h.taken ≤ 1000000;
+    } };
 }
 
 /// What a ready object is of.

@@ -2,7 +2,7 @@
 
 ghost use Rattle.std.specs.Prelude.{◌≡◌, ◌+◌, ◌∷◌, ◌++◌, ◌<◌, [], true, IfOk, IsTrue, OnErr, OnOk};
 ghost use Rattle.hierarchy.specs.declared.built_in.BuiltIn.TheVariants.{ExceptionInInitializerError};
-ghost use Rattle.heap.specs.Objects.{cells_of, has_cells as has_cells_of, is_no_class as is_no_class_of, new_array as new_array_of, new_object as new_object_of, next_reference, ready_no_class, ready_out_of_memory, reference_of_new, thrown_by, with_new, with_thrown};
+ghost use Rattle.heap.specs.Objects.{cells_of, has_cells as has_cells_of, is_no_class as is_no_class_of, makes_thrown, new_array as new_array_of, new_object as new_object_of, next_reference, ready_no_class, ready_out_of_memory, reference_of_new, thrown_by, with_new, with_thrown};
 
 use crate::Heap;
 use crate::cells::Cells;
@@ -68,6 +68,7 @@ impl Heap {
     ) -> Result<Option<u32>, AllocError>
         ensures reference { IfOk result (λ r. r ≡ reference_of_new program.now self.old (new_object_of program.now class)) }
         ensures made { OnOk result (self.new ≡ with_new program.now self.old (new_object_of program.now class)) }
+        ensures room { OnErr result (has_cells_of program.now self.old (cells_of (new_object_of program.now class)) ≡ true) }
         ensures err { OnErr result (self.new ≡ self.old) }
     {
         let count = program.object_cells(class);
@@ -93,6 +94,7 @@ impl Heap {
     ) -> Result<Option<u32>, AllocError>
         ensures reference { IfOk result (λ r. r ≡ reference_of_new program.now self.old (new_array_of element length)) }
         ensures made { OnOk result (self.new ≡ with_new program.now self.old (new_array_of element length)) }
+        ensures room { OnErr result (has_cells_of program.now self.old (cells_of (new_array_of element length)) ≡ true) }
         ensures err { OnErr result (self.new ≡ self.old) }
     {
         if !self.has_cells(program, length) {
@@ -109,14 +111,27 @@ impl Heap {
     ///
     /// # Errors
     ///
-    /// Out of memory, which changes nothing.
+    /// Out of memory where a new object is made, which changes nothing.
     pub fn throwable(&mut self, program: &Program, class: BuiltIn) -> Result<Thrown, AllocError>
         ensures thrown { IfOk result (λ t. t ≡ thrown_by program.now class self.old) }
         ensures made { OnOk result (self.new ≡ with_thrown program.now class self.old) }
+        ensures room { OnErr result (makes_thrown program.now class self.old ≡ true) }
         ensures err { OnErr result (self.new ≡ self.old) }
     {
-        self.made.reserve(2)?;
+        self.keep_room(program, class)?;
         self.instance(program, class)
+    }
+
+    /// Takes the memory for the object that is made of a built-in throwable, and for one more. An `Err` means out of memory.
+    fn keep_room(&mut self, program: &Program, class: BuiltIn) -> Result<(), AllocError>
+        ensures same { self.new ≡ self.old }
+        ensures room { OnErr result (makes_thrown program.now class self.old ≡ true) }
+    {
+        if is_no_class(class) || !self.has_cells(program, 0) {
+            return Ok(());
+        }
+        self.made.reserve(2)?;
+        Ok(())
     }
 
     /// A new ExceptionInInitializerError, or the ready OutOfMemoryError where the heap is full: the error that step 11 of JLS SE 8
@@ -124,19 +139,21 @@ impl Heap {
     ///
     /// # Errors
     ///
-    /// Out of memory, which changes nothing. Directly after [`Heap::throwable`], which keeps room, it doesn't come; no clause says so.
+    /// Out of memory where a new object is made, which changes nothing. Directly after [`Heap::throwable`], which keeps room, it doesn't come; no clause says so.
     pub fn initializer_error(&mut self, program: &Program) -> Result<Thrown, AllocError>
         ensures thrown { IfOk result (λ t. t ≡ thrown_by program.now ExceptionInInitializerError self.old) }
         ensures made { OnOk result (self.new ≡ with_thrown program.now ExceptionInInitializerError self.old) }
+        ensures room { OnErr result (makes_thrown program.now ExceptionInInitializerError self.old ≡ true) }
         ensures err { OnErr result (self.new ≡ self.old) }
     {
         self.instance(program, BuiltIn::ExceptionInInitializerError)
     }
 
-    /// What the machine throws for a built-in throwable. An `Err` means out of memory, and changes nothing.
+    /// What the machine throws for a built-in throwable. An `Err` means out of memory where a new object is made, and changes nothing.
     fn instance(&mut self, program: &Program, class: BuiltIn) -> Result<Thrown, AllocError>
         ensures thrown { IfOk result (λ t. t ≡ thrown_by program.now class self.old) }
         ensures made { OnOk result (self.new ≡ with_thrown program.now class self.old) }
+        ensures room { OnErr result (makes_thrown program.now class self.old ≡ true) }
         ensures err { OnErr result (self.new ≡ self.old) }
     {
         if is_no_class(class) {

@@ -1,13 +1,17 @@
 pub mod AtOnce
+pub mod Beginning
 pub mod CodeBodies
 pub mod Entering
 pub mod InterfaceCalls
+pub mod NoneReady
 pub mod NotDone
 pub mod OfClass
 pub mod OnTop
+pub mod PrintedTexts
 pub mod Releasing
 pub mod Running
 pub mod Saying
+pub mod Served
 pub mod Sharing
 pub mod Statics
 pub mod TakingTurns

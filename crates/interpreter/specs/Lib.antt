@@ -9,6 +9,8 @@ pub mod Leads
 pub mod Printing
 pub mod Rows
 pub mod AtOnce
+pub mod Memory
+pub mod Operands
 pub mod Says
 pub mod CodeRun
 pub mod Waiting

@@ -38,8 +38,8 @@ impl Interpreter {
             _ => return false,
         }
         match lead_of(&self.frames, &self.heap, program, resolved, at, code, op) {
-            Some(Lead::Uses(_)) | Some(Lead::Jumps(_)) => true,
-            Some(Lead::Returns(_)) => self.taken_here().is_none(),
+            Lead::Uses(_) | Lead::Jumps(_) => true,
+            Lead::Returns(_) => self.taken_here().is_none(),
             _ => false,
         }
     }

@@ -1,6 +1,6 @@
 //! What instructions on arrays come to (JVMS SE 8 6.5).
 
-ghost use Rattle.std.specs.Prelude.{◌≡◌, ◌↔◌, IfSome, IsTrue};
+ghost use Rattle.std.specs.Prelude.{◌≡◌, ◌↔◌, IsTrue};
 ghost use Rattle.heap.specs.Contents.{element_type};
 ghost use Rattle.heap.specs.Objects.{base_of_type};
 ghost use Rattle.interpreter.specs.ArrayLeads.{IsStorable, Stores, StoresIn, element_by, has_kind as has_kind_of, is_stored as is_stored_by, length_lead, load_from as load_from_array, load_lead, new_array_lead, serves as serves_elements, stored as stored_by};
@@ -25,21 +25,16 @@ pub(crate) fn new_array(element: ResolvedType, length: Index) -> Lead
 }
 
 /// None where the array has more elements than an int counts, which the heap has no room for.
-pub(crate) fn array_length(heap: &Heap, program: &Program, array: Option<Cell>) -> Option<Lead>
-    ensures { IfSome result (λ l. l ≡ length_lead program.now heap.now array) }
+pub(crate) fn array_length(heap: &Heap, program: &Program, array: Option<Cell>) -> Lead
+    ensures { result ≡ length_lead program.now heap.now array }
 {
     match array {
-        Some(Cell::Null) => Some(Lead::Throws(BuiltIn::NullPointerException)),
+        Some(Cell::Null) => Lead::Throws(BuiltIn::NullPointerException),
         Some(Cell::Reference(number)) => match heap.length(program, number) {
-            Some(length) => {
-                if length > 2_147_483_647 {
-                    return None;
-                }
-                Some(Lead::Gives(1, Cell::Int(length as i32)))
-            }
-            None => Some(VERIFY),
+            Some(length) => Lead::Gives(1, Cell::Int(length as i32)),
+            None => VERIFY,
         },
-        _ => Some(VERIFY),
+        _ => VERIFY,
     }
 }
 

@@ -1,9 +1,8 @@
 //! What calls of instance methods come to (JVMS SE 8 6.5 invokevirtual, invokespecial, invokeinterface).
 
-ghost use Rattle.std.specs.Prelude.{◌≡◌, IfSome, Some, option_copied};
+ghost use Rattle.std.specs.Prelude.{◌≡◌, Some, length, option_copied};
 ghost use Rattle.code.specs.IsCode.{IsCode};
-ghost use Rattle.hierarchy.specs.declared.built_in.BuiltIn.TheVariants.{Object};
-ghost use Rattle.hierarchy.specs.declared.declared_method.MethodId.TheVariants as method_id;
+ghost use Rattle.hierarchy.specs.LinkedProgram.{LinkedProgram};
 ghost use Rattle.interpreter.specs.CallLeads.{CallsBy, CallsInterface, HasReceiver, built_in_lead, enters_lead, init_types, interface_lead, parameters_at, receiver_of, reference_at as reference_at_place, selected_by, selected_lead, init_lead, virtual_lead};
 ghost use Rattle.interpreter.specs.Leads.{CallsBuiltIn, CallsSpecialBuiltIn};
 ghost use Rattle.interpreter.specs.Methods.{method_at};
@@ -48,23 +47,23 @@ fn selected(
     }
 }
 
-/// A method is called with its receiver and its arguments, which must fit its locals; none where there is no such method.
+/// A method is called with its receiver and so many arguments, which must fit its locals.
 fn entered(
     program: &Program,
     resolved: &Code,
     class: usize,
     method: usize,
+    count: usize,
     receiver: u32,
-) -> Option<Lead>
+) -> Lead
     requires code { IsCode resolved.now program.now }
-    ensures { IfSome result (λ l. l ≡ enters_lead (method_at program.now class method) class method receiver) }
+    ensures { result ≡ enters_lead (method_at program.now class method) class method count receiver }
 {
-    let callee = method_code(program, resolved, class, method)?;
-    let count = callee.parameters.len();
-    if count < callee.locals as usize {
-        Some(Lead::Calls(class, method, count + 1, receiver))
-    } else {
-        Some(VERIFY)
+    match method_code(program, resolved, class, method) {
+        Some(callee) if count < callee.locals as usize => {
+            Lead::Calls(class, method, count + 1, receiver)
+        }
+        _ => VERIFY,
     }
 }
 
@@ -81,25 +80,38 @@ fn built_in(method: BuiltInMethod) -> Lead
     }
 }
 
+/// The method that was selected is called with so many arguments.
 fn run(
     program: &Program,
     resolved: &Code,
     selected: Result<MethodId, BuiltIn>,
+    count: usize,
     receiver: u32,
-) -> Option<Lead>
+) -> Lead
     requires code { IsCode resolved.now program.now }
-    ensures { IfSome result (λ l. l ≡ selected_lead program.now selected receiver) }
+    ensures { result ≡ selected_lead program.now selected count receiver }
 {
     match selected {
-        Err(error) => Some(Lead::Throws(error)),
+        Err(error) => Lead::Throws(error),
         Ok(MethodId::Declared(class, method)) => entered(
             program,
             resolved,
             class.number,
             method,
+            count,
             receiver,
         ),
-        Ok(MethodId::BuiltIn(_, method)) => Some(built_in(method)),
+        Ok(MethodId::BuiltIn(_, method)) => built_in(method),
+    }
+}
+
+/// How many arguments a constructor of a built-in class takes.
+fn init_count(method: BuiltInMethod) -> usize
+    ensures { (p : LinkedProgram) → result ≡ length (init_types p method) }
+{
+    match method {
+        BuiltInMethod::InitWithText => 1,
+        _ => 0,
     }
 }
 
@@ -109,18 +121,19 @@ fn run_init(
     program: &Program,
     resolved: &Code,
     at: FramePlace,
-    named: MethodId,
+    method: BuiltInMethod,
     receiver: u32,
-) -> Option<Lead>
+) -> Lead
     requires code { IsCode resolved.now program.now }
-    ensures { IfSome result (λ l. l ≡ init_lead program.now heap.now at named receiver) }
+    ensures { result ≡ init_lead program.now heap.now at method receiver }
 {
     match heap.class_of(program, receiver) {
         Some(class) => {
+            let named = MethodId::BuiltIn(BuiltIn::Object, method);
             let selected = selected(program, at, Call::Virtual(class), named);
-            run(program, resolved, selected, receiver)
+            run(program, resolved, selected, init_count(method), receiver)
         }
-        None => Some(VERIFY),
+        None => VERIFY,
     }
 }
 
@@ -131,18 +144,20 @@ fn run_virtual(
     resolved: &Code,
     class: u16,
     method: u16,
+    count: usize,
     receiver: u32,
-) -> Option<Lead>
+) -> Lead
     requires code { IsCode resolved.now program.now }
-    ensures { IfSome result (λ l. l ≡ virtual_lead program.now heap.now class method receiver) }
+    requires count { count ≡ length (parameters_at program.now class method) }
+    ensures { result ≡ virtual_lead program.now heap.now class method receiver }
 {
     match heap.class_of(program, receiver) {
         Some(held) => {
             let call = Call::Virtual(held);
             let found = resolved.select_for(program, call, id(class), method as usize);
-            run(program, resolved, found, receiver)
+            run(program, resolved, found, count, receiver)
         }
-        None => Some(VERIFY),
+        None => VERIFY,
     }
 }
 
@@ -154,13 +169,15 @@ fn run_interface(
     class: u16,
     method: u16,
     implements: bool,
+    count: usize,
     receiver: u32,
-) -> Option<Lead>
+) -> Lead
     requires code { IsCode resolved.now program.now }
-    ensures { IfSome result (λ l. l ≡ interface_lead program.now heap.now class method implements receiver) }
+    requires count { count ≡ length (parameters_at program.now class method) }
+    ensures { result ≡ interface_lead program.now heap.now class method implements receiver }
 {
     if !implements {
-        return Some(Lead::Throws(BuiltIn::IncompatibleClassChangeError));
+        return Lead::Throws(BuiltIn::IncompatibleClassChangeError);
     }
     match heap.class_of(program, receiver) {
         Some(held) => {
@@ -170,9 +187,9 @@ fn run_interface(
                 id(class),
                 method as usize,
             );
-            run(program, resolved, selected, receiver)
+            run(program, resolved, selected, count, receiver)
         }
-        None => Some(VERIFY),
+        None => VERIFY,
     }
 }
 
@@ -213,18 +230,20 @@ fn find_receiver(
     receiver_by(callable, frames.operand(types.len()))
 }
 
-/// The types of a method's parameters; none where there is no such method.
+/// The types of a method's parameters.
 fn parameters<'c>(
     program: &Program,
     resolved: &'c Code,
     class: u16,
     method: u16,
-) -> Option<&'c [ResolvedType]>
+) -> &'c [ResolvedType]
     requires code { IsCode resolved.now program.now }
-    ensures { IfSome result (λ types. types.now ≡ parameters_at program.now class method) }
+    ensures { result.now ≡ parameters_at program.now class method }
 {
-    let callee = method_code(program, resolved, class as usize, method as usize)?;
-    Some(callee.parameters.as_slice())
+    match method_code(program, resolved, class as usize, method as usize) {
+        Some(callee) => callee.parameters.as_slice(),
+        None => &[],
+    }
 }
 
 pub(crate) fn call_virtual(
@@ -235,15 +254,25 @@ pub(crate) fn call_virtual(
     named: u16,
     class: u16,
     method: u16,
-) -> Option<Lead>
+) -> Lead
     requires code { IsCode resolved.now program.now }
-    ensures { IfSome result (CallsBy program.now heap.now frames.now named (parameters_at program.now class method) (virtual_lead program.now heap.now class method)) }
+    ensures { CallsBy program.now heap.now frames.now named (parameters_at program.now class method) (virtual_lead program.now heap.now class method) result }
 {
-    let types = parameters(program, resolved, class, method)?;
+    let types = parameters(program, resolved, class, method);
     match find_receiver(frames, heap, program, named, types) {
-        Receiver::Unfit => Some(VERIFY),
-        Receiver::Null => Some(NULL),
-        Receiver::At(receiver) => run_virtual(heap, program, resolved, class, method, receiver),
+        Receiver::Unfit => VERIFY,
+        Receiver::Null => NULL,
+        Receiver::At(receiver) => {
+            run_virtual(
+                heap,
+                program,
+                resolved,
+                class,
+                method,
+                types.len(),
+                receiver,
+            )
+        }
     }
 }
 
@@ -255,18 +284,27 @@ pub(crate) fn call_interface(
     named: u16,
     class: u16,
     method: u16,
-) -> Option<Lead>
+) -> Lead
     requires code { IsCode resolved.now program.now }
-    ensures { IfSome result (CallsInterface program.now heap.now frames.now named class method) }
+    ensures { CallsInterface program.now heap.now frames.now named class method result }
 {
-    let types = parameters(program, resolved, class, method)?;
+    let types = parameters(program, resolved, class, method);
     let object = frames.operand(types.len());
     let implements = is_of_class(heap, program, named, object);
     match find_receiver(frames, heap, program, named, types) {
-        Receiver::Unfit => Some(VERIFY),
-        Receiver::Null => Some(NULL),
+        Receiver::Unfit => VERIFY,
+        Receiver::Null => NULL,
         Receiver::At(receiver) => {
-            run_interface(heap, program, resolved, class, method, implements, receiver)
+            run_interface(
+                heap,
+                program,
+                resolved,
+                class,
+                method,
+                implements,
+                types.len(),
+                receiver,
+            )
         }
     }
 }
@@ -279,19 +317,20 @@ pub(crate) fn call_special(
     named: u16,
     class: u16,
     method: u16,
-) -> Option<Lead>
+) -> Lead
     requires code { IsCode resolved.now program.now }
-    ensures { IfSome result (CallsBy program.now heap.now frames.now named (parameters_at program.now class method) (enters_lead (method_at program.now class method) class method)) }
+    ensures { CallsBy program.now heap.now frames.now named (parameters_at program.now class method) (enters_lead (method_at program.now class method) class method (length (parameters_at program.now class method))) result }
 {
-    let types = parameters(program, resolved, class, method)?;
+    let types = parameters(program, resolved, class, method);
     match find_receiver(frames, heap, program, named, types) {
-        Receiver::Unfit => Some(VERIFY),
-        Receiver::Null => Some(NULL),
+        Receiver::Unfit => VERIFY,
+        Receiver::Null => NULL,
         Receiver::At(receiver) => entered(
             program,
             resolved,
             class as usize,
             method as usize,
+            types.len(),
             receiver,
         ),
     }
@@ -306,15 +345,15 @@ pub(crate) fn fail_special(
     named: u16,
     class: u16,
     method: u16,
-) -> Option<Lead>
+) -> Lead
     requires code { IsCode resolved.now program.now }
-    ensures { IfSome result (CallsBy program.now heap.now frames.now named (parameters_at program.now class method) (λ r. lead.Throws error)) }
+    ensures { CallsBy program.now heap.now frames.now named (parameters_at program.now class method) (λ r. lead.Throws error) result }
 {
-    let types = parameters(program, resolved, class, method)?;
+    let types = parameters(program, resolved, class, method);
     match find_receiver(frames, heap, program, named, types) {
-        Receiver::Unfit => Some(VERIFY),
-        Receiver::Null => Some(NULL),
-        Receiver::At(_) => Some(Lead::Throws(error)),
+        Receiver::Unfit => VERIFY,
+        Receiver::Null => NULL,
+        Receiver::At(_) => Lead::Throws(error),
     }
 }
 
@@ -346,17 +385,14 @@ fn call_init(
     at: FramePlace,
     named: u16,
     method: BuiltInMethod,
-) -> Option<Lead>
+) -> Lead
     requires code { IsCode resolved.now program.now }
-    ensures { IfSome result (CallsBy program.now heap.now frames.now named (init_types program.now method) (init_lead program.now heap.now at (method_id.BuiltIn Object method))) }
+    ensures { CallsBy program.now heap.now frames.now named (init_types program.now method) (init_lead program.now heap.now at method) result }
 {
     match built_in_receiver(frames, heap, program, named, method) {
-        Receiver::Unfit => Some(VERIFY),
-        Receiver::Null => Some(NULL),
-        Receiver::At(receiver) => {
-            let init = MethodId::BuiltIn(BuiltIn::Object, method);
-            run_init(heap, program, resolved, at, init, receiver)
-        }
+        Receiver::Unfit => VERIFY,
+        Receiver::Null => NULL,
+        Receiver::At(receiver) => { run_init(heap, program, resolved, at, method, receiver) }
     }
 }
 
@@ -385,16 +421,16 @@ pub(crate) fn call_built_in(
     at: FramePlace,
     named: u16,
     method: BuiltInMethod,
-) -> Option<Lead>
+) -> Lead
     requires code { IsCode resolved.now program.now }
-    ensures { IfSome result (CallsBuiltIn program.now heap.now frames.now at named method) }
+    ensures { CallsBuiltIn program.now heap.now frames.now at named method result }
 {
     match method {
         BuiltInMethod::Init | BuiltInMethod::InitWithText => {
             call_init(frames, heap, program, resolved, at, named, method)
         }
         BuiltInMethod::Print(_) | BuiltInMethod::PrintLine(_) | BuiltInMethod::PrintLineAlone => {
-            Some(print(frames, heap, program, method))
+            print(frames, heap, program, method)
         }
     }
 }

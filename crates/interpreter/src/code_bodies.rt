@@ -1,12 +1,16 @@
 //! Bodies made by code.
 
-ghost use Rattle.std.specs.Prelude.{◌≡◌, ◌↔◌, ◌⊎◌, IfOk, IsTrue, OnErr, OnOk};
+ghost use Rattle.std.specs.Prelude.{◌≡◌, ◌↔◌, IfOk, IsTrue, OnErr, OnOk, Some, true};
 ghost use Rattle.code.specs.IsCode.{IsCode};
+ghost use Rattle.hierarchy.specs.declared.built_in.BuiltIn.TheVariants.{ExceptionInInitializerError};
 ghost use Rattle.hierarchy.specs.Subclasses.{IsError};
-ghost use Rattle.heap.specs.Objects.{no_texts, reference_of_new, with_new};
-ghost use Rattle.init_core.specs.ProcedureWord.{GoesOn};
-ghost use Rattle.interpreter.specs.CodeRun.{Begins, Enters, IsAnswer, IsTold, Replaces, Starts, below_body, fails_by, interpreter_at_start, left_phase as left_phase_of};
-ghost use Rattle.interpreter.specs.Says.{IsSayable, SaysNext};
+ghost use Rattle.heap.specs.Objects.{has_cells, no_texts, reference_of_new, with_new};
+ghost use Rattle.init_core.specs.ProcedureWord.{GoesOn, IsOfFiles};
+ghost use Rattle.interpreter.specs.CodeRun.{AloneSaysNext, Begins, Enters, IsTold, Replaces, Starts, below_body, fails_by, interpreter_at_start, left_phase as left_phase_of};
+ghost use Rattle.interpreter.specs.Memory.{MakesThrown};
+ghost use Rattle.interpreter.specs.Methods.{method_at};
+ghost use Rattle.interpreter.specs.Says.{IsSayable};
+ghost use Rattle.interpreter.specs.declared.phase.Phase.TheVariants as phases;
 
 use crate::fitting::{built_in_type, cell_of};
 use crate::interpreter::Interpreter;
@@ -14,31 +18,15 @@ use crate::methods::method_code;
 use crate::moves::give;
 use crate::performing::phase_of;
 use crate::phase::Phase;
-use crate::says::is_throwable;
+use crate::says::answer;
 use crate::taken::TakenMonitors;
 use bodies::{Bodies, Does, Lends, Limit};
-use code::Code;
+use code::{Code, MethodCode};
 use frames::{Cell, Frames, Thrown};
-use heap::{Heap, Monitor, Monitors, no_class, out_of_memory};
+use heap::{Heap, Monitor, Monitors, out_of_memory};
 use hierarchy::{BuiltIn, ClassId, Program, Value, throwables_are_subclasses};
 use init_core::{Completed, Outcome};
 use std::alloc::{AllocError, Global};
-
-/// What is thrown where the procedure for a class completed abruptly.
-fn answer(program: &Program, thrown: Option<Thrown>) -> Thrown
-    ensures { IsAnswer program.now thrown result }
-{
-    match thrown {
-        Some(thrown) => {
-            if is_throwable(program, thrown.class) {
-                thrown
-            } else {
-                no_class(program)
-            }
-        }
-        None => no_class(program),
-    }
-}
 
 fn is_error(program: &Program, class: ClassId) -> bool
     ensures { IsTrue result ↔ IsError program.now class }
@@ -51,6 +39,7 @@ fn is_error(program: &Program, class: ClassId) -> bool
 fn new_texts(heap: &mut Heap, program: &Program) -> Result<Option<u32>, AllocError>
     ensures reference { IfOk result (λ r. r ≡ reference_of_new program.now heap.old (no_texts program.now)) }
     ensures made { OnOk result (heap.new ≡ with_new program.now heap.old (no_texts program.now)) }
+    ensures room { OnErr result (has_cells program.now heap.old 1 ≡ true) }
     ensures err { OnErr result (heap.new ≡ heap.old) }
 {
     heap.new_array(program, built_in_type(program, BuiltIn::String), 0)
@@ -99,18 +88,15 @@ impl Interpreter {
     fn begin(
         &mut self,
         program: &Program,
-        resolved: &Code,
         class: ClassId,
         method: usize,
+        code: &MethodCode,
         given: &[Cell],
     ) -> Result<(), AllocError>
-        requires code { IsCode resolved.now program.now }
+        requires { method_at program.now class.number method ≡ Some code.now }
         ensures ok { OnOk result (Begins program.now class method given.now self.old self.new) }
         ensures err { OnErr result (self.new ≡ self.old) }
     {
-        let Some(code) = method_code(program, resolved, class.number, method) else {
-            return Err(AllocError);
-        };
         if given.len() > code.locals as usize {
             return self.fail(program, BuiltIn::VerifyError);
         }
@@ -145,6 +131,7 @@ impl Interpreter {
     }
 
     /// Begins the initializer of a class, if it has one. An `Err` means out of memory, and changes nothing.
+    #[tactic(auto, using(crate::proofs::Beginning::class_there, crate::proofs::Beginning::initializer_there))]
     pub(crate) fn try_start(
         &mut self,
         program: &Program,
@@ -152,22 +139,25 @@ impl Interpreter {
         class: ClassId,
     ) -> Result<(), AllocError>
         requires code { IsCode resolved.now program.now }
+        requires class { IsOfFiles program.now class }
         ensures ok { OnOk result (Starts program.now self.old class self.new) }
-        ensures err { OnErr result (self.new ≡ self.old) }
+        ensures err { OnErr result (Starts program.now self.old class (record self.new { phase = phases.Refused })) }
     {
         let Some(code) = resolved.class(class.number) else {
-            return Err(AllocError);
+            unreachable!()
         };
-        match code.initializer {
-            Some(method) => self.begin(program, resolved, class, method, &[]),
-            None => {
-                self.phase = Phase::Over(None);
-                Ok(())
-            }
-        }
+        let Some(method) = code.initializer else {
+            self.phase = Phase::Over(None);
+            return Ok(());
+        };
+        let Some(code) = method_code(program, resolved, class.number, method) else {
+            unreachable!()
+        };
+        self.begin(program, class, method, code, &[])
     }
 
     /// Begins the method `main` of a class, if it has one, with a new array of no texts. An `Err` means out of memory.
+    #[tactic(auto, using(crate::proofs::Beginning::class_there, crate::proofs::Beginning::main_there))]
     pub(crate) fn try_enter(
         &mut self,
         program: &Program,
@@ -175,26 +165,25 @@ impl Interpreter {
         class: ClassId,
     ) -> Result<(), AllocError>
         requires code { IsCode resolved.now program.now }
+        requires class { IsOfFiles program.now class }
         ensures ok { OnOk result (Enters program.now self.old class self.new) }
-        ensures err { OnErr result ((self.new ≡ self.old) ⊎ (self.new ≡ record self.old { heap = with_new program.now self.old.heap (no_texts program.now) })) }
+        ensures err { OnErr result (Enters program.now self.old class (record self.new { phase = phases.Refused })) }
     {
         let Some(code) = resolved.class(class.number) else {
-            return Err(AllocError);
+            unreachable!()
         };
         let Some(method) = code.main else {
             self.phase = Phase::Over(None);
             return Ok(());
         };
+        let Some(code) = method_code(program, resolved, class.number, method) else {
+            unreachable!()
+        };
         match new_texts(&mut self.heap, program)? {
             Some(reference) => {
-                self.begin(
-                    program,
-                    resolved,
-                    class,
-                    method,
-                    &[Cell::Reference(reference)],
-                )
-            },
+                let given = [Cell::Reference(reference)];
+                self.begin(program, class, method, code, &given)
+            }
             None => {
                 self.phase = Phase::Over(Some(out_of_memory(program)));
                 Ok(())
@@ -211,6 +200,8 @@ impl Interpreter {
     ) -> Result<ClassId, AllocError>
         ensures replaces { IfOk result (λ error. Replaces program.now self.old thrown error self.new) }
         ensures error { IfOk result (λ error. IsError program.now error) }
+        ensures wraps { OnErr result (IsError program.now thrown → ⊥) }
+        ensures memory { OnErr result (MakesThrown program.now ExceptionInInitializerError self.old) }
         ensures err { OnErr result (self.new ≡ self.old) }
     {
         if is_error(program, thrown) {
@@ -228,12 +219,15 @@ impl Interpreter {
     #[tactic(auto, using(crate::proofs::TakingTurns::alone_at_wait, crate::proofs::TakingTurns::alone_otherwise))]
     fn say_alone(&mut self, alloc: Global, program: &Program, resolved: &Code) -> Does
         requires code { IsCode resolved.now program.now }
-        ensures says { SaysNext program.now self.old result self.new }
+        ensures says { AloneSaysNext program.now self.old result self.new }
         ensures sayable { IsSayable program.now self.old.phase result }
     {
         match self.say(alloc, program, resolved) {
             // (there is no other thread that could hold a monitor)
-            Does::Waits => Does::Ended(Limit::Memory),
+            Does::Waits => {
+                self.phase = Phase::Spent;
+                Does::Ended(Limit::Steps)
+            }
             does => does,
         }
     }

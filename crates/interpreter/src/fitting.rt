@@ -1,6 +1,6 @@
 //! Whether values fit types.
 
-ghost use Rattle.std.specs.Prelude.{◌≡◌, ◌↔◌, IsTrue, Some, reverse};
+ghost use Rattle.std.specs.Prelude.{◌≡◌, ◌↔◌, IsTrue, Some, option_copied, reverse};
 ghost use Rattle.frames.specs.Activations.{operands_of};
 ghost use Rattle.heap.specs.Instances.{IsInstance};
 ghost use Rattle.hierarchy.specs.LinkedProgram.{id};
@@ -48,28 +48,29 @@ pub(crate) fn fits(heap: &Heap, program: &Program, wanted: ResolvedType, value: 
     }
 }
 
-/// Whether there is such a value, and it fits.
+/// Whether there is such a type and such a value, and it fits.
 pub(crate) fn is_fit(
     heap: &Heap,
     program: &Program,
-    wanted: ResolvedType,
+    wanted: Option<ResolvedType>,
     value: Option<Cell>,
 ) -> bool
-    ensures { IsTrue result ↔ IsFit program.now heap.now (Some wanted) value }
+    ensures { IsTrue result ↔ IsFit program.now heap.now wanted value }
 {
-    match value {
-        Some(value) => fits(heap, program, wanted, value),
-        None => false,
+    match (wanted, value) {
+        (Some(wanted), Some(value)) => fits(heap, program, wanted, value),
+        _ => false,
     }
 }
 
-/// Whether there is such a value, and it is of the kind of a type: an int, or a reference.
-pub(crate) fn is_kind_of(wanted: ResolvedType, value: Option<Cell>) -> bool
-    ensures { IsTrue result ↔ IsKindOf (Some wanted) value }
+/// Whether there is such a type and such a value, and it is of the type's kind: an int, or a reference.
+pub(crate) fn is_kind_of(wanted: Option<ResolvedType>, value: Option<Cell>) -> bool
+    ensures { IsTrue result ↔ IsKindOf wanted value }
 {
-    match value {
-        Some(Cell::Int(_)) => is_int_type(wanted),
-        Some(Cell::Null) | Some(Cell::Reference(_)) => !is_int_type(wanted),
+    match (wanted, value) {
+        (Some(wanted), Some(Cell::Int(_))) => is_int_type(wanted),
+        (Some(wanted), Some(Cell::Null)) => !is_int_type(wanted),
+        (Some(wanted), Some(Cell::Reference(_))) => !is_int_type(wanted),
         _ => false,
     }
 }
@@ -81,7 +82,7 @@ fn are_on_top(frames: &Frames, heap: &Heap, program: &Program, types: &[Resolved
     let mut depth = 0;
     let mut rest = types;
     while let [before @ .., last] = rest {
-        if !is_fit(heap, program, *last, frames.operand(depth)) {
+        if !is_fit(heap, program, Some(*last), frames.operand(depth)) {
             return false;
         }
         depth += 1;
@@ -90,17 +91,22 @@ fn are_on_top(frames: &Frames, heap: &Heap, program: &Program, types: &[Resolved
     true
 }
 
-/// Whether a static method can be called with the operands on top.
+/// Whether there is such a static method, and it can be called with the operands on top.
 pub(crate) fn is_callable(
     frames: &Frames,
     heap: &Heap,
     program: &Program,
-    code: &MethodCode,
+    callee: Option<&MethodCode>,
 ) -> bool
-    ensures { IsTrue result ↔ IsCallable program.now heap.now (Some code.now) (operands_of frames.now) }
+    ensures { IsTrue result ↔ IsCallable program.now heap.now (option_copied callee.entry) (operands_of frames.now) }
 {
-    code.parameters.len() <= code.locals as usize
-        && are_on_top(frames, heap, program, code.parameters.as_slice())
+    match callee {
+        Some(code) => {
+            code.parameters.len() <= code.locals as usize
+                && are_on_top(frames, heap, program, code.parameters.as_slice())
+        }
+        None => false,
+    }
 }
 
 /// Whether a class or interface is an interface.

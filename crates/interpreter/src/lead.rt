@@ -1,6 +1,6 @@
 //! What an instruction comes to that asks something of what lies outside of its frame.
 
-ghost use Rattle.std.specs.Prelude.{◌≡◌, IfSome};
+ghost use Rattle.std.specs.Prelude.{◌≡◌};
 ghost use Rattle.code.specs.IsCode.{IsCode};
 ghost use Rattle.hierarchy.specs.LinkedProgram.{id as class_id};
 ghost use Rattle.hierarchy.specs.declared.built_in.BuiltIn.TheVariants.{VerifyError};
@@ -91,13 +91,13 @@ fn put(
     code: &MethodCode,
     class: u16,
     field: u16,
-) -> Option<Lead>
+) -> Lead
     requires code { IsCode resolved.now program.now }
-    ensures { IfSome result (LeadsTo program.now heap.now frames.now at code.now (op.PutStatic class field)) }
+    ensures { LeadsTo program.now heap.now frames.now at code.now (op.PutStatic class field) result }
 {
-    let wanted = static_type(program, resolved, class as usize, field as usize)?;
+    let wanted = static_type(program, resolved, class as usize, field as usize);
     let fits = is_fit(heap, program, wanted, frames.operand(0));
-    Some(when(fits, Lead::Uses(id(class))))
+    when(fits, Lead::Uses(id(class)))
 }
 
 fn call(
@@ -109,15 +109,15 @@ fn call(
     code: &MethodCode,
     class: u16,
     method: u16,
-) -> Option<Lead>
+) -> Lead
     requires code { IsCode resolved.now program.now }
-    ensures { IfSome result (LeadsTo program.now heap.now frames.now at code.now (op.InvokeStatic class method)) }
+    ensures { LeadsTo program.now heap.now frames.now at code.now (op.InvokeStatic class method) result }
 {
-    let callee = method_code(program, resolved, class as usize, method as usize)?;
-    Some(when(
+    let callee = method_code(program, resolved, class as usize, method as usize);
+    when(
         is_callable(frames, heap, program, callee),
         Lead::Uses(id(class)),
-    ))
+    )
 }
 
 fn put_out(
@@ -130,11 +130,11 @@ fn put_out(
     ensures { LeadsTo program.now heap.now frames.now at code.now op.PutOut result }
 {
     let stream = built_in_type(program, BuiltIn::PrintStream);
-    let fits = is_fit(heap, program, stream, frames.operand(0));
+    let fits = is_fit(heap, program, Some(stream), frames.operand(0));
     when(fits, Lead::Drops(1))
 }
 
-/// What an instruction comes to that leads out of its frame; none where there is no such member. Takes no memory.
+/// What an instruction comes to that leads out of its frame. Takes no memory.
 pub(crate) fn lead_of(
     frames: &Frames,
     heap: &Heap,
@@ -143,32 +143,32 @@ pub(crate) fn lead_of(
     at: FramePlace,
     code: &MethodCode,
     op: Op,
-) -> Option<Lead>
+) -> Lead
     requires code { IsCode resolved.now program.now }
-    ensures { IfSome result (LeadsTo program.now heap.now frames.now at code.now op) }
+    ensures { LeadsTo program.now heap.now frames.now at code.now op result }
 {
     let top = frames.operand(0);
     match op {
-        Op::Switch => Some(switch(program, at, top)),
-        Op::NewArray(element) => Some(new_array(element, index_of(top))),
+        Op::Switch => switch(program, at, top),
+        Op::NewArray(element) => new_array(element, index_of(top)),
         Op::ArrayLength => array_length(heap, program, top),
-        Op::LoadElement(kind) => Some(load(heap, program, kind, frames.operand(1), index_of(top))),
+        Op::LoadElement(kind) => load(heap, program, kind, frames.operand(1), index_of(top)),
         Op::StoreElement(kind) => {
             let index = index_of(frames.operand(1));
-            Some(store(heap, program, kind, frames.operand(2), index, top))
+            store(heap, program, kind, frames.operand(2), index, top)
         }
-        Op::New(class) => Some(when(frames.has_room(), new_object(program, class))),
+        Op::New(class) => when(frames.has_room(), new_object(program, class)),
         Op::NewAbstract => {
             let fails = Lead::Throws(BuiltIn::InstantiationError);
-            Some(when(frames.has_room(), fails))
+            when(frames.has_room(), fails)
         }
-        Op::Throw => Some(throw(heap, program, top)),
-        Op::CheckCast(wanted) => Some(cast(heap, program, wanted, top)),
-        Op::CheckCastMissing => Some(cast_missing(top)),
-        Op::InstanceOf(wanted) => Some(instance(heap, program, wanted, top)),
-        Op::InstanceOfMissing => Some(instance_missing(top)),
-        Op::EnterMonitor => Some(enter_monitor(top)),
-        Op::ExitMonitor => Some(exit_monitor(top)),
+        Op::Throw => throw(heap, program, top),
+        Op::CheckCast(wanted) => cast(heap, program, wanted, top),
+        Op::CheckCastMissing => cast_missing(top),
+        Op::InstanceOf(wanted) => instance(heap, program, wanted, top),
+        Op::InstanceOfMissing => instance_missing(top),
+        Op::EnterMonitor => enter_monitor(top),
+        Op::ExitMonitor => exit_monitor(top),
         Op::GetField(named, class, field) => get_field(
             heap, program, resolved, named, class, field, top,
         ),
@@ -176,10 +176,10 @@ pub(crate) fn lead_of(
             let receiver = frames.operand(1);
             put_field(heap, program, resolved, named, class, field, receiver, top)
         }
-        Op::GetStatic(class, _) => Some(when(frames.has_room(), Lead::Uses(id(class)))),
+        Op::GetStatic(class, _) => when(frames.has_room(), Lead::Uses(id(class))),
         Op::PutStatic(class, field) => put(frames, heap, program, resolved, at, code, class, field),
-        Op::GetOut => Some(when(frames.has_room(), Lead::Gives(0, Cell::Reference(0)))),
-        Op::PutOut => Some(put_out(frames, heap, program, at, code)),
+        Op::GetOut => when(frames.has_room(), Lead::Gives(0, Cell::Reference(0))),
+        Op::PutOut => put_out(frames, heap, program, at, code),
         Op::InvokeStatic(class, method) => call(
             frames, heap, program, resolved, at, code, class, method,
         ),
@@ -199,12 +199,12 @@ pub(crate) fn lead_of(
             call_built_in(frames, heap, program, resolved, at, named, method)
         }
         Op::InvokeSpecialBuiltIn(named, method) => {
-            Some(call_special_built_in(frames, heap, program, named, method))
+            call_special_built_in(frames, heap, program, named, method)
         }
-        Op::ReturnInt => Some(return_int(frames, heap, program, at, code)),
-        Op::ReturnReference => Some(return_reference(frames, heap, program, at, code)),
-        Op::Return => Some(when(code.result.is_none(), Lead::Returns(None))),
+        Op::ReturnInt => return_int(frames, heap, program, at, code),
+        Op::ReturnReference => return_reference(frames, heap, program, at, code),
+        Op::Return => when(code.result.is_none(), Lead::Returns(None)),
         // (every other instruction stays within its frame)
-        _ => None,
+        _ => VERIFY,
     }
 }

@@ -1,6 +1,6 @@
 //! The code that a program has.
 
-ghost use Rattle.std.specs.Prelude.{◌≡◌, IfSome, Some, option_copied};
+ghost use Rattle.std.specs.Prelude.{◌≡◌, Some, option_copied};
 ghost use Rattle.code.specs.IsCode.{IsCode};
 ghost use Rattle.interpreter.specs.Methods.{instruction_at as instruction_of, method_at, static_type as type_of_static, text_in_method};
 
@@ -8,7 +8,7 @@ use code::{Code, MethodCode, ResolvedType};
 use hierarchy::{ClassId, Program};
 use jasmin_text::{Instruction, Method};
 
-/// The code of a method.
+/// The code of a method, where the program has it.
 pub(crate) fn method_code<'c>(
     program: &Program,
     resolved: &'c Code,
@@ -16,7 +16,7 @@ pub(crate) fn method_code<'c>(
     method: usize,
 ) -> Option<&'c MethodCode>
     requires code { IsCode resolved.now program.now }
-    ensures { IfSome result (λ code. method_at program.now class method ≡ Some code.now) }
+    ensures { method_at program.now class method ≡ option_copied result }
 {
     let Some(class) = resolved.class(class) else {
         return None;
@@ -24,7 +24,7 @@ pub(crate) fn method_code<'c>(
     class.methods.as_slice().get(method)
 }
 
-/// The type of a static field.
+/// The type of a static field, where the program has it.
 pub(crate) fn static_type(
     program: &Program,
     resolved: &Code,
@@ -32,7 +32,7 @@ pub(crate) fn static_type(
     field: usize,
 ) -> Option<ResolvedType>
     requires code { IsCode resolved.now program.now }
-    ensures { IfSome result (λ found. type_of_static program.now class field ≡ Some found) }
+    ensures { result ≡ type_of_static program.now class field }
 {
     let Some(class) = resolved.class(class) else {
         return None;

@@ -1,7 +1,7 @@
 //! What instructions do to the innermost frame that lead out of it.
 
-ghost use Rattle.std.specs.Prelude.{◌≡◌, ◌≤◌, ◌↔◌, IsTrue, true, length};
-ghost use Rattle.frames.specs.Activations.{at_place, can_replace, dropped, in_innermost, next_place, operands_of, past_call, replaced};
+ghost use Rattle.std.specs.Prelude.{◌≡◌, true};
+ghost use Rattle.frames.specs.Activations.{at_place, can_replace, dropped, in_innermost, next_place, past_call, replaced};
 ghost use Rattle.interpreter.specs.Rows.{HasRoomFor};
 
 use frames::{Cell, Frames};
@@ -9,7 +9,6 @@ use frames::{Cell, Frames};
 /// The operand on top is taken, and the frame goes on at that place.
 #[tactic(auto, using(crate::proofs::Turning::composed))]
 pub(crate) fn jump(frames: &mut Frames, to: u16)
-    requires { 1 ≤ length (operands_of frames.old) }
     ensures { frames.new ≡ in_innermost (λ f. at_place to (dropped 1 f)) frames.old }
 {
     frames.drop_operands(1);
@@ -26,17 +25,9 @@ pub(crate) fn give(frames: &mut Frames, count: usize, value: Cell)
     frames.step_over();
 }
 
-/// Whether the innermost frame has so many operands.
-pub(crate) fn has_operands(frames: &Frames, count: usize) -> bool
-    ensures { IsTrue result ↔ (count ≤ length (operands_of frames.now)) }
-{
-    count == 0 || frames.operand(count - 1).is_some()
-}
-
 /// So many operands are taken, and the frame goes on.
 #[tactic(auto, using(crate::proofs::Turning::composed))]
 pub(crate) fn take(frames: &mut Frames, count: usize)
-    requires { count ≤ length (operands_of frames.old) }
     ensures { frames.new ≡ in_innermost (λ f. next_place (dropped count f)) frames.old }
 {
     frames.drop_operands(count);

@@ -1,6 +1,6 @@
 //! What instructions on objects and their fields come to (JVMS SE 8 6.5 new, getfield, putfield).
 
-ghost use Rattle.std.specs.Prelude.{◌≡◌, ◌↔◌, IfSome, IsTrue, Some};
+ghost use Rattle.std.specs.Prelude.{◌≡◌, ◌↔◌, IsTrue, Some};
 ghost use Rattle.code.specs.IsCode.{IsCode};
 ghost use Rattle.hierarchy.specs.MethodResolution.{kind_of};
 ghost use Rattle.jasmin_text.specs.declared.class_text.ClassKind.TheVariants as kind;
@@ -39,13 +39,13 @@ pub(crate) fn place_of(
     field: u16,
 ) -> Option<FieldPlace>
     requires code { IsCode resolved.now program.now }
-    ensures { IfSome result (λ place. field_place program.now class field ≡ Some place) }
+    ensures { result ≡ field_place program.now class field }
 {
     let Some(code) = resolved.class(class as usize) else {
         return None;
     };
     let held = code.fields.as_slice().get(field as usize).copied()?;
-    let cell = code.cells_above.checked_add(field as usize)?;
+    let cell = code.cells_above as usize + field as usize;
     Some(FieldPlace { held, cell })
 }
 
@@ -77,14 +77,14 @@ fn get_by(
     heap: &Heap,
     program: &Program,
     is: bool,
-    place: FieldPlace,
+    place: Option<FieldPlace>,
     receiver: Option<Cell>,
 ) -> Lead
-    ensures { result ≡ get_lead program.now heap.now is (Some place) receiver }
+    ensures { result ≡ get_lead program.now heap.now is place receiver }
 {
-    match receiver {
-        Some(Cell::Null) => Lead::Throws(BuiltIn::NullPointerException),
-        Some(Cell::Reference(number)) => {
+    match (place, receiver) {
+        (_, Some(Cell::Null)) => Lead::Throws(BuiltIn::NullPointerException),
+        (Some(place), Some(Cell::Reference(number))) => {
             if !is {
                 return VERIFY;
             }
@@ -105,13 +105,13 @@ pub(crate) fn get_field(
     class: u16,
     field: u16,
     receiver: Option<Cell>,
-) -> Option<Lead>
+) -> Lead
     requires code { IsCode resolved.now program.now }
-    ensures { IfSome result (GetsFrom program.now heap.now named class field receiver) }
+    ensures { GetsFrom program.now heap.now named class field receiver result }
 {
-    let place = place_of(program, resolved, class, field)?;
+    let place = place_of(program, resolved, class, field);
     let is = is_holder(heap, program, named, class, receiver);
-    Some(get_by(heap, program, is, place, receiver))
+    get_by(heap, program, is, place, receiver)
 }
 
 #[inline(always)]
@@ -157,14 +157,13 @@ pub(crate) fn put_field(
     field: u16,
     receiver: Option<Cell>,
     value: Option<Cell>,
-) -> Option<Lead>
+) -> Lead
     requires code { IsCode resolved.now program.now }
-    ensures { IfSome result (PutsIn program.now heap.now named class (field_place program.now class field) receiver value) }
+    ensures { PutsIn program.now heap.now named class (field_place program.now class field) receiver value result }
 {
-    let place = place_of(program, resolved, class, field)?;
-    let Some(value) = value else {
-        return Some(VERIFY);
+    let (Some(place), Some(value)) = (place_of(program, resolved, class, field), value) else {
+        return VERIFY;
     };
     let may = may_put(heap, program, named, class, place.held, receiver, value);
-    Some(put_by(may, place, receiver, value))
+    put_by(may, place, receiver, value)
 }

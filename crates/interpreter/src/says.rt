@@ -1,15 +1,19 @@
 //! What the innermost body does next.
 
-ghost use Rattle.std.specs.Prelude.{◌≡◌, ◌↔◌, ◌≤◌, IsTrue, true, IfOk, IfSome, None, OnErr, OnOk, Some, length};
+ghost use Rattle.std.specs.Prelude.{◌≡◌, ◌↔◌, IsTrue, true, IfNone, IfOk, IfSome, None, OnErr, OnOk, option_copied};
 ghost use Rattle.code.specs.IsCode.{IsCode};
 ghost use Rattle.frames.specs.Activations.{dropped, has_room, next_place, operands_of};
 ghost use Rattle.bodies.specs.declared.does.Does.TheVariants as does;
 ghost use Rattle.hierarchy.specs.LinkedProgram.{id};
+ghost use Rattle.code.specs.declared.op.Op.{Op as OpFacts};
 ghost use Rattle.code.specs.declared.op.Op.TheVariants as op;
+ghost use Rattle.heap.specs.Objects.{new_object};
 ghost use Rattle.interpreter.specs.Fitting.{on_top};
 ghost use Rattle.hierarchy.specs.Subclasses.{IsThrowable};
+ghost use Rattle.interpreter.specs.Memory.{MakesNew, TakesMemory};
+ghost use Rattle.interpreter.specs.Methods.{method_at};
 ghost use Rattle.interpreter.specs.Rows.{HasArguments, IsAtOp, Row, WaitsFor, with_frame};
-ghost use Rattle.interpreter.specs.Says.{IsSayable, Says, value_on_top as top_value};
+ghost use Rattle.interpreter.specs.Says.{IsAnswer, IsNoneReady, IsSayable, Says, value_on_top as top_value};
 ghost use Rattle.interpreter.specs.TurnRun.{TurnSaysNext};
 ghost use Rattle.interpreter.specs.declared.phase.Phase.TheVariants as phases;
 
@@ -21,7 +25,7 @@ use crate::phase::Phase;
 use bodies::{Does, Limit};
 use code::{Code, MethodCode, Op, instructions_name_what_is_there};
 use frames::{Cell, Thrown};
-use heap::Monitor;
+use heap::{Monitor, no_class};
 use hierarchy::{BuiltIn, ClassId, Program, Value, throwables_are_subclasses};
 use std::alloc::{AllocError, Global};
 
@@ -44,11 +48,28 @@ pub(crate) fn is_throwable(program: &Program, class: ClassId) -> bool
     program.is_subtype(class, program.built_in(BuiltIn::Throwable))
 }
 
+/// What is thrown where the procedure for a class completed abruptly, and what leaves a body.
+pub(crate) fn answer(program: &Program, thrown: Option<Thrown>) -> Thrown
+    ensures { IsAnswer program.now thrown result }
+{
+    match thrown {
+        Some(thrown) => {
+            if is_throwable(program, thrown.class) {
+                thrown
+            } else {
+                no_class(program)
+            }
+        }
+        None => no_class(program),
+    }
+}
+
 impl Interpreter {
-    /// The instruction at the innermost frame's place.
+    /// The instruction at the innermost frame's place, where there is one.
     pub(crate) fn op(&self, program: &Program, resolved: &Code) -> Option<Op>
         requires code { IsCode resolved.now program.now }
-        ensures { IfSome result (IsAtOp program.now self.now.frames) }
+        ensures some { IfSome result (IsAtOp program.now self.now.frames) }
+        ensures none { IfNone result ((o : OpFacts) → IsAtOp program.now self.now.frames o → ⊥) }
     {
         let Some(at) = self.frames.at() else {
             return None;
@@ -59,68 +80,56 @@ impl Interpreter {
         code.ops.as_slice().get(at.place).copied()
     }
 
-    /// Whether the innermost frame has as many operands as a method takes, and the method as many locals.
-    fn has_arguments(&self, callee: &MethodCode) -> bool
-        ensures { IsTrue result ↔ HasArguments (Some callee.now) (operands_of self.now.frames) }
+    /// Whether there is such a method, the innermost frame has as many operands as it takes, and it as many locals.
+    fn has_arguments(&self, callee: Option<&MethodCode>) -> bool
+        ensures { IsTrue result ↔ HasArguments (option_copied callee.entry) (operands_of self.now.frames) }
     {
+        let Some(callee) = callee else {
+            return false;
+        };
         let count = callee.parameters.len();
         count <= callee.locals as usize && (count == 0 || self.frames.operand(count - 1).is_some())
     }
 
     /// The body is over.
-    #[tactic(auto, using(crate::proofs::Saying::lacks_memory, crate::proofs::Saying::returns_out, crate::proofs::Saying::throws_out))]
+    #[tactic(auto, using(crate::proofs::Saying::answers_are_thrown, crate::proofs::Saying::returns_out, crate::proofs::Saying::throws_out))]
     pub(crate) fn over(&mut self, program: &Program, thrown: Option<Thrown>) -> Does
         requires { self.old.phase ≡ phases.Over thrown }
         ensures says { Says program.now self.old result self.new }
         ensures sayable { IsSayable program.now self.old.phase result }
     {
-        if let Some(thrown) = thrown {
-            if !is_throwable(program, thrown.class) {
-                return Does::Ended(Limit::Memory);
-            }
-        }
-        self.thrown = thrown;
         match thrown {
-            Some(thrown) => Does::Over(Some(thrown.class)),
+            Some(_) => {
+                let left = answer(program, thrown);
+                self.thrown = Some(left);
+                Does::Over(Some(left.class))
+            }
             None => {
+                self.thrown = None;
                 self.phase = Phase::Runs;
                 Does::Over(None)
-            },
+            }
         }
     }
 
-    /// Whether an instruction waits for a class, to do its second half. An `Err`: there is no such member.
-    #[tactic(auto, using(crate::proofs::Saying::same_number, crate::proofs::Saying::number_of, crate::proofs::Saying::waits_kind, crate::proofs::Saying::kind_waits, crate::proofs::Saying::waits_called, crate::proofs::Saying::called_waits))]
-    fn waits_for(
-        &self,
-        program: &Program,
-        resolved: &Code,
-        op: Op,
-        class: ClassId,
-    ) -> Result<bool, AllocError>
+    /// Whether an instruction waits for a class, to do its second half.
+    #[tactic(auto, using(crate::proofs::Saying::same_number, crate::proofs::Saying::number_of))]
+    fn waits_for(&self, program: &Program, resolved: &Code, op: Op, class: ClassId) -> bool
         requires code { IsCode resolved.now program.now }
-        ensures { IfOk result (λ waits. IsTrue waits ↔ WaitsFor program.now self.now.frames op class) }
+        ensures { IsTrue result ↔ WaitsFor program.now self.now.frames op class }
     {
         match op {
-            Op::GetStatic(wanted, _) => Ok(class.number == wanted as usize),
+            Op::GetStatic(wanted, _) => class.number == wanted as usize,
             Op::PutStatic(wanted, field) => {
-                match static_type(program, resolved, wanted as usize, field as usize) {
-                    Some(held) => Ok(
-                        class.number == wanted as usize && is_kind_of(held, self.frames.operand(0)),
-                    ),
-                    None => Err(AllocError),
-                }
+                let held = static_type(program, resolved, wanted as usize, field as usize);
+                class.number == wanted as usize && is_kind_of(held, self.frames.operand(0))
             }
-            Op::New(wanted) => Ok(class.number == wanted as usize && self.frames.has_room()),
+            Op::New(wanted) => class.number == wanted as usize && self.frames.has_room(),
             Op::InvokeStatic(wanted, method) => {
-                match method_code(program, resolved, wanted as usize, method as usize) {
-                    Some(callee) => {
-                        Ok(class.number == wanted as usize && self.has_arguments(callee))
-                    }
-                    None => Err(AllocError),
-                }
+                let callee = method_code(program, resolved, wanted as usize, method as usize);
+                class.number == wanted as usize && self.has_arguments(callee)
             }
-            _ => Ok(false),
+            _ => false,
         }
     }
 
@@ -138,7 +147,6 @@ impl Interpreter {
 
     /// Writes the static field for which its class was made ready.
     fn put_static(&mut self, class: ClassId, field: u16) -> Does
-        requires { 1 ≤ length (operands_of self.old.frames) }
         ensures does { result ≡ does.Puts class field (top_value (on_top self.old.frames)) }
         ensures taken { self.new ≡ with_frame (λ f. next_place (dropped 1 f)) (record self.old { phase = phases.Runs }) }
     {
@@ -153,7 +161,7 @@ impl Interpreter {
     }
 
     /// Calls the method for which its class was made ready. An `Err` means out of memory, and changes nothing.
-    #[tactic(auto, using(crate::proofs::Saying::calls_at))]
+    #[tactic(auto, using(crate::proofs::Saying::calls_at, crate::proofs::Saying::frame_there))]
     fn call_static(
         &mut self,
         program: &Program,
@@ -166,28 +174,18 @@ impl Interpreter {
         requires phase { self.old.phase ≡ phases.Ready ready }
         requires ready { ready ≡ id class }
         requires at { IsAtOp program.now self.old.frames (op.InvokeStatic class method) }
+        requires arguments { HasArguments (method_at program.now class method) (operands_of self.old.frames) }
         ensures row { OnOk result (Row program.now self.old self.new) }
         ensures err { OnErr result (self.new ≡ self.old) }
     {
-        let Some(at) = self.frames.at() else {
-            return Err(AllocError);
-        };
         let (class, method) = (class as usize, method as usize);
         let Some(callee) = method_code(program, resolved, class, method) else {
-            return Err(AllocError);
+            unreachable!()
         };
         let count = callee.parameters.len();
         self.phase = Phase::Runs;
         if self
-            .call(
-                program,
-                resolved,
-                at,
-                class,
-                method,
-                count,
-                Monitor::Class(ready),
-            )
+            .call(program, class, method, callee, count, Monitor::Class(ready))
             .is_err()
         {
             self.phase = Phase::Ready(ready);
@@ -197,13 +195,14 @@ impl Interpreter {
     }
 
     /// Makes an object of the class that was made ready for it. An `Err` means out of memory, and changes nothing.
-    #[tactic(auto, using(crate::proofs::Saying::makes_at))]
+    #[tactic(auto, using(crate::proofs::Saying::makes_at, crate::proofs::Served::room_for_one))]
     fn make(&mut self, program: &Program, ready: ClassId, class: u16) -> Result<(), AllocError>
         requires phase { self.old.phase ≡ phases.Ready ready }
         requires ready { ready ≡ id class }
         requires at { IsAtOp program.now self.old.frames (op.New class) }
         requires room { has_room self.old.frames ≡ true }
         ensures row { OnOk result (Row program.now self.old self.new) }
+        ensures memory { OnErr result (MakesNew program.now (new_object program.now ready) self.old) }
         ensures err { OnErr result (self.new ≡ self.old) }
     {
         self.phase = Phase::Runs;
@@ -227,20 +226,18 @@ impl Interpreter {
         ensures row { IfOk result (λ d. d ≡ None → Row program.now self.old self.new) }
         ensures says { IfOk result (λ d. IfSome d (λ x. Says program.now self.old x self.new)) }
         ensures sayable { IfOk result (λ d. IfSome d (IsSayable program.now self.old.phase)) }
+        ensures memory { OnErr result (TakesMemory program.now self.old) }
         ensures err { OnErr result (self.new ≡ self.old) }
     {
         program.is_linked();
         instructions_name_what_is_there(program);
         let Some(op) = self.op(program, resolved) else {
-            return Err(AllocError);
+            self.phase = Phase::Runs;
+            return Ok(None);
         };
-        match self.waits_for(program, resolved, op, class) {
-            Ok(true) => {}
-            Ok(false) => {
-                self.phase = Phase::Runs;
-                return Ok(None);
-            }
-            Err(_) => return Err(AllocError),
+        if !self.waits_for(program, resolved, op, class) {
+            self.phase = Phase::Runs;
+            return Ok(None);
         }
         match op {
             Op::GetStatic(_, field) => Ok(Some(self.get_static(class, field))),
@@ -255,7 +252,7 @@ impl Interpreter {
                     Err(_) => Err(AllocError),
                 }
             }
-            _ => Err(AllocError),
+            _ => unreachable!(),
         }
     }
 
@@ -278,15 +275,16 @@ impl Interpreter {
     /// Goes on up to what the innermost body does next, which waits for no class, or up to a monitor that another thread holds.
     fn say_running(&mut self, alloc: Global, program: &Program, resolved: &Code) -> Does
         requires code { IsCode resolved.now program.now }
+        requires ready { IsNoneReady self.old.phase }
         ensures says { TurnSaysNext program.now self.old result self.new }
         ensures sayable { (phase : _) → IsSayable program.now phase result }
     {
         loop {
             match self.phase {
                 Phase::Over(thrown) => return self.over(program, thrown),
-                Phase::Refused | Phase::Spent | Phase::Ready(_) => {
-                    return Does::Ended(Limit::Memory);
-                }
+                Phase::Refused => return Does::Ended(Limit::Memory),
+                Phase::Spent => return Does::Ended(Limit::Steps),
+                Phase::Ready(_) => unreachable!(),
                 Phase::Locks(monitor, of_method) => match self.lock(program, monitor, of_method) {
                     Ok(true) => {}
                     Ok(false) => return Does::Waits,

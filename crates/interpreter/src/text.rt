@@ -11,7 +11,6 @@ ghost use Rattle.interpreter.specs.Printing.{character_of, text_of, text_by};
 use frames::Cell;
 use hierarchy::{BuiltInMethod, Printed, Program};
 use jasmin_words::integer::push_integer;
-use jasmin_words::token::is_text;
 use sequence::{Text, Writer};
 use std::alloc::{AllocError, Global};
 
@@ -98,11 +97,8 @@ pub(crate) fn text(
     ensures text { IfOk result (λ text. text ≡ text_by program.now method value) }
     ensures utf8 { IfOk result (λ text. has_characters text ≡ true) }
 {
+    program.is_linked();
     let mut written = Writer::new(alloc);
     push_text(&mut written, program, method, value);
-    let bytes = written.into_text()?;
-    if !is_text(&bytes) {
-        return Err(AllocError);
-    }
-    Ok(Text::from_vec(bytes))
+    Ok(Text::from_vec(written.into_text()?))
 }

@@ -2,6 +2,8 @@
 
 ghost use Rattle.std.specs.Prelude.{◌≡◌, ◌∷◌, List, Some, OnErr, OnOk};
 ghost use Rattle.frames.specs.Activations.{Activation, place_of};
+ghost use Rattle.hierarchy.specs.declared.built_in.BuiltIn.TheVariants.{VerifyError};
+ghost use Rattle.interpreter.specs.Memory.{MakesThrown};
 ghost use Rattle.interpreter.specs.Rows.{IsLeftWith, IsPastTheEnd, IsReleasedTo, IsThrown, Throws};
 
 use crate::interpreter::Interpreter;
@@ -52,6 +54,7 @@ impl Interpreter {
     /// Throws a new object of a built-in throwable in the innermost frame. An `Err` means out of memory, and changes nothing.
     pub(crate) fn throw_new(&mut self, program: &Program, class: BuiltIn) -> Result<(), AllocError>
         ensures ok { OnOk result (Throws program.now class self.old self.new) }
+        ensures memory { OnErr result (MakesThrown program.now class self.old) }
         ensures err { OnErr result (self.new ≡ self.old) }
     {
         let thrown = self.heap.throwable(program, class)?;
@@ -64,6 +67,7 @@ impl Interpreter {
     pub(crate) fn run_past(&mut self, program: &Program, at: FramePlace) -> Result<(), AllocError>
         requires { place_of self.old.frames ≡ Some at }
         ensures ok { OnOk result ((a : Activation) (below : List Activation) → self.old.frames ≡ a ∷ below → IsPastTheEnd program.now a below self.old self.new) }
+        ensures memory { OnErr result (MakesThrown program.now VerifyError self.old) }
         ensures err { OnErr result (self.new ≡ self.old) }
     {
         let thrown = self.heap.throwable(program, BuiltIn::VerifyError)?;

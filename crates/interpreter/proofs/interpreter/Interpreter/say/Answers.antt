@@ -1,7 +1,7 @@
 use Rattle.bodies.specs.declared.does.Does.TheVariants.{Ended}
 use Rattle.bodies.specs.declared.report.Limit.TheVariants.{Memory}
 use Rattle.interpreter.proofs.Running.{no_rows, then_row_of}
-use Rattle.interpreter.proofs.Saying.{lacks_memory}
+use Rattle.interpreter.specs.Says.{no_memory}
 use Rattle.interpreter.proofs.TakingTurns.{says_in_turn, then_turn}
 use Rattle.interpreter.proofs.interpreter.Interpreter.say.Goals as goal
 
@@ -17,7 +17,7 @@ pub returns-in-Ok-Some-clause-says : goal.returns-in-Ok-Some-clause-says
 returns-in-Ok-Some-clause-says c = says_in_turn c.args.program.now c.args.self.now c.resume.new.self c.in-Ok-Some.does (rw c.in-Ok-Some.field-0-is at c.in-Ok-Some.ensures.says)
 
 pub returns-in-Err-clause-says : goal.returns-in-Err-clause-says
-returns-in-Err-clause-says c = rw c.in-Err.ensures.err (says_in_turn c.args.program.now c.args.self.now c.args.self.now (Ended Memory) (lacks_memory c.args.program.now c.args.self.now))
+returns-in-Err-clause-says c = rw c.in-Err.ensures.err (says_in_turn c.args.program.now c.args.self.now c.args.self.now (Ended Memory) (no_memory c.in-Err.ensures.memory))
 
 pub returns-in_default : goal.returns-in_default
 returns-in_default c = record {

@@ -1,8 +1,13 @@
 use Rattle.std.proofs.Common.{ap, sym, ◌∙◌}
-use Rattle.interpreter.specs.CodeRun.{begins}
+use Rattle.interpreter.specs.CodeRun.{begins, no_memory}
 use Rattle.interpreter.specs.Methods.{initializer_in}
-use Rattle.interpreter.proofs.CodeBodies.{on_ok}
+use Rattle.interpreter.specs.declared.interpreter.Interpreter.{Interpreter}
+use Rattle.interpreter.specs.declared.phase.Phase.TheVariants.{Refused}
+use Rattle.interpreter.proofs.CodeBodies.{on_ok, when_refused}
 use Rattle.interpreter.proofs.interpreter.Interpreter.try_start.Goals as goal
 
-pub returns-in-Some-initializer-clause-ok : goal.returns-in-Some-initializer-clause-ok
-returns-in-Some-initializer-clause-ok c = on_ok c.begin.result (λ b. begins (ap initializer_in (sym (c.in-Some.ensures c.args.program.now c.requires.code)) ∙ c.in-Some-initializer.is) b) c.begin.ensures.ok
+pub returns-clause-ok : goal.returns-clause-ok
+returns-clause-ok c = on_ok c.begin.result (λ b. begins (ap initializer_in (sym (c.in-Some.ensures c.args.program.now c.requires.code)) ∙ c.in-Some-initializer.is) b) c.begin.ensures.ok
+
+pub returns-clause-err : goal.returns-clause-err
+returns-clause-err c = when_refused c.begin.result (λ same. no_memory (ap initializer_in (sym (c.in-Some.ensures c.args.program.now c.requires.code)) ∙ c.in-Some-initializer.is) (ap (λ (x : Interpreter). record x { phase = Refused }) same)) c.begin.ensures.err

@@ -3,7 +3,7 @@ use Rattle.std.specs.Prelude.{IfSome}
 use Rattle.bodies.specs.declared.does.Does.{Does}
 use Rattle.interpreter.specs.Says.{Says}
 use Rattle.interpreter.specs.SharedRun.{Amid}
-use Rattle.interpreter.proofs.Sharing.{no_shared_rows, then_amid, then_lacks_memory, then_next_shared, then_says_amid}
+use Rattle.interpreter.proofs.Sharing.{no_shared_rows, then_amid, then_next_shared, then_refused, then_says_amid}
 use Rattle.interpreter.proofs.shared.SharedInterpreter.say.Goals as goal
 
 pub returns-in-Ok-None-clause-says : goal.returns-in-Ok-None-clause-says
@@ -18,7 +18,7 @@ returns-in-Ok-Some-clause-says g c = then_says_amid c.args.program.now c.args.se
     (subst (λ (o : Option Does). IfSome o (λ x. Amid (λ u v. Says c.args.program.now u x v) c.args.self.now c.resume.new.self)) c.in-Ok-Some.field-0-is c.in-Ok-Some.ensures.says)
 
 pub returns-in-Err-clause-says : goal.returns-in-Err-clause-says
-returns-in-Err-clause-says g c = then_lacks_memory c.args.program.now c.args.self.now c.args.self.now c.resume.new.self (no_shared_rows c.args.program.now c.args.self.now) c.in-Err.ensures.err
+returns-in-Err-clause-says g c = then_refused c.args.program.now c.args.self.now c.args.self.now c.resume.new.self (no_shared_rows c.args.program.now c.args.self.now) c.in-Err.ensures.err
 
 pub returns-in_default : goal.returns-in_default
 returns-in_default g c = record {

@@ -1,5 +1,5 @@
 use Rattle.interpreter.proofs.CodeBodies.{left_is_answer, none_is_answer, other_is_answer}
-use Rattle.interpreter.proofs.code_bodies.answer.Goals as goal
+use Rattle.interpreter.proofs.says.answer.Goals as goal
 
 pub returns-then-is_throwable : goal.returns-then-is_throwable
 returns-then-is_throwable c = left_is_answer _ _ _ _ c.in-Some.is c.is_throwable.ensures c.if-is_throwable.true
