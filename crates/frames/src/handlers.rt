@@ -4,8 +4,6 @@
 //! by [`replacement`]: what an initializer that throws an object of a class leaves (JLS SE 8 12.4.2 step 11).
 
 ghost use Rattle.std.specs.Prelude.{◌↔◌, IsTrue, true, false};
-ghost use Rattle.hierarchy.specs.declared.built_in.BuiltIn.TheVariants.{Error};
-ghost use Rattle.hierarchy.specs.Subclasses.{IsError};
 ghost use Rattle.frames.specs.Handlers.{IsCaughtBy, Fits, FirstFits};
 ghost use Rattle.frames.specs.Replacing.{Replaces};
 
@@ -53,16 +51,24 @@ pub fn handler_at(
     None
 }
 
-/// The class of what an initializer leaves that throws an object of a class: an Error, or an object of a subclass, is left as it
-/// is; any other throwable is replaced by an ExceptionInInitializerError (JLS SE 8 12.4.2 step 11). Takes no memory.
-pub fn replacement(program: &Program, thrown: ClassId) -> ClassId
-    ensures replaces { Replaces program.now thrown result }
-    ensures error { IsError program.now result }
+/// What step 11 leaves of the throwable by which an initializer ended (JLS SE 8 12.4.2).
+#[derive(Clone, Copy, PartialEq, Eq)]
+pub enum Replaced {
+    /// It itself.
+    Same,
+    /// A new ExceptionInInitializerError in its place.
+    Wrapped,
+}
+
+/// What step 11 leaves of a throwable of a class: an Error, or an object of a subclass, as it is; of any other a new
+/// ExceptionInInitializerError comes in its place (JLS SE 8 12.4.2). Takes no memory.
+pub fn replacement(program: &Program, thrown: ClassId) -> Replaced
+    ensures { Replaces program.now thrown result }
 {
     throwables_are_subclasses(program, thrown);
     if program.is_subtype(thrown, program.built_in(BuiltIn::Error)) {
-        thrown
+        Replaced::Same
     } else {
-        program.built_in(BuiltIn::ExceptionInInitializerError)
+        Replaced::Wrapped
     }
 }

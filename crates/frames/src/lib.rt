@@ -33,7 +33,7 @@ mod words;
 
 pub use cell::Cell;
 pub use frames::Frames;
-pub use handlers::{handler_at, replacement};
+pub use handlers::{Replaced, handler_at, replacement};
 pub use place::FramePlace;
 pub use run::Stop;
 pub use thrown::Thrown;

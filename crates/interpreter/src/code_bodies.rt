@@ -1,12 +1,12 @@
 //! Bodies made by code.
 
-ghost use Rattle.std.specs.Prelude.{◌≡◌, ◌↔◌, IfOk, IsTrue, OnErr, OnOk, Some, true};
+ghost use Rattle.std.specs.Prelude.{◌≡◌, IfOk, OnErr, OnOk, Some, true};
 ghost use Rattle.code.specs.IsCode.{IsCode};
 ghost use Rattle.hierarchy.specs.declared.built_in.BuiltIn.TheVariants.{ExceptionInInitializerError};
 ghost use Rattle.hierarchy.specs.Subclasses.{IsError};
 ghost use Rattle.heap.specs.Objects.{has_cells, no_texts, reference_of_new, with_new};
 ghost use Rattle.init_core.specs.ProcedureWord.{GoesOn, IsOfFiles};
-ghost use Rattle.interpreter.specs.CodeRun.{AloneSaysNext, Begins, Enters, IsTold, Replaces, Starts, below_body, fails_by, interpreter_at_start, left_phase as left_phase_of};
+ghost use Rattle.interpreter.specs.CodeRun.{AloneSaysNext, Begins, Enters, IsTold, LeavesError, Starts, below_body, fails_by, interpreter_at_start, left_phase as left_phase_of};
 ghost use Rattle.interpreter.specs.Memory.{MakesThrown};
 ghost use Rattle.interpreter.specs.Methods.{method_at};
 ghost use Rattle.interpreter.specs.Says.{IsSayable};
@@ -22,18 +22,11 @@ use crate::says::answer;
 use crate::taken::TakenMonitors;
 use bodies::{Bodies, Does, Lends, Limit};
 use code::{Code, MethodCode};
-use frames::{Cell, Frames, Thrown};
+use frames::{Cell, Frames, Replaced, Thrown, replacement};
 use heap::{Heap, Monitor, Monitors, out_of_memory};
-use hierarchy::{BuiltIn, ClassId, Program, Value, throwables_are_subclasses};
+use hierarchy::{BuiltIn, ClassId, Program, Value};
 use init_core::{Completed, Outcome};
 use std::alloc::{AllocError, Global};
-
-fn is_error(program: &Program, class: ClassId) -> bool
-    ensures { IsTrue result ↔ IsError program.now class }
-{
-    throwables_are_subclasses(program, class);
-    program.is_subtype(class, program.built_in(BuiltIn::Error))
-}
 
 /// A new array of no texts, if the heap has room. An `Err` means out of memory, and changes nothing.
 fn new_texts(heap: &mut Heap, program: &Program) -> Result<Option<u32>, AllocError>
@@ -198,21 +191,25 @@ impl Interpreter {
         program: &Program,
         thrown: ClassId,
     ) -> Result<ClassId, AllocError>
-        ensures replaces { IfOk result (λ error. Replaces program.now self.old thrown error self.new) }
+        ensures replaces { IfOk result (λ error. LeavesError program.now self.old thrown error self.new) }
         ensures error { IfOk result (λ error. IsError program.now error) }
         ensures wraps { OnErr result (IsError program.now thrown → ⊥) }
         ensures memory { OnErr result (MakesThrown program.now ExceptionInInitializerError self.old) }
         ensures err { OnErr result (self.new ≡ self.old) }
     {
-        if is_error(program, thrown) {
-            self.phase = Phase::Runs;
-            return Ok(thrown);
+        match replacement(program, thrown) {
+            Replaced::Same => {
+                self.phase = Phase::Runs;
+                Ok(thrown)
+            }
+            // (where the machine made what was thrown, it kept room for the error)
+            Replaced::Wrapped => {
+                let wrapped = self.heap.initializer_error(program)?;
+                self.phase = Phase::Runs;
+                self.thrown = Some(wrapped);
+                Ok(wrapped.class)
+            }
         }
-        // (where the machine made what was thrown, it kept room for the error)
-        let wrapped = self.heap.initializer_error(program)?;
-        self.phase = Phase::Runs;
-        self.thrown = Some(wrapped);
-        Ok(wrapped.class)
     }
 
     /// Goes on up to what the innermost body does next, where there is no other thread.

@@ -1,7 +1,7 @@
 //! Which row of a handler table catches an object, and step 11.
 
 use crate::programs::{Question, Row};
-use frames::{handler_at, replacement};
+use frames::{Replaced, handler_at, replacement};
 use hierarchy::{ClassId, Program};
 
 /// A method with handlers: places 0 to 4, by the labels A, B (at 2), X and Y.
@@ -17,10 +17,10 @@ fn goes_on(program: &Program, place: usize, name: &[u8]) -> Option<u16> {
     handler_at(program, code.handlers.as_slice(), place, thrown)
 }
 
-/// Whether step 11 leaves an object of the second class of one of the first.
-fn leaves(program: &Program, thrown: &[u8], left: &[u8]) -> bool {
+/// Whether step 11 leaves an object of a class so.
+fn leaves(program: &Program, thrown: &[u8], left: Replaced) -> bool {
     match program.class_named(thrown) {
-        Some(class) => program.class_named(left) == Some(replacement(program, class)),
+        Some(class) => replacement(program, class) == left,
         None => false,
     }
 }
@@ -33,17 +33,9 @@ pub(crate) fn handlers(program: &Program) -> bool {
         && goes_on(program, 2, b"java/lang/Error") == Some(3)
         && goes_on(program, 3, b"java/lang/Error").is_none()
         && goes_on(program, 0, b"java/lang/Object").is_none()
-        && leaves(program, b"java/lang/Error", b"java/lang/Error")
-        && leaves(
-            program,
-            b"java/lang/InternalError",
-            b"java/lang/InternalError",
-        )
-        && leaves(
-            program,
-            b"java/lang/Exception",
-            b"java/lang/ExceptionInInitializerError",
-        )
+        && leaves(program, b"java/lang/Error", Replaced::Same)
+        && leaves(program, b"java/lang/InternalError", Replaced::Same)
+        && leaves(program, b"java/lang/Exception", Replaced::Wrapped)
 }
 
 pub(crate) const HANDLED: &[Row] = &[Row {

@@ -12,7 +12,7 @@ use crate::programs::{Question, Row};
 use crate::runs::are_of_files;
 use bodies::{Bodies, Does, Lends, Limit, Limits, Report, ThreadOutcome};
 use descriptors::BaseType;
-use frames::replacement;
+use frames::{Replaced, replacement};
 use guest_threads::{NoGate, run_threads};
 use hierarchy::{BuiltIn, ClassId, Program, Value};
 use init_core::{Completed, Outcome};
@@ -172,7 +172,10 @@ impl Bodies for Scripted {
         program: &Program,
         thrown: ClassId,
     ) -> Result<ClassId, AllocError> {
-        Ok(replacement(program, thrown))
+        Ok(match replacement(program, thrown) {
+            Replaced::Same => thrown,
+            Replaced::Wrapped => program.built_in(BuiltIn::ExceptionInInitializerError),
+        })
     }
 
     ghost waits_on = { may_wait };
