@@ -89,8 +89,8 @@ pub trait Bodies: Drop {
     fn leave(&mut self, program: &Program)
         ensures { (making program.now).is_ended self.old self.new };
 
-    /// Step 11: the class of the error by which the class fails, for a throwable that its initializer threw. An `Err` means out of memory;
-    /// what a body has done before it has still done.
+    /// Step 11: the class of the error by which the class fails, for a throwable that its initializer threw. An `Err` means out of memory,
+    /// and comes of no error, which is left as it is; what a body has done before it has still done.
     fn replace(
         &mut self,
         alloc: Global,
@@ -100,6 +100,7 @@ pub trait Bodies: Drop {
         requires thrown { IsThrowable program.now thrown }
         ensures replaces { IfOk result (λ error. (making program.now).replaces self.old thrown error self.new) }
         ensures error { IfOk result (λ error. IsError program.now error) }
+        ensures wraps { OnErr result (IsError program.now thrown → ⊥) }
         ensures err { OnErr result ((s : Self) (last : Option CompletedFacts) (d : DoesFacts) → (making program.now).does s last d self.old → (making program.now).does s last d self.new) };
 
     /// What a body does that has waited it may do at once, where nothing has to be waited for.
