@@ -1,4 +1,5 @@
 pub mod HandlerRows
+pub mod LeadingOut
 pub mod Stacks
 pub mod Popped
 pub mod Sequences

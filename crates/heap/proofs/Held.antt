@@ -2,12 +2,12 @@
 use Rattle.std.proofs.Common.{◌≡◌, ℕ, ◌+◌, ◌≤◌, nat_lt, Bool, true, false, List, Option, Some, None, length, refl, sym, ap, subst, ◌∙◌, slice_set, arith}
 use Rattle.std.proofs.lemmas.Bool.Decides.{nat_tests}
 use Rattle.std.proofs.lemmas.Option.{slice_get_past}
-use Rattle.std.specs.Prelude.{◌==◌, if◌then◌else◌, slice_get}
-use Rattle.heap.specs.declared.monitors.Entry.TheVariants.{Entered, Busy}
+use Rattle.std.specs.Prelude.{slice_get}
+use Rattle.heap.specs.declared.monitors.Entry.TheVariants.{Entered}
 use Rattle.heap.specs.declared.monitors.Holder.{Holder}
 use Rattle.heap.specs.declared.monitors.Monitor.{Monitor}
 use Rattle.heap.specs.declared.monitors.Monitor.TheVariants as monitor
-use Rattle.heap.specs.Monitors.{Enters, Exits, Holders, IsHeldBy, again, entered_by, held_in, holder_of, is_busy, is_free, leaves, left_once, not_held, with_changed, with_entry, with_holder}
+use Rattle.heap.specs.Monitors.{Enters, Exits, Holders, IsHeldBy, again, held_in, holder_of, leaves, left_once, not_held, with_changed, with_entry, with_holder}
 
 entry_set : (hs : List (Option Holder)) (n : ℕ) (h : Holder) (x : Option Holder) → held_in (slice_get hs n) ≡ Some h → slice_set hs n x ≡ with_entry hs n x
 entry_set hs n h x held = by (nat_lt n (length hs)) refl
@@ -32,20 +32,5 @@ none_held s t m o asked none = not_held (λ h. subst (IsHeldBy t) (sym asked ∙
 pub other_held : (s : Holders) (t : ℕ) (m : Monitor) (h : Holder) (o : Option Holder) → o ≡ holder_of s m → o ≡ Some h → (h.thread ≡ t → ⊥) → Exits s t m false s
 other_held s t m h o asked some other = not_held (λ own. other (subst (IsHeldBy t) (sym asked ∙ some) own))
 
-pub enters_by : (s z : Holders) (t : ℕ) (m : Monitor) (o : Option Holder) (n : Holder) → o ≡ holder_of s m → Some n ≡ entered_by t o → z ≡ with_holder s m (Some n) → Enters s t m Entered z
-enters_by s z t m None n asked next is = is_free (sym asked) (is ∙ ap (with_holder s m) next)
-enters_by s z t m (Some h) n asked next is = by (h.thread == t) refl
-  where
-    by : (b : Bool) → (h.thread == t) ≡ b → Enters s t m Entered z
-    by true own =
-        let again_by : Some n ≡ Some (record { thread = t; count = h.count + 1 }) = next ∙ ap (λ b. if b then Some (record { thread = t; count = h.count + 1 }) else None) own in
-        again (sym asked) (grind (arith, nat_tests)) (is ∙ ap (with_holder s m) again_by)
-    by false other = let q : Some n ≡ None = next ∙ ap (λ b. if b then Some (record { thread = t; count = h.count + 1 }) else None) other in absurd cc
-
-pub busy_by : (s : Holders) (t : ℕ) (m : Monitor) (o : Option Holder) → o ≡ holder_of s m → None ≡ entered_by t o → Enters s t m Busy s
-busy_by s t m None asked next = absurd cc
-busy_by s t m (Some h) asked next = by (h.thread == t) refl
-  where
-    by : (b : Bool) → (h.thread == t) ≡ b → Enters s t m Busy s
-    by true own = let q : None ≡ Some (record { thread = t; count = h.count + 1 }) = next ∙ ap (λ b. if b then Some (record { thread = t; count = h.count + 1 }) else None) own in absurd cc
-    by false other = is_busy (sym asked) (grind (arith, nat_tests))
+pub enters_again : (s z : Holders) (t : ℕ) (m : Monitor) (h n : Holder) (o : Option Holder) → o ≡ holder_of s m → o ≡ Some h → h.thread ≡ t → n ≡ record { thread = t; count = h.count + 1 } → z ≡ with_changed s m (Some n) → Enters s t m Entered z
+enters_again s z t m h n o asked some own next is = let held = sym asked ∙ some in again held own (is ∙ changed_is s m h (Some n) held ∙ ap (λ x. with_holder s m (Some x)) next)

@@ -1,7 +1,7 @@
 //! Who holds the monitors of objects and classes (JLS SE 8 17.1).
 
 ghost use Rattle.std.specs.Prelude.{◌≡◌, IfOk, OnErr, OnOk, map, slice_get, slice_set};
-ghost use Rattle.heap.specs.Monitors.{Enters, Exits, entered_by, held_in, holder_of, left_once, no_holders, released, with_changed, with_entry, with_holder, with_released};
+ghost use Rattle.heap.specs.Monitors.{Enters, Exits, NotesHolder, held_in, holder_of, left_once, no_holders, released, with_changed, with_entry, with_holder, with_released};
 
 use hierarchy::ClassId;
 use std::alloc::{AllocError, Global};
@@ -98,22 +98,6 @@ fn change_at(held: &mut Vec<Option<Holder>>, place: usize, holder: Option<Holder
     }
 }
 
-/// Who holds a monitor after a thread entered it, none where another thread holds it. An `Err` is a count beyond 2^64 - 1.
-fn next_holder(held: Option<Holder>, thread: u8) -> Result<Option<Holder>, AllocError>
-    ensures { IfOk result (λ next. next ≡ entered_by thread held) }
-{
-    let Some(holder) = held else {
-        return Ok(Some(Holder { thread, count: 1 }));
-    };
-    if holder.thread != thread {
-        return Ok(None);
-    }
-    match holder.count.checked_add(1) {
-        Some(count) => Ok(Some(Holder { thread, count })),
-        None => Err(AllocError),
-    }
-}
-
 /// What a thread holds that left a monitor once.
 fn left(holder: Holder) -> Option<Holder>
     ensures { result ≡ left_once holder }
@@ -185,17 +169,26 @@ impl Monitors {
     ///
     /// # Errors
     ///
-    /// Out of memory, or the thread entered the monitor 2^64 - 1 times; nothing changes.
-    #[tactic(auto, using(crate::proofs::Held::enters_by, crate::proofs::Held::busy_by))]
+    /// Out of memory where nobody held the monitor, or the thread entered it 2^64 - 1 times; nothing changes.
     pub fn enter(&mut self, thread: u8, monitor: Monitor) -> Result<Entry, AllocError>
         ensures entered { IfOk result (λ entry. Enters self.old thread monitor entry self.new) }
+        ensures memory { OnErr result (NotesHolder self.old thread monitor) }
         ensures err { OnErr result (self.new ≡ self.old) }
     {
-        let Some(next) = next_holder(self.holder(monitor), thread)? else {
-            return Ok(Entry::Busy);
-        };
-        self.hold(monitor, Some(next))?;
-        Ok(Entry::Entered)
+        match self.holder(monitor) {
+            None => {
+                self.hold(monitor, Some(Holder { thread, count: 1 }))?;
+                Ok(Entry::Entered)
+            }
+            Some(holder) if holder.thread == thread => {
+                let Some(count) = holder.count.checked_add(1) else {
+                    return Err(AllocError);
+                };
+                self.change(monitor, Some(Holder { thread, count }));
+                Ok(Entry::Entered)
+            }
+            Some(_) => Ok(Entry::Busy),
+        }
     }
 
     /// Changes who holds a monitor that is held.

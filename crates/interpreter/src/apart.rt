@@ -1,12 +1,25 @@
 //! Which steps ask nothing of the heap and the monitors: a thread that shares these with others makes such a step without them.
 
+ghost use Rattle.std.specs.Prelude.{◌≡◌, true};
 ghost use Rattle.code.specs.IsCode.{IsCode};
+ghost use Rattle.frames.specs.Rows.{LeadsOut};
 
 use crate::interpreter::Interpreter;
 use crate::lead::{Lead, lead_of};
 use code::{Code, MethodCode, Op};
 use frames::{FramePlace, Stop};
 use hierarchy::Program;
+
+/// Whether an instruction may come to something that asks nothing of the heap and the monitors.
+fn may_ask_nothing(op: Op) -> bool
+    ensures { result ≡ true → LeadsOut op }
+{
+    match op {
+        Op::GetStatic(_, _) | Op::PutStatic(_, _) | Op::InvokeStatic(_, _) => true,
+        Op::Switch | Op::Return | Op::ReturnInt => true,
+        _ => false,
+    }
+}
 
 impl Interpreter {
     /// Whether the instruction for which a class was made ready makes and throws no object.
@@ -32,10 +45,8 @@ impl Interpreter {
         let Stop::LeadsOut(op) = stop else {
             return false;
         };
-        match op {
-            Op::GetStatic(_, _) | Op::PutStatic(_, _) | Op::InvokeStatic(_, _) => {}
-            Op::Switch | Op::Return | Op::ReturnInt => {}
-            _ => return false,
+        if !may_ask_nothing(op) {
+            return false;
         }
         match lead_of(&self.frames, &self.heap, program, resolved, at, code, op) {
             Lead::Uses(_) | Lead::Jumps(_) => true,

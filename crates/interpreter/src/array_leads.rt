@@ -24,7 +24,6 @@ pub(crate) fn new_array(element: ResolvedType, length: Index) -> Lead
     }
 }
 
-/// None where the array has more elements than an int counts, which the heap has no room for.
 pub(crate) fn array_length(heap: &Heap, program: &Program, array: Option<Cell>) -> Lead
     ensures { result ≡ length_lead program.now heap.now array }
 {

@@ -1,13 +1,13 @@
 //! Bodies made by code.
 
-ghost use Rattle.std.specs.Prelude.{◌≡◌, IfOk, OnErr, OnOk, Some, true};
+ghost use Rattle.std.specs.Prelude.{◌≡◌, IfOk, OnErr, OnOk, Some, length, true};
 ghost use Rattle.code.specs.IsCode.{IsCode};
 ghost use Rattle.hierarchy.specs.declared.built_in.BuiltIn.TheVariants.{ExceptionInInitializerError};
 ghost use Rattle.hierarchy.specs.Subclasses.{IsError};
 ghost use Rattle.heap.specs.Objects.{has_cells, no_texts, reference_of_new, with_new};
 ghost use Rattle.init_core.specs.ProcedureWord.{GoesOn, IsOfFiles};
 ghost use Rattle.interpreter.specs.CodeRun.{AloneSaysNext, Begins, Enters, IsTold, LeavesError, Starts, below_body, fails_by, interpreter_at_start, left_phase as left_phase_of};
-ghost use Rattle.interpreter.specs.Memory.{MakesThrown};
+ghost use Rattle.interpreter.specs.Memory.{MakesThrown, TakesBody};
 ghost use Rattle.interpreter.specs.Methods.{method_at};
 ghost use Rattle.interpreter.specs.Says.{IsSayable};
 ghost use Rattle.interpreter.specs.declared.phase.Phase.TheVariants as phases;
@@ -69,6 +69,7 @@ impl Interpreter {
     /// nothing.
     fn fail(&mut self, program: &Program, class: BuiltIn) -> Result<(), AllocError>
         ensures ok { OnOk result (self.new ≡ fails_by program.now class self.old) }
+        ensures memory { OnErr result (MakesThrown program.now class self.old) }
         ensures err { OnErr result (self.new ≡ self.old) }
     {
         let thrown = self.heap.throwable(program, class)?;
@@ -88,6 +89,7 @@ impl Interpreter {
     ) -> Result<(), AllocError>
         requires { method_at program.now class.number method ≡ Some code.now }
         ensures ok { OnOk result (Begins program.now class method given.now self.old self.new) }
+        ensures memory { OnErr result (TakesBody program.now (Some code.now) (length given.now) self.old) }
         ensures err { OnErr result (self.new ≡ self.old) }
     {
         if given.len() > code.locals as usize {
@@ -111,8 +113,8 @@ impl Interpreter {
         match (self.phase, last) {
             (Phase::Runs, Some(done)) => match done.outcome {
                 Outcome::Normal => self.phase = Phase::Ready(done.class),
-                Outcome::Abrupt(_) => {
-                    let thrown = answer(program, self.thrown);
+                Outcome::Abrupt(error) => {
+                    let thrown = answer(program, error, self.thrown);
                     self.thrown = None;
                     self.throw(program, thrown);
                 }
@@ -222,6 +224,7 @@ impl Interpreter {
         match self.say(alloc, program, resolved) {
             // (there is no other thread that could hold a monitor)
             Does::Waits => {
+                self.left = 0;
                 self.phase = Phase::Spent;
                 Does::Ended(Limit::Steps)
             }

@@ -6,6 +6,7 @@ ghost use Rattle.hierarchy.specs.LinkedProgram.{id as class_id};
 ghost use Rattle.hierarchy.specs.declared.built_in.BuiltIn.TheVariants.{VerifyError};
 ghost use Rattle.code.specs.declared.op.Op.TheVariants as op;
 ghost use Rattle.interpreter.specs.Fitting.{when as allowed_by};
+ghost use Rattle.frames.specs.Rows.{LeadsOut};
 ghost use Rattle.interpreter.specs.Leads.{LeadsTo};
 
 use crate::array_leads::{array_length, load, new_array, store};
@@ -145,6 +146,7 @@ pub(crate) fn lead_of(
     op: Op,
 ) -> Lead
     requires code { IsCode resolved.now program.now }
+    requires out { LeadsOut op }
     ensures { LeadsTo program.now heap.now frames.now at code.now op result }
 {
     let top = frames.operand(0);
@@ -205,6 +207,6 @@ pub(crate) fn lead_of(
         Op::ReturnReference => return_reference(frames, heap, program, at, code),
         Op::Return => when(code.result.is_none(), Lead::Returns(None)),
         // (every other instruction stays within its frame)
-        _ => VERIFY,
+        _ => unreachable!(),
     }
 }

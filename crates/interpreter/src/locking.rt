@@ -1,6 +1,9 @@
 //! Monitors that are entered.
 
 ghost use Rattle.std.specs.Prelude.{◌≡◌, ◌<◌, true, false, IfOk, OnErr};
+ghost use Rattle.heap.specs.declared.monitors.Entry.TheVariants.{Entered};
+ghost use Rattle.heap.specs.Monitors.{Enters, Holders};
+ghost use Rattle.interpreter.specs.Memory.{TakesMemory};
 ghost use Rattle.interpreter.specs.Rows.{Row, to_do};
 ghost use Rattle.interpreter.specs.Waiting.{IsBusyAt};
 ghost use Rattle.interpreter.specs.declared.phase.Phase.TheVariants as phases;
@@ -13,6 +16,17 @@ use hierarchy::Program;
 use std::alloc::AllocError;
 
 impl Interpreter {
+    /// Whether another thread holds a monitor.
+    fn is_held_by_another(&self, monitor: Monitor) -> bool
+        ensures held { result ≡ true → IsBusyAt monitor self.now self.now }
+        ensures free { result ≡ false → (holders : Holders) × Enters self.now.monitors self.now.thread monitor Entered holders }
+    {
+        match self.monitors.holder(monitor) {
+            Some(holder) => holder.thread != self.thread,
+            None => false,
+        }
+    }
+
     /// Enters the monitor of the innermost frame's method, unless another thread holds it. An `Err` means out of memory, and changes
     /// nothing.
     fn lock_method(&mut self, program: &Program, monitor: Monitor) -> Result<bool, AllocError>
@@ -20,8 +34,12 @@ impl Interpreter {
         ensures row { IfOk result (λ entered. entered ≡ true → Row program.now self.old self.new) }
         ensures less { IfOk result (λ entered. entered ≡ true → to_do self.new < to_do self.old) }
         ensures busy { IfOk result (λ entered. entered ≡ false → IsBusyAt monitor self.old self.new) }
+        ensures memory { OnErr result (TakesMemory program.now self.old) }
         ensures err { OnErr result (self.new ≡ self.old) }
     {
+        if self.is_held_by_another(monitor) {
+            return Ok(false);
+        }
         let depth = self.frames.len();
         self.taken.push(TakenMonitor { depth, monitor })?;
         match self.monitors.enter(self.thread, monitor) {
@@ -29,10 +47,7 @@ impl Interpreter {
                 self.phase = Phase::Runs;
                 Ok(true)
             }
-            Ok(Entry::Busy) => {
-                self.taken.drop_last();
-                Ok(false)
-            }
+            Ok(Entry::Busy) => unreachable!(),
             Err(_) => {
                 self.taken.drop_last();
                 Err(AllocError)
@@ -46,6 +61,7 @@ impl Interpreter {
         ensures row { IfOk result (λ entered. entered ≡ true → Row program.now self.old self.new) }
         ensures less { IfOk result (λ entered. entered ≡ true → to_do self.new < to_do self.old) }
         ensures busy { IfOk result (λ entered. entered ≡ false → IsBusyAt monitor self.old self.new) }
+        ensures memory { OnErr result (TakesMemory program.now self.old) }
         ensures err { OnErr result (self.new ≡ self.old) }
     {
         match self.monitors.enter(self.thread, monitor)? {
@@ -69,6 +85,7 @@ impl Interpreter {
         ensures row { IfOk result (λ entered. entered ≡ true → Row program.now self.old self.new) }
         ensures less { IfOk result (λ entered. entered ≡ true → to_do self.new < to_do self.old) }
         ensures busy { IfOk result (λ entered. entered ≡ false → IsBusyAt monitor self.old self.new) }
+        ensures memory { OnErr result (TakesMemory program.now self.old) }
         ensures err { OnErr result (self.new ≡ self.old) }
     {
         if of_method {

@@ -4,9 +4,9 @@ ghost use Rattle.std.specs.Prelude.{◌≡◌, ◌≢◌, ◌≤◌, ◌∷◌, 
 ghost use Rattle.code.specs.IsCode.{IsCode};
 ghost use Rattle.frames.specs.Activations.{Activation, can_replace, left, operands_of, place_of};
 ghost use Rattle.heap.specs.Objects.{new_array, new_object};
-ghost use Rattle.interpreter.specs.Memory.{LeadTakesMemory, MakesNew};
+ghost use Rattle.interpreter.specs.Memory.{LeadTakesMemory, MakesNew, TakesFrame};
 ghost use Rattle.interpreter.specs.Methods.{method_at};
-ghost use Rattle.interpreter.specs.Operands.{IsServed, MakesNoEvent};
+ghost use Rattle.interpreter.specs.Operands.{FindsOperands, MakesNoEvent};
 ghost use Rattle.interpreter.specs.Rows.{Calls, Does as DoesLead, EntersMonitor, ExitsMonitor, HasRoomFor, IsLeftBy, Makes, PutsElementOf, PutsFieldOf, Returns, phase_of as phase_by, taken_at};
 ghost use Rattle.interpreter.specs.Taken.{last_of};
 ghost use Rattle.interpreter.specs.declared.lead.Lead.TheVariants as leads;
@@ -181,6 +181,7 @@ impl Interpreter {
         requires few { count ≤ length (operands_of self.old.frames) }
         requires fits { count ≤ callee.now.locals }
         ensures ok { OnOk result (Calls program.now class method count monitor self.old self.new) }
+        ensures memory { OnErr result (TakesFrame program.now self.old) }
         ensures err { OnErr result (self.new ≡ self.old) }
     {
         if self.frames.len() >= 512 {
@@ -223,7 +224,7 @@ impl Interpreter {
     ) -> Result<(), AllocError>
         requires code { IsCode resolved.now program.now }
         requires at { place_of self.old.frames ≡ Some at }
-        requires served { IsServed program.now self.old.frames lead }
+        requires served { FindsOperands program.now self.old.frames lead }
         requires quiet { MakesNoEvent lead }
         ensures ok { OnOk result ((a : Activation) (below : List Activation) → self.old.frames ≡ a ∷ below → DoesLead program.now a below lead self.old self.new) }
         ensures memory { OnErr result (LeadTakesMemory program.now lead self.old) }

@@ -10,10 +10,10 @@ ghost use Rattle.code.specs.declared.op.Op.TheVariants as op;
 ghost use Rattle.heap.specs.Objects.{new_object};
 ghost use Rattle.interpreter.specs.Fitting.{on_top};
 ghost use Rattle.hierarchy.specs.Subclasses.{IsThrowable};
-ghost use Rattle.interpreter.specs.Memory.{MakesNew, TakesMemory};
+ghost use Rattle.interpreter.specs.Memory.{MakesNew, TakesFrame, TakesMemory};
 ghost use Rattle.interpreter.specs.Methods.{method_at};
 ghost use Rattle.interpreter.specs.Rows.{HasArguments, IsAtOp, Row, WaitsFor, with_frame};
-ghost use Rattle.interpreter.specs.Says.{IsAnswer, IsNoneReady, IsSayable, Says, value_on_top as top_value};
+ghost use Rattle.interpreter.specs.Says.{IsAnswer, NoClassReady, IsSayable, Says, value_on_top as top_value};
 ghost use Rattle.interpreter.specs.TurnRun.{TurnSaysNext};
 ghost use Rattle.interpreter.specs.declared.phase.Phase.TheVariants as phases;
 
@@ -48,13 +48,13 @@ pub(crate) fn is_throwable(program: &Program, class: ClassId) -> bool
     program.is_subtype(class, program.built_in(BuiltIn::Throwable))
 }
 
-/// What is thrown where the procedure for a class completed abruptly, and what leaves a body.
-pub(crate) fn answer(program: &Program, thrown: Option<Thrown>) -> Thrown
-    ensures { IsAnswer program.now thrown result }
+/// What is thrown where the procedure for a class completed abruptly by an error of a class, and what leaves a body.
+pub(crate) fn answer(program: &Program, error: ClassId, thrown: Option<Thrown>) -> Thrown
+    ensures { IsAnswer program.now error thrown result }
 {
     match thrown {
         Some(thrown) => {
-            if is_throwable(program, thrown.class) {
+            if thrown.class == error && is_throwable(program, error) {
                 thrown
             } else {
                 no_class(program)
@@ -99,8 +99,8 @@ impl Interpreter {
         ensures sayable { IsSayable program.now self.old.phase result }
     {
         match thrown {
-            Some(_) => {
-                let left = answer(program, thrown);
+            Some(object) => {
+                let left = answer(program, object.class, thrown);
                 self.thrown = Some(left);
                 Does::Over(Some(left.class))
             }
@@ -176,6 +176,7 @@ impl Interpreter {
         requires at { IsAtOp program.now self.old.frames (op.InvokeStatic class method) }
         requires arguments { HasArguments (method_at program.now class method) (operands_of self.old.frames) }
         ensures row { OnOk result (Row program.now self.old self.new) }
+        ensures memory { OnErr result (TakesFrame program.now self.old) }
         ensures err { OnErr result (self.new ≡ self.old) }
     {
         let (class, method) = (class as usize, method as usize);
@@ -275,7 +276,7 @@ impl Interpreter {
     /// Goes on up to what the innermost body does next, which waits for no class, or up to a monitor that another thread holds.
     fn say_running(&mut self, alloc: Global, program: &Program, resolved: &Code) -> Does
         requires code { IsCode resolved.now program.now }
-        requires ready { IsNoneReady self.old.phase }
+        requires ready { NoClassReady self.old.phase }
         ensures says { TurnSaysNext program.now self.old result self.new }
         ensures sayable { (phase : _) → IsSayable program.now phase result }
     {

@@ -71,9 +71,10 @@ call_static-requires-clause-arguments c = (still_waits c.args.program.now c.args
 
 pub returns-in-Err-clause-memory : goal.returns-in-Err-clause-memory
 returns-in-Err-clause-memory c = makes_takes c.args.program.now c.args.self.now c.args.class c.in-New.wanted c.requires.phase (still_waits c.args.program.now c.args.self.now.frames c.in-Some.op (op.New c.in-New.wanted) c.args.class c.waits_for.result c.waits_for.ensures c.if-not-waits_for.false c.in-New.is).0
-    (subst (IsAtOp c.args.program.now c.args.self.now.frames) c.in-New.is c.in-Some.ensures.some) c.in-Err.ensures.memory
+    (subst (IsAtOp c.args.program.now c.args.self.now.frames) c.in-New.is c.in-Some.ensures.some)
+    (still_waits c.args.program.now c.args.self.now.frames c.in-Some.op (op.New c.in-New.wanted) c.args.class c.waits_for.result c.waits_for.ensures c.if-not-waits_for.false c.in-New.is).1 c.in-Err.ensures.memory
 
 pub returns-in-Err-call_static-clause-memory : goal.returns-in-Err-call_static-clause-memory
 returns-in-Err-call_static-clause-memory c =
     let waits = still_waits c.args.program.now c.args.self.now.frames c.in-Some.op (op.InvokeStatic c.in-InvokeStatic.wanted c.in-InvokeStatic.method) c.args.class c.waits_for.result c.waits_for.ensures c.if-not-waits_for.false c.in-InvokeStatic.is in
-    calls_takes c.args.program.now c.args.self.now c.args.class c.in-InvokeStatic.wanted c.in-InvokeStatic.method c.requires.phase waits.0 (subst (IsAtOp c.args.program.now c.args.self.now.frames) c.in-InvokeStatic.is c.in-Some.ensures.some) waits.1
+    calls_takes c.args.program.now c.args.self.now c.args.class c.in-InvokeStatic.wanted c.in-InvokeStatic.method c.requires.phase waits.0 (subst (IsAtOp c.args.program.now c.args.self.now.frames) c.in-InvokeStatic.is c.in-Some.ensures.some) waits.1 c.in-Err-call_static.ensures.memory

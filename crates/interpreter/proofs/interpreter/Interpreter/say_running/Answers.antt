@@ -3,7 +3,6 @@ use Rattle.bodies.specs.declared.report.Limit.TheVariants.{Memory, Steps}
 use Rattle.interpreter.specs.declared.phase.Phase.TheVariants.{Ready}
 use Rattle.interpreter.proofs.NoneReady.{never_ready}
 use Rattle.interpreter.proofs.Running.{no_rows, then_row_of, then_rows_of}
-use Rattle.interpreter.specs.Memory.{locks_one}
 use Rattle.interpreter.specs.Says.{no_memory, refused, spent}
 use Rattle.interpreter.proofs.TakingTurns.{then_next_in_turn, then_says_in_turn, then_waits_in_turn}
 use Rattle.interpreter.proofs.interpreter.Interpreter.say_running.Goals as goal
@@ -27,7 +26,7 @@ pub returns-in-Ok-false-clause-says : goal.returns-in-Ok-false-clause-says
 returns-in-Ok-false-clause-says c = then_waits_in_turn c.args.program.now c.args.self.now c.loop-self.self c.lock.new.self c.in-Locks.monitor c.in-Locks.of_method c.loop-self.invariant c.in-Locks.is (c.in-Ok-false.ensures.busy c.in-Ok-false.field-0-test)
 
 pub returns-in-Err-clause-says : goal.returns-in-Err-clause-says
-returns-in-Err-clause-says c = rw c.in-Err.ensures.err (then_says_in_turn c.args.program.now c.args.self.now c.loop-self.self c.loop-self.self (Ended Memory) c.loop-self.invariant (no_memory (locks_one c.in-Locks.is)))
+returns-in-Err-clause-says c = rw c.in-Err.ensures.err (then_says_in_turn c.args.program.now c.args.self.now c.loop-self.self c.loop-self.self (Ended Memory) c.loop-self.invariant (no_memory c.in-Err.ensures.memory))
 
 pub loop-self-preserved : goal.loop-self-preserved
 loop-self-preserved c = then_rows_of c.args.program.now c.args.self.now c.loop-self.self c.turn.new.self c.loop-self.invariant (c.in-Ok-None.ensures.rows c.in-Ok-None.field-0-is)
