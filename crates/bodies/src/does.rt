@@ -50,7 +50,8 @@ pub trait Bodies: Drop {
     /// The code of a program, in the form in which it is run.
     type Code;
 
-    /// Whether it is the code of this program. A run asks its caller for it: of an implementation for which nothing is, no run is promised.
+    /// Whether it is the code of this program. A run requires it of its caller; nothing is promised of an implementation for which
+    /// it never holds.
     ghost is_code: { Self.Code → LinkedProgram → Type 0 };
 
     /// What the bodies do, over the states of what runs them.
@@ -90,7 +91,7 @@ pub trait Bodies: Drop {
         ensures { (making program.now).is_ended self.old self.new };
 
     /// Step 11: the class of the error by which the class fails, for a throwable that its initializer threw. An `Err` means out of memory,
-    /// never for an Error, which is left as it is; what a body has done before it has still done.
+    /// and never comes for an Error, which is left as it is. What a body did before is still done.
     fn replace(
         &mut self,
         alloc: Global,

@@ -54,14 +54,14 @@ pub fn handler_at(
 /// What step 11 leaves of the throwable by which an initializer ended (JLS SE 8 12.4.2).
 #[derive(Clone, Copy, PartialEq, Eq)]
 pub enum Replaced {
-    /// It itself.
+    /// The throwable itself.
     Same,
     /// A new ExceptionInInitializerError in its place.
     Wrapped,
 }
 
-/// What step 11 leaves of a throwable of a class: an Error, or an object of a subclass, as it is; of any other a new
-/// ExceptionInInitializerError comes in its place (JLS SE 8 12.4.2). Takes no memory.
+/// Whether step 11 leaves a throwable of this class as it is, because it is an Error, or puts a new ExceptionInInitializerError in its
+/// place (JLS SE 8 12.4.2). Takes no memory.
 pub fn replacement(program: &Program, thrown: ClassId) -> Replaced
     ensures { Replaces program.now thrown result }
 {

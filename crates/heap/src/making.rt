@@ -106,8 +106,8 @@ impl Heap {
     }
 
     /// What the machine throws for a built-in throwable: the ready NoClassDefFoundError for that class, else a new object, or the
-    /// ready OutOfMemoryError where the heap is full. Room for the error that step 11 of JLS SE 8 12.4.2 makes in its place is kept
-    /// too.
+    /// ready OutOfMemoryError where the heap is full. Where a new object is made, room for the error that step 11 of JLS SE 8 12.4.2 makes
+    /// in its place is kept too.
     ///
     /// # Errors
     ///
@@ -139,7 +139,8 @@ impl Heap {
     ///
     /// # Errors
     ///
-    /// Out of memory where a new object is made, which changes nothing. Directly after [`Heap::throwable`], which keeps room, it doesn't come; no clause says so.
+    /// Out of memory where a new object is made, which changes nothing. Directly after a
+    /// [`Heap::throwable`] that made an object it doesn't come; no clause says so.
     pub fn initializer_error(&mut self, program: &Program) -> Result<Thrown, AllocError>
         ensures thrown { IfOk result (λ t. t ≡ thrown_by program.now ExceptionInInitializerError self.old) }
         ensures made { OnOk result (self.new ≡ with_thrown program.now ExceptionInInitializerError self.old) }

@@ -30,8 +30,8 @@ impl Interpreter {
     }
 
     /// Whether what comes after the instructions that the innermost frame did by itself asks nothing of the heap and the monitors: an
-    /// active use, a jump, or a return from a method that took no monitor comes to the same whatever was made by others. What was made by
-    /// others fits no type here, so for an instruction that takes it the answer is false.
+    /// active use, a jump, or a return from a method that took no monitor comes to the same whatever was made by others. Here an object
+    /// that others made fits only types that every reference fits; where a type asks more the answer is false.
     pub(crate) fn goes_on_alone(
         &self,
         program: &Program,
