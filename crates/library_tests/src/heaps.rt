@@ -56,7 +56,7 @@ const FITTINGS: &[Fitting] = &[
         false,
     ),
     (0, Element::Any, 0, false, true),
-    (0, Element::Any, 6, false, false),
+    (0, Element::Any, 6, false, true),
     (1, Element::Base(BaseType::Byte), 4, true, true),
     (0, Element::Class(BuiltIn::Object as u16), 4, true, true),
     (0, Element::Class(BuiltIn::String as u16), 4, false, false),
