@@ -1,5 +1,5 @@
 pub mod Making
-pub mod Lending
+pub mod Sharing
 pub mod Doing
 pub mod Runs
 pub mod Writes

@@ -12,7 +12,7 @@ use Rattle.init_core.specs.declared.frames.Outcome.TheVariants.{Normal, Abrupt, 
 use Rattle.init_core.specs.ProcedureWord.{GoesOn, Maker, completed}
 use Rattle.bodies.specs.declared.report.Limit.{Limit}
 use Rattle.bodies.specs.declared.does.Does.{Does}
-use Rattle.bodies.specs.declared.does.Does.TheVariants.{Asks, Gets, Puts, Prints, Waits, Over}
+use Rattle.bodies.specs.declared.does.Does.TheVariants.{Asks, Gets, Puts, Prints, Over}
 
 -- What bodies do, over the states of what runs those of one thread.
 pub record Making (S : Type 0) : Type 1 where
@@ -64,26 +64,3 @@ maker_of {S} p M = record {
   stops = λ s last r z. Stops M s last r z;
   replaces = M.replaces;
 }
-
--- Bodies that are empty: each returns at once, whatever class it is of.
-abbrev pub empty_bodies : {S : Type 0} → Making S
-empty_bodies = record {
-  starts = λ s c z. s ≡ z;
-  enters = λ s c z. s ≡ z;
-  does = λ s last d z. (s ≡ z) × (d ≡ Over None);
-  waits = λ s. ⊥;
-  gets = λ s v z. s ≡ z;
-  is_ended = λ s z. s ≡ z;
-  replaces = λ s thrown e z. s ≡ z;
-  ends = λ s z. s ≡ z;
-  limits = λ l s. ⊥;
-}
-
--- an empty body comes to no limit
-pub comes_to_no_limit : {S : Type 0} (p : LinkedProgram) (l : Limit) (s z : S) → ⊥ → s ≡ z → ⊥
-comes_to_no_limit p l s z h same = h
-
--- an empty body never waits
-pub waits_for_nothing : {S : Type 0} (p : LinkedProgram) (s u z : S) (last : Option Completed) (d : Does) →
-    (s ≡ u) × (Waits ≡ Over None) → (u ≡ z) × (d ≡ Over None) → (s ≡ z) × (d ≡ Over None)
-waits_for_nothing p s u z last d waits does = absurd (let q : Waits ≡ Over None = waits.1 in cc)

@@ -1,7 +1,9 @@
 //! Bodies that are empty.
 
-use crate::does::{Bodies, Does};
-use crate::lends::Lends;
+ghost use Rattle.std.specs.Prelude.{◌≡◌, Ok};
+ghost use Rattle.bodies.specs.declared.does.Touched.TheVariants.{Held};
+
+use crate::does::{Bodies, Does, Touched};
 use hierarchy::{BuiltIn, ClassId, Program, Value};
 use init_core::Completed;
 use std::alloc::{AllocError, Global};
@@ -13,7 +15,9 @@ pub struct NoCode;
 impl Bodies for NoCode {
     type Code = ();
 
-    ghost use Rattle.bodies.specs.Making.{comes_to_no_limit, empty_bodies, waits_for_nothing};
+    type Shared = ();
+
+    ghost use Rattle.bodies.specs.Sharing.{comes_to_no_limit, empty_bodies, waits_for_nothing};
 
     ghost is_code = { λ code p. Unit {0} };
 
@@ -33,6 +37,25 @@ impl Bodies for NoCode {
         Does::Over(None)
     }
 
+    /// Never called in a run, since an empty body comes to no touch.
+    fn touch(
+        &mut self,
+        _alloc: Global,
+        _program: &Program,
+        _code: &(),
+        _shared: &mut (),
+    ) -> Result<Touched, AllocError>
+        ensures held { result ≡ Ok Held }
+        ensures still { self.new ≡ self.old }
+        ensures shared { _shared.new ≡ _shared.old }
+    {
+        Ok(Touched::Held)
+    }
+
+    fn waits(&self, _program: &Program, _shared: &()) -> bool {
+        false
+    }
+
     fn get(&mut self, _program: &Program, _value: Value) {}
 
     fn leave(&mut self, _program: &Program) {}
@@ -41,28 +64,15 @@ impl Bodies for NoCode {
         &mut self,
         _alloc: Global,
         program: &Program,
+        _shared: &mut (),
         _thrown: ClassId,
     ) -> Result<ClassId, AllocError> {
         Ok(program.built_in(BuiltIn::ExceptionInInitializerError))
     }
 
+    fn end(&mut self, _program: &Program, _shared: &mut ()) {}
+
     ghost waits_on = { waits_for_nothing };
 
     ghost limits_stay = { comes_to_no_limit };
-}
-
-impl Lends<()> for NoCode {
-    ghost use Rattle.bodies.specs.Lending.{nothing_shared};
-
-    ghost lending = { nothing_shared };
-
-    fn exchange(&mut self, _shared: &mut ()) {}
-
-    fn waits(&self, _program: &Program, _shared: &()) -> bool {
-        false
-    }
-
-    fn end(&mut self, _program: &Program) {}
-
-    ghost limits_lent = { λ p l s shared h. h };
 }

@@ -1,5 +1,5 @@
 -- What a request that is cut short leaves, put together from its parts.
-use Rattle.std.proofs.Common.{◌≡◌, ◌≤◌, ◌∙◌, ◌⊎◌, ℕ, Bool, true, false, List, [], ◌++◌, Option, None, Result, Ok, Err, append-nil, arith, if◌then◌else◌, inl, inr, refl, subst, sym}
+use Rattle.std.proofs.Common.{◌≡◌, ◌≤◌, ℕ, Bool, true, false, List, [], ◌++◌, Option, None, Result, Ok, Err, arith, if◌then◌else◌, inl, refl, subst, sym}
 use Rattle.std.specs.Prelude.{IfErr, OnErr}
 use Rattle.std.specs.List.{list_any}
 use Rattle.clap.specs.Words.{Text}
@@ -7,22 +7,21 @@ use Rattle.hierarchy.specs.LinkedProgram.{LinkedProgram}
 use Rattle.bodies.specs.declared.report.Report.{Report}
 use Rattle.judge.specs.declared.verdict.Verdict.{Verdict}
 use Rattle.judge.specs.declared.verdict.Verdict.TheVariants.{IllegalAt, Legal}
-use Rattle.command_line.specs.CommandLine.{Options, Request, check, explain, explains_in, needs, run, unfit}
+use Rattle.command_line.specs.CommandLine.{Options, Request, check, explain, needs, run, unfit}
 use Rattle.cli.specs.declared.fault.Fault.{Fault}
 use Rattle.cli.specs.declared.fault.Fault.TheVariants.{Memory, Output}
 use Rattle.cli.specs.Checking.{TellsVerdict, status_by, verdict_line}
-use Rattle.cli.specs.CutShort.{IsCutShort, IsLineCut, IsReportCut, IsStopped, IsTextCut, IsTraceCut, in_file, in_lines, in_output, in_output_trace, in_text, in_trace, no_memory, of_refused, unmade, untold, unwritten}
+use Rattle.cli.specs.CutShort.{IsCutShort, IsLineCut, IsReportCut, IsStopped, IsTextCut, IsTraceCut, in_file, in_lines, in_output, in_output_trace, in_text, in_trace, no_memory, unmade, unwritten}
 use Rattle.cli.specs.Files.{Files, KeepsAllBut}
 use Rattle.cli.specs.Outcomes.{is_abrupt}
 use Rattle.cli.specs.Refusals.{IsFaultOf}
-use Rattle.cli.specs.FaultText.{fault_line}
-use Rattle.cli.specs.Serving.{IsServed, IsUntouched, Surroundings, around, trace_after}
-use Rattle.cli.specs.Sinks.{AppendsFront, AppendsShort}
+use Rattle.cli.specs.Serving.{IsServed, Surroundings, around, trace_after}
+use Rattle.cli.specs.Sinks.{AppendsFront}
 use Rattle.cli.specs.Status.{status_of}
 use Rattle.cli.proofs.KnownFiles.{keeps_all, keeps_then}
-use Rattle.cli.proofs.Emitted.{front_of_first, front_then, whole_front}
+use Rattle.cli.proofs.Emitted.{front_of_first, front_then}
 use Rattle.cli.proofs.KnownOutput.{appends_kept, keeps_same}
-use Rattle.std.specs.Io.KnownBytes.{Appends, Keeps}
+use Rattle.std.specs.Io.KnownBytes.{Appends}
 
 -- a write of a text failed
 pub text_cut : (failed f : Fault) (before after : Option (List ℕ)) (text : List ℕ) → f ≡ failed → AppendsFront before after text → IsTextCut failed before after text f

@@ -8,10 +8,9 @@ use Rattle.hierarchy.specs.LinkedProgram.{LinkedProgram, class_named}
 use Rattle.bodies.specs.declared.report.Limits.{Limits}
 use Rattle.bodies.specs.declared.report.Report.{Report}
 use Rattle.interpreter.specs.declared.interpreter.Interpreter.{Interpreter}
-use Rattle.interpreter.specs.CodeRun.{code_bodies, interpreter_at_start}
-use Rattle.interpreter.specs.SharedRun.{shared_bodies}
-use Rattle.interpreter.specs.TurnRun.{objects_at_start, objects_lent, turn_bodies}
-use Rattle.bodies.specs.Lending.{nothing_shared}
+use Rattle.interpreter.specs.CodeRun.{alone_bodies, interpreter_at_start}
+use Rattle.interpreter.specs.Touching.{code_bodies, objects_at_start}
+use Rattle.bodies.specs.Sharing.{free_bodies}
 use Rattle.bodies.specs.Runs.{IsRunOf}
 use Rattle.replayer.specs.OrderedRun.{IsOrderedRunOf}
 use Rattle.cli.specs.declared.fault.Fault.{Fault}
@@ -64,13 +63,14 @@ starts_of mains limits = starts_below (length mains) limits.steps
 -- the report is of a run in this order: of one class, whose thread is alone, or of several, whose threads share what is made and who
 -- holds which monitor, where nothing is made at first and nobody holds any
 abbrev pub IsOrderedRunBy : Bool → LinkedProgram → List Interpreter → List ClassId → List ℕ → Report → Type 0
-IsOrderedRunBy true p starts classes order r = IsOrderedRunOf p nothing_shared (code_bodies p) tt starts classes order r
-IsOrderedRunBy false p starts classes order r = IsOrderedRunOf p objects_lent (turn_bodies p) objects_at_start starts classes order r
+IsOrderedRunBy true p starts classes order r = IsOrderedRunOf p (alone_bodies p) tt starts classes order r
+IsOrderedRunBy false p starts classes order r = IsOrderedRunOf p (code_bodies p) objects_at_start starts classes order r
 
--- the report is of a run in any order: of one class, whose thread is alone, so that it is the run in order, or of several, which share one heap
+-- the report is of a run in any order: of one class, whose thread is alone, so that it is the run in order, or of several, whose touches may each
+-- meet any heap and any monitors
 abbrev pub IsRunBy : Bool → LinkedProgram → List Interpreter → List ClassId → Limits → Report → Type 0
-IsRunBy true p starts classes limits r = IsRunOf p (code_bodies p) starts classes limits r × IsOrderedRunBy true p starts classes [] r
-IsRunBy false p starts classes limits r = IsRunOf p (shared_bodies p) starts classes limits r
+IsRunBy true p starts classes limits r = IsRunOf p (free_bodies (alone_bodies p)) starts classes limits r × IsOrderedRunBy true p starts classes [] r
+IsRunBy false p starts classes limits r = IsRunOf p (free_bodies (code_bodies p)) starts classes limits r
 
 -- the report is of a run of the code of these classes, each on a thread of its own: in this order, or, where there is none, in any
 abbrev pub IsRunOfMains : LinkedProgram → List ClassId → Option (List ℕ) → Limits → Report → Type 0

@@ -7,10 +7,9 @@ ghost use Rattle.clap.specs.Walk.{texts as texts_of};
 ghost use Rattle.code.specs.IsCode.{IsCode};
 ghost use Rattle.hierarchy.specs.FirstFault.{LinksAs};
 ghost use Rattle.init_core.specs.ProcedureWord.{IsOfFiles};
-ghost use Rattle.interpreter.specs.CodeRun.{code_bodies, interpreter_at_start};
-ghost use Rattle.interpreter.specs.SharedRun.{shared_bodies};
-ghost use Rattle.interpreter.specs.TurnRun.{objects_at_start, objects_lent, turn_bodies};
-ghost use Rattle.bodies.specs.Lending.{nothing_shared};
+ghost use Rattle.interpreter.specs.CodeRun.{alone_bodies, interpreter_at_start};
+ghost use Rattle.interpreter.specs.Touching.{code_bodies, objects_at_start};
+ghost use Rattle.bodies.specs.Sharing.{free_bodies};
 ghost use Rattle.bodies.specs.Runs.{AreMains, IsRunOf};
 ghost use Rattle.replayer.specs.OrderedRun.{IsOrderedRunOf};
 ghost use Rattle.cli.specs.declared.fault.Fault.TheVariants.{Mains, Memory, Threads};
@@ -30,7 +29,7 @@ use code::{Code, resolve};
 use command_line::Run;
 use guest_threads::{NoGate, RunFault, run_threads};
 use hierarchy::{ClassId, Edition, LinkFaultKind, Program, link_as};
-use interpreter::{Interpreter, Objects, SharedInterpreter, SharedObjects, TurnInterpreter};
+use interpreter::{AloneInterpreter, Interpreter, Objects};
 use jasmin_text::ClassText;
 use replayer::run_ordered;
 use std::alloc::{AllocError, Global};
@@ -152,11 +151,11 @@ fn run_alone<'a>(
     requires code { IsCode code.now program.now }
     requires file { IsOfFiles program.now main }
     requires order { AllByRecursion (λ t. t < 1) order.now }
-    ensures ran { IfOk result (IsOrderedRunOf program.now nothing_shared (code_bodies program.now) tt (interpreter_at_start 0 limits.steps ∷ []) (main ∷ []) order.now) }
+    ensures ran { IfOk result (IsOrderedRunOf program.now (alone_bodies program.now) tt (interpreter_at_start 0 limits.steps ∷ []) (main ∷ []) order.now) }
     ensures refused { IfErr result (λ fault. fault ≡ Memory) }
 {
     let mut bodies = Vec::new(alloc);
-    bodies.push(Interpreter::new(alloc, 0, limits.steps))?;
+    bodies.push(AloneInterpreter::new(alloc, 0, limits.steps))?;
     let report = run_ordered(alloc, program, code, &[main], order, bodies, ())?;
     Ok(report)
 }
@@ -177,16 +176,8 @@ fn run_one<'a>(
     run_alone(alloc, program, code, main, &[], limits)
 }
 
-/// What runs the code of so many threads, which share one heap. Where it `sleeps`, a thread that waits for a monitor does so until
-/// one is left, and else it is asked again.
-fn interpreters<'s, R: Wait>(
-    rt: &'s R,
-    alloc: Global,
-    shared: &'s SharedObjects,
-    count: usize,
-    limits: Limits,
-    sleeps: bool,
-) -> Result<Vec<SharedInterpreter<'s, R>>, AllocError>
+/// What runs the code of so many threads, which share one heap.
+fn interpreters(alloc: Global, count: usize, limits: Limits) -> Result<Vec<Interpreter>, AllocError>
     requires { count ≤ 16 }
     ensures starts { IfOk result (λ made. made.items ≡ starts_below count limits.steps) }
     ensures count { IfOk result (λ made. vec_len made ≡ count) }
@@ -194,7 +185,7 @@ fn interpreters<'s, R: Wait>(
     let mut made = Vec::new(alloc);
     'threads: while made.len() < count {
         let thread = made.len() as u8;
-        made.push(SharedInterpreter::new(rt, alloc, shared, thread, limits.steps, sleeps))?;
+        made.push(Interpreter::new(alloc, thread, limits.steps))?;
     }
     Ok(made)
 }
@@ -210,13 +201,14 @@ fn run_several<'a, R: Threads + Wait + Sync>(
 ) -> Result<Report, Fault<'a>>
     requires code { IsCode code.now program.now }
     requires mains { AreMains program.now mains.now }
-    ensures ran { IfOk result (IsRunOf program.now (shared_bodies program.now) (starts_of mains.now limits) mains.now limits) }
+    ensures ran { IfOk result (IsRunOf program.now (free_bodies (code_bodies program.now)) (starts_of mains.now limits) mains.now limits) }
     ensures refused { IfErr result (λ fault. (fault ≡ Memory) ⊎ (fault ≡ Threads)) }
 {
-    let shared = SharedObjects::new(alloc);
-    let sleeps = limits.patience == 0;
-    let bodies = interpreters(rt, alloc, &shared, mains.len(), limits, sleeps)?;
-    match run_threads(rt, alloc, program, code, mains, bodies, limits, &NoGate) {
+    let bodies = interpreters(alloc, mains.len(), limits)?;
+    let objects = Objects::new(alloc);
+    match run_threads(
+        rt, alloc, program, code, mains, bodies, objects, limits, &NoGate,
+    ) {
         Ok(report) => Ok(report),
         Err(RunFault::NoMemory) => Err(Fault::Memory),
         Err(RunFault::NoThread) => Err(Fault::Threads),
@@ -243,24 +235,6 @@ fn run_unordered<'a, R: Threads + Wait + Sync>(
     run_several(rt, alloc, program, code, mains, limits)
 }
 
-/// What runs the code of so many threads, of which one goes on at a time.
-fn turn_interpreters(
-    alloc: Global,
-    count: usize,
-    limits: Limits,
-) -> Result<Vec<TurnInterpreter>, AllocError>
-    requires { count ≤ 16 }
-    ensures starts { IfOk result (λ made. made.items ≡ starts_below count limits.steps) }
-    ensures count { IfOk result (λ made. vec_len made ≡ count) }
-{
-    let mut made = Vec::new(alloc);
-    'threads: while made.len() < count {
-        let thread = made.len() as u8;
-        made.push(TurnInterpreter::new(alloc, thread, limits.steps))?;
-    }
-    Ok(made)
-}
-
 /// Runs several main classes in this order, on the calling thread.
 fn run_several_in_order<'a>(
     alloc: Global,
@@ -273,10 +247,10 @@ fn run_several_in_order<'a>(
     requires code { IsCode code.now program.now }
     requires mains { AreMains program.now mains.now }
     requires order { AllByRecursion (λ t. t < length mains.now) order.now }
-    ensures ran { IfOk result (IsOrderedRunOf program.now objects_lent (turn_bodies program.now) objects_at_start (starts_of mains.now limits) mains.now order.now) }
+    ensures ran { IfOk result (IsOrderedRunOf program.now (code_bodies program.now) objects_at_start (starts_of mains.now limits) mains.now order.now) }
     ensures refused { IfErr result (λ fault. fault ≡ Memory) }
 {
-    let bodies = turn_interpreters(alloc, mains.len(), limits)?;
+    let bodies = interpreters(alloc, mains.len(), limits)?;
     let objects = Objects::new(alloc);
     let report = run_ordered(alloc, program, code, mains, order, bodies, objects)?;
     Ok(report)

@@ -64,11 +64,6 @@ last_of Q (x ∷ xs) y a = last_of Q xs y a.1
 pub range_of_last : (c : ClassId) (before : List Event) (e : Event) (now : List Event) → now ≡ before ++ e ∷ [] → AllByRecursion (λ x. IsEventOf c x) now → IsInRange e.kind
 range_of_last c before e now is a = (last_of (λ x. IsEventOf c x) before e (subst (λ (es : List Event). AllByRecursion (λ x. IsEventOf c x) es) is a)).kind
 
--- a body that has waited does what it may do at once
-pub data HasWaited {S : Type 0} (M : Making S) (last : Option Completed) (from : S) : S → Type 0 where
-  not_yet : HasWaited M last from from
-  so_far : {now : S} → M.does from last does.Waits now → HasWaited M last from now
-
 -- where the machine has ended a body at a limit, and then ends the next, it has ended that one at the limit too
 abbrev pub LimitsStay : {S : Type 0} → Making S → Type 0
 LimitsStay {S} M = (l : Limit) (s z : S) → M.limits l s → M.is_ended s z → M.limits l z
@@ -296,10 +291,6 @@ module _ {S : Type 0} (M : Making S) (k : TaskFacts S) where
   pub has_come_on : (w : Work S) (d : Does) → IsDoing M k d w → HasComeTo M k w
   has_come_on w d x = record { from = x.from; working = x.working; body = x.body; come = comes d x.goes_on x.does }
 
-  -- or there, where it has done since nothing but what leaves that done
-  pub has_come_still : (w : Work S) (d : Does) (z : S) → ((s : S) (last : Option Completed) (e : Does) → M.does s last e w.bodies → M.does s last e z) → IsDoing M k d w → HasComeTo M k (record w { bodies = z })
-  has_come_still w d z still x = record { from = x.from; working = x.working; body = record { requests = x.body.requests; main = x.body.main }; come = comes d x.goes_on (still x.from w.procedure.last d x.does) }
-
   -- the machine ended an active use in the body
   pub was_ended : (w : Work S) (e : ClassId) → IsInBody w → ending_error w.procedure ≡ Some e → FitsBody k.program (given_up w.procedure.last) (Ended e)
   was_ended w e body q =
@@ -334,12 +325,8 @@ module _ {S : Type 0} (M : Making S) (k : TaskFacts S) where
   pub class_body : (w : Work S) → is_running w.procedure.frames ≡ true → IsInBody w
   class_body w q = let r = running_requests w.procedure.frames q in record { requests = r.0; main = λ e. absurd (r.1 e) }
 
-  -- what it does after it has waited
-  pub asked_next : (w : Work S) (d : Does) (y z : S) → ((s u x : S) → M.does s w.procedure.last does.Waits u → M.does u w.procedure.last d x → M.does s w.procedure.last d x) → HasWaited M w.procedure.last w.bodies y → M.does y w.procedure.last d z → M.does w.bodies w.procedure.last d z
-  asked_next w d y z on not_yet does = does
-  asked_next w d y z on (so_far waits) does = on w.bodies y z waits does
-
-  pub is_doing : (w : Work S) (d : Does) (z : S) → Working M k w → IsInBody w → GoesOn w.procedure.last → M.does w.bodies w.procedure.last d z → MayDo k.program M w.procedure.last d z → IsDoing M k d (record w { bodies = z })
+  -- what it does next
+  pub is_doing : (w : Work S) (d : Does) (z : S) → Working M k w → IsInBody w → GoesOn w.procedure.last → M.does w.bodies w.procedure.last d z → MayDo k.program M.limits w.procedure.last d z → IsDoing M k d (record w { bodies = z })
   is_doing w d z o body on does fits = record { from = w.bodies; working = o; body = record { requests = body.requests; main = body.main }; goes_on = on; does = does; fits = fits }
 
   pub body_on : (w v : Work S) → IsRoomier w v → IsInBody w → IsInBody v
@@ -347,17 +334,3 @@ module _ {S : Type 0} (M : Making S) (k : TaskFacts S) where
     requests = subst (λ (s : Standing). MayRequest s.frames) (sym r.procedure) body.requests;
     main = λ e. r.in_main ∙ body.main (ap (λ (s : Standing). s.frames) (sym r.procedure) ∙ e);
   }
-
-  -- what it does next after it has waited so
-  pub next_is_doing : (w v : Work S) (last : Option Completed) (d : Does) (z : S) → ((s u x : S) → M.does s w.procedure.last does.Waits u → M.does u w.procedure.last d x → M.does s w.procedure.last d x) → HasWaited M w.procedure.last w.bodies v.bodies → v ≡ record w { bodies = v.bodies } → last ≡ w.procedure.last →
-      M.does v.bodies last d z → MayDo k.program M last d z → Working M k w → IsInBody w → GoesOn w.procedure.last → IsDoing M k d (record v { bodies = z })
-  next_is_doing w v last d z on waited same is made fits o body goes =
-      subst (λ (x : Work S). IsDoing M k d x) (sym (ap (λ (x : Work S). let y : Work S = record x { bodies = z } in y) same))
-      (is_doing w d z o body goes (asked_next w d v.bodies z on waited (subst (λ (l : Option Completed). M.does v.bodies l d z) is made)) (subst (λ (l : Option Completed). MayDo k.program M l d z) is fits))
-
-  pub still_waits : (w v : Work S) (last : Option Completed) (z : S) → ((s u x : S) → M.does s w.procedure.last does.Waits u → M.does u w.procedure.last does.Waits x → M.does s w.procedure.last does.Waits x) → HasWaited M w.procedure.last w.bodies v.bodies → v ≡ record w { bodies = v.bodies } → last ≡ w.procedure.last →
-      M.does v.bodies last does.Waits z → HasWaited M w.procedure.last w.bodies z × (let x : Work S = record v { bodies = z } in let y : Work S = record w { bodies = z } in x ≡ y)
-  still_waits w v last z on waited same is made = (
-    so_far (asked_next w does.Waits v.bodies z on waited (subst (λ (l : Option Completed). M.does v.bodies l does.Waits z) is made)),
-    ap (λ (x : Work S). let y : Work S = record x { bodies = z } in y) same,
-  )

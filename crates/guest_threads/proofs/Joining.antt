@@ -18,7 +18,8 @@ use Rattle.init_lock.specs.Rule.{element_at}
 use Rattle.init_lock.specs.Known.{PassFacts, TableFacts, Written, IsNewPass, IsAway}
 use Rattle.init_lock.specs.Closing.{numbers, written, HasJournals, FollowsAll}
 use Rattle.bodies.specs.declared.report.ThreadOutcome.{ThreadOutcome}
-use Rattle.bodies.specs.Making.{Making, maker_of}
+use Rattle.bodies.specs.Making.{maker_of}
+use Rattle.bodies.specs.Sharing.{Sharing, free_bodies}
 use Rattle.guest_threads.specs.declared.guarded.Guarded.{Guarded}
 use Rattle.guest_threads.specs.declared.work.Worked.{Worked}
 use Rattle.guest_threads.specs.Drawing.{MayDraw, Follows, merged}
@@ -176,7 +177,7 @@ pub jobs_numbers : {S : Type 0} (js : List (Job S)) (xs : List (PassFacts Guarde
 jobs_numbers {S} js xs ns are numbers = sym (map_map (λ (j : Job S). j.pass) (λ (x : PassFacts Guarded Event). x.number) js) ∙ (ap (map (λ (x : PassFacts Guarded Event). x.number)) are ∙ numbers)
 
 -- what the threads of jobs promised is what all of them did
-pub are_done : {S : Type 0} (making : LinkedProgram → Making S) (k : PlanFacts) (js : List (Job S)) (ws : List Worked) → map (λ j. j.pass.number) js ≡ numbers 0 (length k.mains) → Pairs (Did making k) js ws → AreDone making k (map (λ j. j.bodies) js) ws
+pub are_done : {S H : Type 0} (making : LinkedProgram → Sharing S H) (k : PlanFacts) (js : List (Job S)) (ws : List Worked) → map (λ j. j.pass.number) js ≡ numbers 0 (length k.mains) → Pairs (Did making k) js ws → AreDone making k (map (λ j. j.bodies) js) ws
 are_done {S} making k js ws new_numbers did =
     let numbered_so : map (λ (w : Worked). w.pass.number) ws ≡ numbers 0 (length k.mains) = same_numbers (λ (j : Job S). j.pass.number) (λ (w : Worked). w.pass.number) (Did making k) (λ j r y. y.number) js ws did ∙ new_numbers in
     record {
@@ -187,7 +188,7 @@ are_done {S} making k js ws new_numbers did =
           let j = get_unmap (λ (j : Job S). j.bodies) js t s a in
           let d : Did making k j.0 w = pairs_at (Did making k) js ws t j.0 w did j.1 b in
           let is : w.pass.number ≡ t = number_at (λ (w : Worked). w.pass.number) (length k.mains) t ws w numbered_so (slice_get_within k.mains t m q) b in
-          subst (λ (z : S). IsDone k.program (making k.program) z k.table k.limits m w) j.2 (d.done m (ap (slice_get k.mains) is ∙ q));
+          subst (λ (z : S). IsDone k.program (free_bodies (making k.program)) z k.table k.limits m w) j.2 (d.done m (ap (slice_get k.mains) is ∙ q));
     }
 
 all_both : {A : Type 0} (P Q : A → Type 0) → ((x : A) → P x → Q x) → (xs : List A) → AllByRecursion P xs → AllByRecursion Q xs
@@ -195,7 +196,7 @@ all_both P Q f [] a = tt
 all_both P Q f (x ∷ xs) a = (f x a.0, all_both P Q f xs a.1)
 
 -- all passes came back
-pub are_back : {S : Type 0} (making : LinkedProgram → Making S) (k : PlanFacts) (starts : List S) (ws : List Worked) → IsPlan k → AreDone making k starts ws → AreBack k.table ws
+pub are_back : {S H : Type 0} (making : LinkedProgram → Sharing S H) (k : PlanFacts) (starts : List S) (ws : List Worked) → IsPlan k → AreDone making k starts ws → AreBack k.table ws
 are_back making k starts ws plan d = record {
   numbered = d.numbered ∙ ap (numbers 0) (sym plan.threads);
   of_table = all_both (λ (w : Worked). Works k.program k.table w.pass.number w.pass) (λ (w : Worked). w.pass.table ≡ k.table.id) (λ w y. y.of_table) ws d.works;
@@ -212,7 +213,7 @@ module _ (table : TableFacts) (ws : List Worked) (back : AreBack table ws) where
   pub pass_away : AllByRecursion (λ (x : PassFacts Guarded Event). IsAway x.places) (map (λ (w : Worked). w.pass) ws)
   pass_away = all_map (λ (w : Worked). w.pass) (λ (x : PassFacts Guarded Event). IsAway x.places) ws back.away
 
-module _ {S : Type 0} (making : LinkedProgram → Making S) (k : PlanFacts) (starts : List S) (ds : List Worked) (all : AreDone making k starts ds) where
+module _ {S H : Type 0} (making : LinkedProgram → Sharing S H) (k : PlanFacts) (starts : List S) (ds : List Worked) (all : AreDone making k starts ds) where
   mains_numbers : map (λ (x : PassFacts Guarded Event). x.number) (map (λ (w : Worked). w.pass) ds) ≡ numbers 0 (length k.mains)
   mains_numbers = map_map (λ (w : Worked). w.pass) (λ (x : PassFacts Guarded Event). x.number) ds ∙ all.numbered
 
@@ -230,7 +231,7 @@ module _ {S : Type 0} (making : LinkedProgram → Making S) (k : PlanFacts) (sta
     record ThreadDone (t : ℕ) (m : ClassId) (start : S) : Type 0 where
       outcome : ThreadOutcome
       at : slice_get (map (λ (w : Worked). w.outcome) ds) t ≡ Some outcome
-      run : IsThreadRun k.program (making k.program) start k.limits t m (drawn (journal_of t 0 log)) outcome
+      run : IsThreadRun k.program (free_bodies (making k.program)) start k.limits t m (drawn (journal_of t 0 log)) outcome
       events : AllByRecursion (λ e. IsProgramEvent k.program k.table.threads e) (drawn (journal_of t 0 log))
 
     thread_done : (t : ℕ) (m : ClassId) (start : S) → slice_get k.mains t ≡ Some m → slice_get starts t ≡ Some start → ThreadDone t m start
@@ -238,13 +239,13 @@ module _ {S : Type 0} (making : LinkedProgram → Making S) (k : PlanFacts) (sta
         let x = numbered (λ (w : Worked). w.pass.number) 0 (length k.mains) t ds all.numbered (slice_get_within k.mains t m q) in
         let w : Worked = x.0 in
         let is : w.pass.number ≡ t = let z : 0 + t ≡ t = omega arith in x.2 ∙ z in
-        let done : IsDone k.program (making k.program) start k.table k.limits m w = all.done t m start w q at x.1 in
+        let done : IsDone k.program (free_bodies (making k.program)) start k.table k.limits m w = all.done t m start w q at x.1 in
         let journal : w.pass.journal ≡ journal_of w.pass.number 0 log = all_at (λ (y : PassFacts Guarded Event). y.journal ≡ journal_of y.number 0 log) (map (λ (v : Worked). v.pass) ds) t w.pass journals_of (get_map (λ (v : Worked). v.pass) ds t w x.1) in
         let own : drawn w.pass.journal ≡ drawn (journal_of t 0 log) = ap drawn journal ∙ ap (λ (b : ℕ). drawn (journal_of b 0 log)) is in
         record {
           outcome = w.outcome;
           at = get_map (λ (v : Worked). v.outcome) ds t w x.1;
-          run = subst (λ (b : ℕ). IsThreadRun k.program (making k.program) start k.limits b m (drawn (journal_of t 0 log)) w.outcome) is (subst (λ (es : List Event). IsThreadRun k.program (making k.program) start k.limits w.pass.number m es w.outcome) own done.run);
+          run = subst (λ (b : ℕ). IsThreadRun k.program (free_bodies (making k.program)) start k.limits b m (drawn (journal_of t 0 log)) w.outcome) is (subst (λ (es : List Event). IsThreadRun k.program (free_bodies (making k.program)) start k.limits w.pass.number m es w.outcome) own done.run);
           events = subst (λ (es : List Event). AllByRecursion (λ e. IsProgramEvent k.program k.table.threads e) es) own done.events;
         }
 
@@ -252,10 +253,10 @@ module _ {S : Type 0} (making : LinkedProgram → Making S) (k : PlanFacts) (sta
     start_of t m q = one_at starts t (let z = all.count in let l = slice_get_within k.mains t m q in omega arith)
 
     pub words : HaveWords k.program k.mains log
-    words t m q = let at = start_of t m q in forget_thread k.program t (maker_of k.program (making k.program)) (thread_done t m at.0 q at.1).run.word
+    words t m q = let at = start_of t m q in forget_thread k.program t (maker_of k.program (free_bodies (making k.program))) (thread_done t m at.0 q at.1).run.word
 
-    pub outcomes_are : (places : ℕ) → AllAllowed (length k.mains) places MayDraw log → AreOutcomes k.program (making k.program) starts k.mains k.limits (merged log) (map (λ (w : Worked). w.outcome) ds)
-    outcomes_are places f t m start q at = let d = thread_done t m start q at in (d.outcome, d.at, subst (λ (xs : List Event). IsThreadRun k.program (making k.program) start k.limits t m xs d.outcome) (sym (journal_is (length k.mains) places t 0 log f)) d.run)
+    pub outcomes_are : (places : ℕ) → AllAllowed (length k.mains) places MayDraw log → AreOutcomes k.program (free_bodies (making k.program)) starts k.mains k.limits (merged log) (map (λ (w : Worked). w.outcome) ds)
+    outcomes_are places f t m start q at = let d = thread_done t m start q at in (d.outcome, d.at, subst (λ (xs : List Event). IsThreadRun k.program (free_bodies (making k.program)) start k.limits t m xs d.outcome) (sym (journal_is (length k.mains) places t 0 log f)) d.run)
 
     -- a fact about what each thread did, and about nothing
     of_each : (places : ℕ) → AllAllowed (length k.mains) places MayDraw log → (Q : List Event → Type 0) → Q [] → ((t : ℕ) (m : ClassId) → slice_get k.mains t ≡ Some m → Q (drawn (journal_of t 0 log))) → (t : ℕ) → Q (of_thread t (merged log))

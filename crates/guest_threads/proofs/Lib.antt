@@ -9,6 +9,7 @@ pub mod Finding
 pub mod Passing
 pub mod Telling
 pub mod Acting
+pub mod Touching
 pub mod Viewing
 pub mod Joining
 pub mod Started

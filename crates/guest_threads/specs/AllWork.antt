@@ -8,7 +8,7 @@ use Rattle.init_lock.specs.Known.{PassFacts, TableFacts, IsAway}
 use Rattle.init_lock.specs.Closing.{numbers}
 use Rattle.bodies.specs.declared.report.Limits.{Limits}
 use Rattle.bodies.specs.declared.report.Report.{Report}
-use Rattle.bodies.specs.Making.{Making}
+use Rattle.bodies.specs.Sharing.{Sharing, free_bodies}
 use Rattle.guest_threads.specs.declared.guarded.Guarded.{Guarded}
 use Rattle.guest_threads.specs.declared.launch.Job.{Job}
 use Rattle.guest_threads.specs.declared.work.Worked.{Worked}
@@ -35,10 +35,10 @@ abbrev pub MayWork : PlanFacts → PassFacts Guarded Event → Type 0
 MayWork k x = MayBegin k.program k.table x
 
 -- what the thread of a job promises of its pass and outcome
-pub record Did {S : Type 0} (making : LinkedProgram → Making S) (k : PlanFacts) (j : Job S) (w : Worked) : Type 0 where
+pub record Did {S H : Type 0} (making : LinkedProgram → Sharing S H) (k : PlanFacts) (j : Job S) (w : Worked) : Type 0 where
   pub number : w.pass.number ≡ j.pass.number
   pub works : Works k.program k.table w.pass.number w.pass
-  pub done : (m : ClassId) → slice_get k.mains w.pass.number ≡ Some m → IsDone k.program (making k.program) j.bodies k.table k.limits m w
+  pub done : (m : ClassId) → slice_get k.mains w.pass.number ≡ Some m → IsDone k.program (free_bodies (making k.program)) j.bodies k.table k.limits m w
 
 -- something of each pair
 abbrev pub Pairs : {A B : Type 0} → (A → B → Type 0) → List A → List B → Type 0
@@ -53,12 +53,12 @@ pub record AreBack (table : TableFacts) (ws : List Worked) : Type 0 where
   pub away : AllByRecursion (λ w. IsAway w.pass.places) ws
 
 -- what each thread did, the t-th with the t-th main class and the t-th start of its bodies
-pub record AreDone {S : Type 0} (making : LinkedProgram → Making S) (k : PlanFacts) (starts : List S) (ws : List Worked) : Type 0 where
+pub record AreDone {S H : Type 0} (making : LinkedProgram → Sharing S H) (k : PlanFacts) (starts : List S) (ws : List Worked) : Type 0 where
   pub numbered : map (λ w. w.pass.number) ws ≡ numbers 0 (length k.mains)
   pub works : AllByRecursion (λ w. Works k.program k.table w.pass.number w.pass) ws
   pub count : length starts ≡ length k.mains
-  pub done : (t : ℕ) (m : ClassId) (start : S) (w : Worked) → slice_get k.mains t ≡ Some m → slice_get starts t ≡ Some start → slice_get ws t ≡ Some w → IsDone k.program (making k.program) start k.table k.limits m w
+  pub done : (t : ℕ) (m : ClassId) (start : S) (w : Worked) → slice_get k.mains t ≡ Some m → slice_get starts t ≡ Some start → slice_get ws t ≡ Some w → IsDone k.program (free_bodies (making k.program)) start k.table k.limits m w
 
 -- the report is of the run whose threads did this, and has the events of their journals in the order of the stamps
-abbrev pub IsReportOf : {S : Type 0} → (LinkedProgram → Making S) → TableFacts → List Worked → Report → Type 0
-IsReportOf {S} making table ws r = (k : PlanFacts) (starts : List S) → k.table ≡ table → IsPlan k → AreDone making k starts ws → IsMergeOf (map (λ w. w.pass.journal) ws) r.events × IsRunOf k.program (making k.program) starts k.mains k.limits r
+abbrev pub IsReportOf : {S H : Type 0} → (LinkedProgram → Sharing S H) → TableFacts → List Worked → Report → Type 0
+IsReportOf {S} making table ws r = (k : PlanFacts) (starts : List S) → k.table ≡ table → IsPlan k → AreDone making k starts ws → IsMergeOf (map (λ w. w.pass.journal) ws) r.events × IsRunOf k.program (free_bodies (making k.program)) starts k.mains k.limits r

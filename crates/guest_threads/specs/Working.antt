@@ -22,6 +22,7 @@ use Rattle.init_lock.specs.Rule.{element_at}
 use Rattle.bodies.specs.declared.does.Does.{Does}
 use Rattle.bodies.specs.Doing.{MayDo}
 use Rattle.bodies.specs.Making.{Making, HasCome, maker_of}
+use Rattle.bodies.specs.Sharing.{Sharing}
 use Rattle.guest_threads.specs.declared.guarded.Guarded.{Guarded}
 use Rattle.guest_threads.specs.declared.task.Work.{Work}
 use Rattle.bodies.specs.ThreadStands.{ThreadStands}
@@ -137,6 +138,10 @@ pub record IsInBody {S : Type 0} (w : Work S) : Type 0 where
   pub requests : MayRequest w.procedure.frames
   pub main : w.procedure.frames ≡ [] → w.in_main ≡ true
 
+-- its bodies touched what all threads share, which they met so, and left so
+abbrev pub HasTouched : {S H : Type 0} → Sharing S H → S → S → Type 0
+HasTouched {H = H} M s z = (met : H) × ((left : H) × M.touches s met z left)
+
 -- what runs its bodies has come from where they stand to where the machine may end the innermost
 pub record HasComeTo {S : Type 0} (M : Making S) (k : TaskFacts S) (w : Work S) : Type 0 where
   pub from : S
@@ -151,7 +156,7 @@ pub record IsDoing {S : Type 0} (M : Making S) (k : TaskFacts S) (d : Does) (w :
   pub body : IsInBody w
   pub goes_on : GoesOn w.procedure.last
   pub does : M.does from w.procedure.last d w.bodies
-  pub fits : MayDo k.program M w.procedure.last d w.bodies
+  pub fits : MayDo k.program M.limits w.procedure.last d w.bodies
 
 -- the thread has ended with this result
 pub record IsOver {S : Type 0} (M : Making S) (k : TaskFacts S) (r : Outcome) (w : Work S) : Type 0 where

@@ -5,6 +5,7 @@ ghost use Rattle.std.specs.List.{AllByRecursion};
 ghost use Rattle.init_lock.specs.Closing.{numbers};
 ghost use Rattle.guest_threads.specs.AllWork.{AreDone, Did, IsPlan, MayWork, Pairs};
 
+use crate::common::Common;
 use crate::gate::Gate;
 use crate::guarded::Guarded;
 use crate::run::RunFault;
@@ -112,6 +113,7 @@ fn do_job<W: Wait, G: Gate, B: Bodies>(
     code: &B::Code,
     gate: &G,
     signals: &Signals,
+    common: &Common<B::Shared>,
     job: Job<B>,
 ) -> Worked
     requires code { B.is_code code.now plan.now.program }
@@ -139,6 +141,7 @@ fn do_job<W: Wait, G: Gate, B: Bodies>(
         main,
         pass,
         bodies,
+        common,
     )
 }
 
@@ -151,10 +154,12 @@ fn start<'s, 'a: 's, E: 's, R: Threads + Wait + Sync, G: Gate + Sync, B: Bodies 
     code: &'a B::Code,
     gate: &'a G,
     signals: &'a Signals,
+    common: &'a Common<B::Shared>,
     job: Job<B>,
 ) -> Result<PromisedHandle<Worked, WorkOf<'a, B>>, RunFault>
 where
     B::Code: Sync,
+    B::Shared: Send,
     requires code { B.is_code code.now plan.now.program }
     requires plan { IsPlan plan.now }
     requires pass { MayWork plan.now job.pass }
@@ -170,7 +175,7 @@ where
         move || -> Worked
             requires { IsPlan plan.now × MayWork plan.now job.pass × B.is_code code.now plan.now.program }
             ensures { Did B.making plan.entry.now job result }
-        { do_job(rt, alloc, plan, code, gate, signals, job) },
+        { do_job(rt, alloc, plan, code, gate, signals, common, job) },
     );
     match started {
         Ok(child) => Ok(child),
@@ -187,10 +192,12 @@ fn start_all<'s, 'a: 's, E: 's, R: Threads + Wait + Sync, G: Gate + Sync, B: Bod
     code: &'a B::Code,
     gate: &'a G,
     signals: &'a Signals,
+    common: &'a Common<B::Shared>,
     jobs: Vec<Job<B>>,
 ) -> Result<Vec<PromisedHandle<Worked, WorkOf<'a, B>>>, RunFault>
 where
     B::Code: Sync,
+    B::Shared: Send,
     requires code { B.is_code code.now plan.now.program }
     requires plan { IsPlan plan.now }
     requires passes { AllByRecursion (λ j. MayWork plan.now j.pass) jobs.items }
@@ -199,7 +206,7 @@ where
 {
     let mut children = Vec::with_capacity(alloc, jobs.len())?;
     'starting: for job in jobs {
-        let started = start(scope, rt, alloc, plan, code, gate, signals, job);
+        let started = start(scope, rt, alloc, plan, code, gate, signals, common, job);
         let Ok(child) = started else {
             signals.tell_start(false);
             return Err(RunFault::NoThread);
@@ -219,10 +226,12 @@ pub(crate) fn run_each<R: Threads + Wait + Sync, G: Gate + Sync, B: Bodies + Sen
     plan: &Plan,
     code: &B::Code,
     gate: &G,
+    common: &Common<B::Shared>,
     jobs: Vec<Job<B>>,
 ) -> Result<Vec<Worked>, RunFault>
 where
     B::Code: Sync,
+    B::Shared: Send,
     requires code { B.is_code code.now plan.now.program }
     requires plan { IsPlan plan.now }
     requires passes { AllByRecursion (λ j. MayWork plan.now j.pass) jobs.items }
@@ -239,7 +248,7 @@ where
             ensures { IfOk result (λ done. Pairs (Did B.making plan.entry.now) jobs.items done.items) }
         {
             let done = Vec::with_capacity(alloc, jobs.len())?;
-            let children = start_all(scope, rt, alloc, plan, code, gate, signals, jobs)?;
+            let children = start_all(scope, rt, alloc, plan, code, gate, signals, common, jobs)?;
             Ok(join_all(rt, children, done))
         },
     )

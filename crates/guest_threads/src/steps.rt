@@ -3,6 +3,7 @@
 ghost use Rattle.std.specs.Prelude.{◌≡◌, ◌≤◌, MatchBool, true, false};
 ghost use Rattle.init_core.specs.declared.procedure.Next.TheVariants as nexts;
 ghost use Rattle.init_core.specs.Advance.{next_of, is_running};
+ghost use Rattle.bodies.specs.Sharing.{free_bodies};
 ghost use Rattle.guest_threads.specs.Tasks.{IsLimitOf, room_of};
 ghost use Rattle.guest_threads.specs.Working.{Working, HasLooked};
 
@@ -31,10 +32,10 @@ fn room_of(decision: Decision) -> usize
 impl<'a, G: Gate, B: Bodies> Task<'a, G, B> {
     /// The request of a class is given up: the machine ends the thread at this limit.
     pub(crate) fn give_up(&self, work: &mut Work<B>, class: ClassId, limit: Limit)
-        requires working { Working (B.making self.now.program) self.now work.old }
+        requires working { Working (free_bodies (B.making self.now.program)) self.now work.old }
         requires next { next_of work.old.procedure.frames ≡ nexts.Look class }
-        requires limit { IsLimitOf (B.making self.now.program) self.now work.old.bodies limit }
-        ensures working { Working (B.making self.now.program) self.now work.new }
+        requires limit { IsLimitOf (free_bodies (B.making self.now.program)) self.now work.old.bodies limit }
+        ensures working { Working (free_bodies (B.making self.now.program)) self.now work.new }
     {
         work.procedure.end_thread(error_at(self.program, limit));
         work.why = limit;
@@ -43,10 +44,10 @@ impl<'a, G: Gate, B: Bodies> Task<'a, G, B> {
     /// One look at a class (steps 1 to 6), and whether another thread initializes it, as the thread had seen before: then
     /// that one will wake it when it ends the class.
     pub(crate) fn look<W: Wait>(&self, rt: &W, work: &mut Work<B>, class: ClassId) -> bool
-        requires working { Working (B.making self.now.program) self.now work.old }
+        requires working { Working (free_bodies (B.making self.now.program)) self.now work.old }
         requires next { next_of work.old.procedure.frames ≡ nexts.Look class }
         requires room { 2 ≤ work.old.slack }
-        ensures working { Working (B.making self.now.program) self.now work.new }
+        ensures working { Working (free_bodies (B.making self.now.program)) self.now work.new }
         ensures waits { result ≡ true → HasLooked work.old work.new }
     {
         let patience = self.limits.patience as u64;
@@ -86,10 +87,10 @@ impl<'a, G: Gate, B: Bodies> Task<'a, G, B> {
     /// Passes a class that is seen to be initialized without its lock (step 4), where the request hasn't looked in vain. Taking the
     /// lock may be left out where initialization is known to be complete (JVMS SE 8 5.5).
     pub(crate) fn pass_by(&self, work: &mut Work<B>, class: ClassId) -> bool
-        requires working { Working (B.making self.now.program) self.now work.old }
+        requires working { Working (free_bodies (B.making self.now.program)) self.now work.old }
         requires next { next_of work.old.procedure.frames ≡ nexts.Look class }
         requires room { 2 ≤ work.old.slack }
-        ensures { MatchBool result (Working (B.making self.now.program) self.now work.new) (work.new ≡ work.old) }
+        ensures { MatchBool result (Working (free_bodies (B.making self.now.program)) self.now work.new) (work.new ≡ work.old) }
     {
         if work.procedure.has_waited() {
             return false;
@@ -108,11 +109,11 @@ impl<'a, G: Gate, B: Bodies> Task<'a, G, B> {
 
     /// Step 9: the initializer begins.
     pub(crate) fn run_body(&self, work: &mut Work<B>, class: ClassId)
-        requires working { Working (B.making self.now.program) self.now work.old }
+        requires working { Working (free_bodies (B.making self.now.program)) self.now work.old }
         requires next { next_of work.old.procedure.frames ≡ nexts.Body class }
         requires before { is_running work.old.procedure.frames ≡ false }
         requires room { 1 ≤ work.old.slack }
-        ensures working { Working (B.making self.now.program) self.now work.new }
+        ensures working { Working (free_bodies (B.making self.now.program)) self.now work.new }
     {
         self.table
             .draw(&mut work.pass, Event::new(self.number, class, Kind::Runs));
@@ -125,10 +126,10 @@ impl<'a, G: Gate, B: Bodies> Task<'a, G, B> {
 
     /// Step 9 can't be made since memory ran out: step 7 comes next.
     pub(crate) fn give_up_body(&self, work: &mut Work<B>, class: ClassId)
-        requires working { Working (B.making self.now.program) self.now work.old }
+        requires working { Working (free_bodies (B.making self.now.program)) self.now work.old }
         requires next { next_of work.old.procedure.frames ≡ nexts.Body class }
         requires before { is_running work.old.procedure.frames ≡ false }
-        ensures working { Working (B.making self.now.program) self.now work.new }
+        ensures working { Working (free_bodies (B.making self.now.program)) self.now work.new }
     {
         let error = error_at(self.program, Limit::Memory);
         let answer = Answer::GaveUp { error, begun: true };
@@ -146,9 +147,9 @@ impl<'a, G: Gate, B: Bodies> Task<'a, G, B> {
         class: ClassId,
         ending: Ending,
     )
-        requires working { Working (B.making self.now.program) self.now work.old }
+        requires working { Working (free_bodies (B.making self.now.program)) self.now work.old }
         requires next { next_of work.old.procedure.frames ≡ nexts.End class ending }
-        ensures working { Working (B.making self.now.program) self.now work.new }
+        ensures working { Working (free_bodies (B.making self.now.program)) self.now work.new }
     {
         let taken = take_record(rt, self.program, self.table, &mut work.pass, class, 0);
         let Ok(mut held) = taken else { unreachable!() };

@@ -1,9 +1,11 @@
 //! What one thread is to do, and where its work stands.
 
 ghost use Rattle.std.specs.Prelude.{◌≡◌, ◌<◌, ◌≤◌, MatchBool};
+ghost use Rattle.bodies.specs.Sharing.{free_bodies};
 ghost use Rattle.guest_threads.specs.Tasks.{error_of};
 ghost use Rattle.guest_threads.specs.Working.{Working, IsRoomier};
 
+use crate::common::Common;
 use crate::gate::Gate;
 use crate::guarded::Guarded;
 use crate::signals::Signals;
@@ -26,6 +28,8 @@ pub(crate) struct Task<'a, G, B: Bodies> {
     pub limits: Limits,
     pub gate: &'a G,
     pub signals: &'a Signals,
+    /// What the bodies of all threads share.
+    pub common: &'a Common<B::Shared>,
     pub number: usize,
     pub main: ClassId,
     /// What runs its bodies, as it was when the thread began.
@@ -74,9 +78,9 @@ pub(crate) fn error_at(program: &Program, limit: Limit) -> ClassId
 impl<'a, G: Gate, B: Bodies> Task<'a, G, B> {
     /// Whether there is room for so many events, which is made where there is none: an answer `false` means out of memory.
     pub(crate) fn has_room(&self, work: &mut Work<B>, count: usize) -> bool
-        requires working { Working (B.making self.now.program) self.now work.old }
+        requires working { Working (free_bodies (B.making self.now.program)) self.now work.old }
         requires few { count ≤ 64 }
-        ensures working { Working (B.making self.now.program) self.now work.new }
+        ensures working { Working (free_bodies (B.making self.now.program)) self.now work.new }
         ensures unmoved { IsRoomier work.old work.new }
         ensures room { MatchBool result (count ≤ work.new.slack) (work.new.slack ≡ work.old.slack) }
     {

@@ -6,10 +6,12 @@ ghost use Rattle.init_core.specs.declared.procedure.Next.TheVariants as nexts;
 ghost use Rattle.init_core.specs.Advance.{next_of, is_running};
 ghost use Rattle.init_core.specs.Leads.{frame, standing};
 ghost use Rattle.init_core.specs.ProcedureWord.{IsOfFiles};
+ghost use Rattle.bodies.specs.Sharing.{free_bodies};
 ghost use Rattle.guest_threads.specs.Tasks.{outcome_by};
 ghost use Rattle.guest_threads.specs.ThreadWork.{IsDone, HasDone};
 ghost use Rattle.guest_threads.specs.Working.{MayBegin, Works, Working, WorksOrEnds};
 
+use crate::common::{Common, end_bodies};
 use crate::gate::Gate;
 use crate::guarded::Guarded;
 use crate::signals::Signals;
@@ -56,9 +58,9 @@ impl<'a, G: Gate, B: Bodies> Task<'a, G, B> {
     /// Looks at the class that is asked for. Where another thread initializes it, the thread sleeps until that one has ended
     /// it; where its patience has a limit it lets others run instead, or is at the end of its patience.
     fn look_on<W: Wait>(&self, rt: &W, work: &mut Work<B>, class: ClassId)
-        requires working { Working (B.making self.now.program) self.now work.old }
+        requires working { Working (free_bodies (B.making self.now.program)) self.now work.old }
         requires next { next_of work.old.procedure.frames ≡ nexts.Look class }
-        ensures { Working (B.making self.now.program) self.now work.new }
+        ensures { Working (free_bodies (B.making self.now.program)) self.now work.new }
     {
         if !self.has_room(work, 2) {
             self.give_up(work, class, Limit::Memory);
@@ -86,10 +88,10 @@ impl<'a, G: Gate, B: Bodies> Task<'a, G, B> {
 
     /// Makes step 9 of the class that is asked for.
     fn run_on(&self, work: &mut Work<B>, class: ClassId)
-        requires working { Working (B.making self.now.program) self.now work.old }
+        requires working { Working (free_bodies (B.making self.now.program)) self.now work.old }
         requires next { next_of work.old.procedure.frames ≡ nexts.Body class }
         requires before { is_running work.old.procedure.frames ≡ false }
-        ensures { Working (B.making self.now.program) self.now work.new }
+        ensures { Working (free_bodies (B.making self.now.program)) self.now work.new }
     {
         if self.has_room(work, 1) {
             self.run_body(work, class);
@@ -101,10 +103,10 @@ impl<'a, G: Gate, B: Bodies> Task<'a, G, B> {
     /// The procedure for the main class is completed: if normally the method `main` begins, and else that is how the
     /// thread ended.
     fn enter_main(&self, work: &mut Work<B>) -> Option<Outcome>
-        requires working { Working (B.making self.now.program) self.now work.old }
+        requires working { Working (free_bodies (B.making self.now.program)) self.now work.old }
         requires idle { next_of work.old.procedure.frames ≡ nexts.Idle }
         requires before { work.old.in_main ≡ false }
-        ensures { WorksOrEnds (B.making self.now.program) self.now result work.new }
+        ensures { WorksOrEnds (free_bodies (B.making self.now.program)) self.now result work.new }
     {
         let Some(Completed { outcome, .. }) = work.procedure.last() else {
             unreachable!();
@@ -121,8 +123,8 @@ impl<'a, G: Gate, B: Bodies> Task<'a, G, B> {
 
     /// Does what comes next, and answers how the thread ended where that was its end.
     fn step<W: Wait>(&self, rt: &W, work: &mut Work<B>) -> Option<Outcome>
-        requires { Working (B.making self.now.program) self.now work.old }
-        ensures { WorksOrEnds (B.making self.now.program) self.now result work.new }
+        requires { Working (free_bodies (B.making self.now.program)) self.now work.old }
+        ensures { WorksOrEnds (free_bodies (B.making self.now.program)) self.now result work.new }
     {
         match work.procedure.next() {
             Next::Idle => {
@@ -145,13 +147,14 @@ impl<'a, G: Gate, B: Bodies> Task<'a, G, B> {
 
     /// Does what the thread of a main class does: the procedure for that class, and then the method `main`.
     fn work<W: Wait>(&self, rt: &W, mut work: Work<B>) -> Worked
-        requires { Working (B.making self.now.program) self.now work }
-        ensures { HasDone (B.making self.now.program) self.now result }
+        requires { Working (free_bodies (B.making self.now.program)) self.now work }
+        ensures { HasDone (free_bodies (B.making self.now.program)) self.now result }
     {
         'steps: for _ in rt.forever() {
             if let Some(done) = self.step(rt, &mut work) {
                 let outcome = outcome_of(done, work.why);
-                let Work { pass, .. } = work;
+                let Work { pass, bodies, .. } = work;
+                end_bodies(rt, self.program, self.common, bodies);
                 return Worked { pass, outcome };
             }
         }
@@ -159,7 +162,8 @@ impl<'a, G: Gate, B: Bodies> Task<'a, G, B> {
     }
 }
 
-/// What a thread does from its first request on. What it waits for beside locks is in `signals`.
+/// What a thread does from its first request on. What it waits for beside locks is in `signals`, and in `common`, which has what the
+/// bodies of all threads share.
 pub(crate) fn work_from<W: Wait, G: Gate, B: Bodies>(
     rt: &W,
     alloc: Global,
@@ -172,16 +176,18 @@ pub(crate) fn work_from<W: Wait, G: Gate, B: Bodies>(
     main: ClassId,
     pass: Pass<Guarded>,
     bodies: B,
+    common: &Common<B::Shared>,
 ) -> Worked
     requires code { B.is_code code.now program.now }
     requires main { IsOfFiles program.now main }
     requires begins { MayBegin program.now table.now pass }
     ensures number { result.pass.number ≡ pass.number }
     ensures works { Works program.now table.now result.pass.number result.pass }
-    ensures done { IsDone program.now (B.making program.now) bodies table.now limits main result }
+    ensures done { IsDone program.now (free_bodies (B.making program.now)) bodies table.now limits main result }
 {
     let begun = begin(alloc, main);
     let Ok(procedure) = begun else {
+        end_bodies(rt, program, common, bodies);
         return Worked {
             pass,
             outcome: ThreadOutcome::Ended(Limit::Memory),
@@ -195,6 +201,7 @@ pub(crate) fn work_from<W: Wait, G: Gate, B: Bodies>(
         limits,
         gate,
         signals,
+        common,
         number: pass.number(),
         main,
         start: Snapshot::of(&bodies),
@@ -218,12 +225,13 @@ pub(crate) fn work_from<W: Wait, G: Gate, B: Bodies>(
 /// class while they have records of the same table in hand: what they hold, have begun or published is what the class meets.
 /// The table is over a prepared [`Guarded`] for each class of the program, and `pass` is one of its passes, with which nothing was
 /// done yet. The pass comes back with the events of the thread in its journal, in the order in which they were made, and with
-/// no record. `code` is the code of the program, as the bodies have it.
+/// no record. `code` is the code of the program, as the bodies have it, and `common` has what the bodies of all threads share.
 ///
 /// At a lock that another pass has, and at a class that another thread has in progress, it looks as often as
 /// `limits.patience` allows, and is then ended by InternalError. With patience 0 it waits without limit: at the lock until the
 /// record is given back, and at the class for ever, since only the threads of one [`run_threads`](crate::run_threads) wake
-/// each other. Where memory is refused it is ended by OutOfMemoryError. `gate` is told of each event, after it was made.
+/// each other. At something shared that another thread holds it looks as often, or sleeps until one of those that have `common` leaves
+/// something. Where memory is refused it is ended by OutOfMemoryError. `gate` is told of each event, after it was made.
 pub fn run_one<W: Wait, G: Gate, B: Bodies>(
     rt: &W,
     alloc: Global,
@@ -235,16 +243,17 @@ pub fn run_one<W: Wait, G: Gate, B: Bodies>(
     main: ClassId,
     pass: Pass<Guarded>,
     bodies: B,
+    common: &Common<B::Shared>,
 ) -> Worked
     requires code { B.is_code code.now program.now }
     requires main { IsOfFiles program.now main }
     requires begins { MayBegin program.now table.now pass }
     ensures number { result.pass.number ≡ pass.number }
     ensures works { Works program.now table.now result.pass.number result.pass }
-    ensures done { IsDone program.now (B.making program.now) bodies table.now limits main result }
+    ensures done { IsDone program.now (free_bodies (B.making program.now)) bodies table.now limits main result }
 {
     let signals = Signals::new();
     work_from(
-        rt, alloc, program, code, table, limits, gate, &signals, main, pass, bodies,
+        rt, alloc, program, code, table, limits, gate, &signals, main, pass, bodies, common,
     )
 }

@@ -14,5 +14,4 @@ pub mod Operands
 pub mod Says
 pub mod CodeRun
 pub mod Waiting
-pub mod SharedRun
-pub mod TurnRun
+pub mod Touching

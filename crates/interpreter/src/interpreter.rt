@@ -5,13 +5,14 @@ use crate::taken::TakenMonitors;
 use frames::{Frames, Thrown};
 use heap::{Heap, Monitors};
 
-/// What runs the code of one thread: its frames, its heap and monitors, and how many instructions it may still begin.
+/// What runs the code of one thread: its frames, how many instructions it may still begin, and the heap and the monitors. Those it has for
+/// good where it is alone, and otherwise for one touch at a time.
 pub struct Interpreter {
     /// The frames of the bodies that run, one within the other.
     pub(crate) frames: Frames,
-    /// What was made.
+    /// The heap, where it has it.
     pub(crate) heap: Heap,
-    /// Who holds which monitor.
+    /// Who holds which monitor, where it has them.
     pub(crate) monitors: Monitors,
     /// The monitors that the methods of frames took.
     pub(crate) taken: TakenMonitors,

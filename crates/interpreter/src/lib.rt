@@ -1,17 +1,16 @@
 //! The code of initializers and of `main`, as a thread runs it.
 //!
-//! Enter by one of three kinds of interpreter, each of them [`Bodies`](bodies::Bodies). [`Interpreter`] is that of a thread alone, which
-//! has its heap to itself. [`SharedInterpreter`] is that of one of several threads of the machine, which share [`SharedObjects`] under
-//! a lock. [`TurnInterpreter`] is that of one of several threads of which one goes on at a time, which has their [`Objects`] then.
+//! Enter by one of two kinds of interpreter, each of them [`Bodies`](bodies::Bodies). [`AloneInterpreter`] is that of a thread alone, which
+//! has its heap to itself. [`Interpreter`] is that of one of several threads, which share [`Objects`]: it is given these for each touch.
 #![tactic(auto)]
 
-mod apart;
+pub mod alone;
 mod array_leads;
 mod at_once;
 mod call_leads;
 mod code_bodies;
 mod fitting;
-pub mod in_turn;
+mod halves;
 mod index;
 pub mod interpreter;
 mod lead;
@@ -22,18 +21,19 @@ mod object_leads;
 pub mod objects;
 mod performing;
 mod phase;
+mod preparing;
 mod print_leads;
+mod quiet;
 mod return_leads;
 mod says;
-pub mod shared;
 mod switching;
 mod taken;
 mod text;
 mod throwing;
+mod touching;
 mod turn;
 mod type_leads;
 
-pub use in_turn::TurnInterpreter;
+pub use alone::AloneInterpreter;
 pub use interpreter::Interpreter;
 pub use objects::Objects;
-pub use shared::{SharedInterpreter, SharedObjects};

@@ -32,7 +32,6 @@ impl Interpreter {
     fn lock_method(&mut self, program: &Program, monitor: Monitor) -> Result<bool, AllocError>
         requires { self.old.phase ≡ phases.Locks monitor true }
         ensures row { IfOk result (λ entered. entered ≡ true → Row program.now self.old self.new) }
-        ensures less { IfOk result (λ entered. entered ≡ true → to_do self.new < to_do self.old) }
         ensures busy { IfOk result (λ entered. entered ≡ false → IsBusyAt monitor self.old self.new) }
         ensures memory { OnErr result (TakesMemory program.now self.old) }
         ensures err { OnErr result (self.new ≡ self.old) }
@@ -59,7 +58,6 @@ impl Interpreter {
     fn lock_other(&mut self, program: &Program, monitor: Monitor) -> Result<bool, AllocError>
         requires { self.old.phase ≡ phases.Locks monitor false }
         ensures row { IfOk result (λ entered. entered ≡ true → Row program.now self.old self.new) }
-        ensures less { IfOk result (λ entered. entered ≡ true → to_do self.new < to_do self.old) }
         ensures busy { IfOk result (λ entered. entered ≡ false → IsBusyAt monitor self.old self.new) }
         ensures memory { OnErr result (TakesMemory program.now self.old) }
         ensures err { OnErr result (self.new ≡ self.old) }
@@ -83,7 +81,6 @@ impl Interpreter {
     ) -> Result<bool, AllocError>
         requires { self.old.phase ≡ phases.Locks monitor of_method }
         ensures row { IfOk result (λ entered. entered ≡ true → Row program.now self.old self.new) }
-        ensures less { IfOk result (λ entered. entered ≡ true → to_do self.new < to_do self.old) }
         ensures busy { IfOk result (λ entered. entered ≡ false → IsBusyAt monitor self.old self.new) }
         ensures memory { OnErr result (TakesMemory program.now self.old) }
         ensures err { OnErr result (self.new ≡ self.old) }

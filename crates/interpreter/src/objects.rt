@@ -1,7 +1,8 @@
 //! What the threads of a run share.
 
 ghost use Rattle.std.specs.Prelude.{◌≡◌, ◌↔◌, IsTrue};
-ghost use Rattle.interpreter.specs.TurnRun.{IsKeptOut, objects_at_start, objects_lent};
+ghost use Rattle.interpreter.specs.Touching.{objects_at_start, objects_of, with_objects};
+ghost use Rattle.interpreter.specs.Waiting.{IsKeptOut};
 
 use crate::interpreter::Interpreter;
 use crate::phase::Phase;
@@ -41,17 +42,17 @@ impl Objects {
 impl Interpreter {
     /// Takes these objects, and gives its own in their place.
     pub(crate) fn exchange(&mut self, objects: &mut Objects)
-        ensures own { self.new ≡ objects_lent.with_shared self.old objects.old }
-        ensures given { objects.new ≡ objects_lent.shared_of self.old }
+        ensures own { self.new ≡ with_objects self.old objects.old }
+        ensures given { objects.new ≡ objects_of self.old }
     {
         swap(&mut self.heap, &mut objects.heap);
         swap(&mut self.monitors, &mut objects.monitors);
     }
 
     /// Whether it is to enter a monitor that another thread holds, where it has these objects.
-    #[tactic(auto, using(crate::proofs::TakingTurns::not_at_a_monitor, crate::proofs::TakingTurns::at_a_held_monitor, crate::proofs::TakingTurns::at_a_free_monitor))]
+    #[tactic(auto, using(crate::proofs::KeptOut::not_at_a_monitor, crate::proofs::KeptOut::at_a_held_monitor, crate::proofs::KeptOut::at_a_free_monitor))]
     pub(crate) fn is_kept_out(&self, objects: &Objects) -> bool
-        ensures { IsTrue result ↔ IsKeptOut (objects_lent.with_shared self.now objects.now) }
+        ensures { IsTrue result ↔ IsKeptOut (with_objects self.now objects.now) }
     {
         let Phase::Locks(monitor, _) = self.phase else {
             return false;

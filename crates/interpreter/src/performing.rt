@@ -6,12 +6,10 @@ ghost use Rattle.frames.specs.Activations.{Activation, can_replace, left, operan
 ghost use Rattle.heap.specs.Objects.{new_array, new_object};
 ghost use Rattle.interpreter.specs.Memory.{LeadTakesMemory, MakesNew, TakesFrame};
 ghost use Rattle.interpreter.specs.Methods.{method_at};
-ghost use Rattle.interpreter.specs.Operands.{FindsOperands, MakesNoEvent};
+ghost use Rattle.interpreter.specs.Operands.{FindsOperands};
 ghost use Rattle.interpreter.specs.Rows.{Calls, Does as DoesLead, EntersMonitor, ExitsMonitor, HasRoomFor, IsLeftBy, Makes, PutsElementOf, PutsFieldOf, Returns, phase_of as phase_by, taken_at};
 ghost use Rattle.interpreter.specs.Taken.{last_of};
 ghost use Rattle.interpreter.specs.declared.lead.Lead.TheVariants as leads;
-ghost use Rattle.interpreter.specs.declared.phase.Phase.TheVariants as phases;
-ghost use Rattle.heap.specs.declared.monitors.Monitor.TheVariants as monitors_of;
 
 use crate::interpreter::Interpreter;
 use crate::lead::Lead;
@@ -37,7 +35,7 @@ pub(crate) fn phase_of(code: &MethodCode, monitor: Monitor) -> Phase
 
 impl Interpreter {
     /// The innermost frame is left with a result, and the body is over or the frame's caller goes on.
-    fn leave_frame(&mut self, at: FramePlace, value: Option<Cell>)
+    pub(crate) fn leave_frame(&mut self, at: FramePlace, value: Option<Cell>)
         requires at { place_of self.old.frames ≡ Some at }
         requires room { HasRoomFor (left self.old.frames) value }
         ensures { (a : Activation) (below : List Activation) → self.old.frames ≡ a ∷ below → IsLeftBy a below value self.old self.new }
@@ -214,7 +212,7 @@ impl Interpreter {
         Ok(())
     }
 
-    /// Does what an instruction comes to that makes no event. An `Err` means out of memory, and changes nothing.
+    /// Does what an instruction comes to, up to its second half. An `Err` means out of memory, and changes nothing.
     pub(crate) fn perform(
         &mut self,
         program: &Program,
@@ -225,7 +223,6 @@ impl Interpreter {
         requires code { IsCode resolved.now program.now }
         requires at { place_of self.old.frames ≡ Some at }
         requires served { FindsOperands program.now self.old.frames lead }
-        requires quiet { MakesNoEvent lead }
         ensures ok { OnOk result ((a : Activation) (below : List Activation) → self.old.frames ≡ a ∷ below → DoesLead program.now a below lead self.old self.new) }
         ensures memory { OnErr result (LeadTakesMemory program.now lead self.old) }
         ensures err { OnErr result (self.new ≡ self.old) }
@@ -254,7 +251,7 @@ impl Interpreter {
             }
             Lead::EntersMonitor(reference) => self.enter_monitor(reference),
             Lead::ExitsMonitor(reference) => return self.exit_monitor(program, reference),
-            Lead::Uses(_) | Lead::Prints(_) => unreachable!(),
+            Lead::Uses(_) | Lead::Prints(_) => self.phase = Phase::Half,
         }
         Ok(())
     }

@@ -2,20 +2,21 @@
 
 ghost use Rattle.std.specs.Prelude.{◌≡◌, ◌↔◌, IsTrue, true, IfNone, IfOk, IfSome, None, OnErr, OnOk, option_copied};
 ghost use Rattle.code.specs.IsCode.{IsCode};
-ghost use Rattle.frames.specs.Activations.{dropped, has_room, next_place, operands_of};
 ghost use Rattle.bodies.specs.declared.does.Does.TheVariants as does;
-ghost use Rattle.hierarchy.specs.LinkedProgram.{id};
+ghost use Rattle.bodies.specs.declared.report.Limit.TheVariants.{Steps};
 ghost use Rattle.code.specs.declared.op.Op.{Op as OpFacts};
 ghost use Rattle.code.specs.declared.op.Op.TheVariants as op;
-ghost use Rattle.heap.specs.Objects.{new_object};
-ghost use Rattle.interpreter.specs.Fitting.{on_top};
-ghost use Rattle.hierarchy.specs.Subclasses.{IsThrowable};
-ghost use Rattle.interpreter.specs.Memory.{MakesNew, TakesFrame, TakesMemory};
+ghost use Rattle.frames.specs.Activations.{has_room, operands_of};
+ghost use Rattle.hierarchy.specs.LinkedProgram.{id};
 ghost use Rattle.interpreter.specs.Methods.{method_at};
-ghost use Rattle.interpreter.specs.Rows.{HasArguments, IsAtOp, Row, WaitsFor, with_frame};
-ghost use Rattle.interpreter.specs.Says.{IsAnswer, NoClassReady, IsSayable, Says, value_on_top as top_value};
-ghost use Rattle.interpreter.specs.TurnRun.{TurnSaysNext};
+ghost use Rattle.hierarchy.specs.Subclasses.{IsThrowable};
+ghost use Rattle.interpreter.specs.CodeRun.{AloneSaysNext};
+ghost use Rattle.interpreter.specs.Memory.{TakesMemory};
+ghost use Rattle.interpreter.specs.Rows.{HasArguments, IsAtOp, Row, WaitsFor};
+ghost use Rattle.interpreter.specs.Says.{IsAnswer, NoClassReady, IsSayable, Resuming, Says, value_on_top as top_value};
+ghost use Rattle.interpreter.specs.Touching.{Quietly};
 ghost use Rattle.interpreter.specs.declared.phase.Phase.TheVariants as phases;
+ghost use Rattle.interpreter.specs.declared.says.Resumes.TheVariants as resumes;
 
 use crate::fitting::is_kind_of;
 use crate::interpreter::Interpreter;
@@ -38,6 +39,21 @@ fn value_on_top(value: Option<Cell>) -> Value
         Some(Cell::Reference(number)) => Value::Reference(number),
         _ => Value::Null,
     }
+}
+
+/// What comes where a class was made ready, by the instruction that waited for it.
+#[derive(Clone, Copy)]
+pub(crate) enum Resumes {
+    /// The static field at this place of the class is read.
+    Gets(u16),
+    /// It is written.
+    Puts(u16),
+    /// An object of the class of this number is made.
+    Makes(u16),
+    /// This method of the class of this number is called.
+    Calls(u16, u16),
+    /// No instruction waited for the class.
+    Idles,
 }
 
 /// Whether an object that left a body is a throwable.
@@ -92,10 +108,10 @@ impl Interpreter {
     }
 
     /// The body is over.
-    #[tactic(auto, using(crate::proofs::Saying::answers_are_thrown, crate::proofs::Saying::returns_out, crate::proofs::Saying::throws_out))]
+    #[tactic(auto, using(crate::proofs::Saying::answers_are_thrown))]
     pub(crate) fn over(&mut self, program: &Program, thrown: Option<Thrown>) -> Does
         requires { self.old.phase ≡ phases.Over thrown }
-        ensures says { Says program.now self.old result self.new }
+        ensures says { Quietly (λ u v. Says program.now u result v) self.old self.new }
         ensures sayable { IsSayable program.now self.old.phase result }
     {
         match thrown {
@@ -112,7 +128,7 @@ impl Interpreter {
         }
     }
 
-    /// Whether an instruction waits for a class, to do its second half.
+    /// Whether an instruction waits for a class, to do its last part.
     #[tactic(auto, using(crate::proofs::Saying::same_number, crate::proofs::Saying::number_of))]
     fn waits_for(&self, program: &Program, resolved: &Code, op: Op, class: ClassId) -> bool
         requires code { IsCode resolved.now program.now }
@@ -134,10 +150,14 @@ impl Interpreter {
     }
 
     /// Reads the static field for which its class was made ready.
-    fn get_static(&mut self, class: ClassId, field: u16) -> Does
-        ensures does { result ≡ does.Gets class field }
-        ensures same { self.new ≡ record self.old { phase = phases.Runs } }
+    pub(crate) fn get_static(&mut self, program: &Program, class: ClassId, field: u16) -> Does
+        requires phase { self.old.phase ≡ phases.Ready class }
+        requires at { Resuming program.now self.old.frames class (resumes.Gets field) }
+        ensures says { Quietly (λ u v. Says program.now u result v) self.old self.new }
+        ensures sayable { IsSayable program.now self.old.phase result }
     {
+        program.is_linked();
+        instructions_name_what_is_there(program);
         self.phase = Phase::Runs;
         Does::Gets {
             class,
@@ -146,10 +166,13 @@ impl Interpreter {
     }
 
     /// Writes the static field for which its class was made ready.
-    fn put_static(&mut self, class: ClassId, field: u16) -> Does
-        ensures does { result ≡ does.Puts class field (top_value (on_top self.old.frames)) }
-        ensures taken { self.new ≡ with_frame (λ f. next_place (dropped 1 f)) (record self.old { phase = phases.Runs }) }
+    pub(crate) fn put_static(&mut self, program: &Program, class: ClassId, field: u16) -> Does
+        requires phase { self.old.phase ≡ phases.Ready class }
+        requires at { Resuming program.now self.old.frames class (resumes.Puts field) }
+        ensures says { Quietly (λ u v. Says program.now u result v) self.old self.new }
+        ensures sayable { IsSayable program.now self.old.phase result }
     {
+        instructions_name_what_is_there(program);
         let value = value_on_top(self.frames.operand(0));
         take(&mut self.frames, 1);
         self.phase = Phase::Runs;
@@ -161,8 +184,8 @@ impl Interpreter {
     }
 
     /// Calls the method for which its class was made ready. An `Err` means out of memory, and changes nothing.
-    #[tactic(auto, using(crate::proofs::Saying::calls_at, crate::proofs::Saying::frame_there))]
-    fn call_static(
+    #[tactic(auto, using(crate::proofs::Saying::calls_at, crate::proofs::Saying::calls_takes, crate::proofs::Saying::frame_there))]
+    pub(crate) fn call_static(
         &mut self,
         program: &Program,
         resolved: &Code,
@@ -176,7 +199,8 @@ impl Interpreter {
         requires at { IsAtOp program.now self.old.frames (op.InvokeStatic class method) }
         requires arguments { HasArguments (method_at program.now class method) (operands_of self.old.frames) }
         ensures row { OnOk result (Row program.now self.old self.new) }
-        ensures memory { OnErr result (TakesFrame program.now self.old) }
+        ensures unready { OnOk result (NoClassReady self.new.phase) }
+        ensures memory { OnErr result (TakesMemory program.now self.old) }
         ensures err { OnErr result (self.new ≡ self.old) }
     {
         let (class, method) = (class as usize, method as usize);
@@ -196,14 +220,20 @@ impl Interpreter {
     }
 
     /// Makes an object of the class that was made ready for it. An `Err` means out of memory, and changes nothing.
-    #[tactic(auto, using(crate::proofs::Saying::makes_at, crate::proofs::Served::room_for_one))]
-    fn make(&mut self, program: &Program, ready: ClassId, class: u16) -> Result<(), AllocError>
+    #[tactic(auto, using(crate::proofs::Saying::makes_at, crate::proofs::Saying::makes_takes, crate::proofs::Served::room_for_one))]
+    pub(crate) fn make(
+        &mut self,
+        program: &Program,
+        ready: ClassId,
+        class: u16,
+    ) -> Result<(), AllocError>
         requires phase { self.old.phase ≡ phases.Ready ready }
         requires ready { ready ≡ id class }
         requires at { IsAtOp program.now self.old.frames (op.New class) }
         requires room { has_room self.old.frames ≡ true }
         ensures row { OnOk result (Row program.now self.old self.new) }
-        ensures memory { OnErr result (MakesNew program.now (new_object program.now ready) self.old) }
+        ensures unready { OnOk result (NoClassReady self.new.phase) }
+        ensures memory { OnErr result (TakesMemory program.now self.old) }
         ensures err { OnErr result (self.new ≡ self.old) }
     {
         self.phase = Phase::Runs;
@@ -214,89 +244,93 @@ impl Interpreter {
         Ok(())
     }
 
-    /// Goes on with the instruction for which a class was made ready: what the body does by it, or nothing where it makes no event.
-    /// An `Err` means out of memory, and changes nothing.
-    pub(crate) fn resume(
-        &mut self,
-        program: &Program,
-        resolved: &Code,
-        class: ClassId,
-    ) -> Result<Option<Does>, AllocError>
+    /// What comes where a class was made ready, by the instruction that waits for it.
+    pub(crate) fn resumes(&self, program: &Program, resolved: &Code, class: ClassId) -> Resumes
         requires code { IsCode resolved.now program.now }
-        requires phase { self.old.phase ≡ phases.Ready class }
-        ensures row { IfOk result (λ d. d ≡ None → Row program.now self.old self.new) }
-        ensures says { IfOk result (λ d. IfSome d (λ x. Says program.now self.old x self.new)) }
-        ensures sayable { IfOk result (λ d. IfSome d (IsSayable program.now self.old.phase)) }
-        ensures memory { OnErr result (TakesMemory program.now self.old) }
-        ensures err { OnErr result (self.new ≡ self.old) }
+        ensures { Resuming program.now self.now.frames class result }
     {
-        program.is_linked();
-        instructions_name_what_is_there(program);
         let Some(op) = self.op(program, resolved) else {
-            self.phase = Phase::Runs;
-            return Ok(None);
+            return Resumes::Idles;
         };
         if !self.waits_for(program, resolved, op, class) {
-            self.phase = Phase::Runs;
-            return Ok(None);
+            return Resumes::Idles;
         }
         match op {
-            Op::GetStatic(_, field) => Ok(Some(self.get_static(class, field))),
-            Op::PutStatic(_, field) => Ok(Some(self.put_static(class, field))),
-            Op::New(wanted) => match self.make(program, class, wanted) {
-                Ok(()) => Ok(None),
-                Err(_) => Err(AllocError),
-            },
-            Op::InvokeStatic(wanted, method) => {
-                match self.call_static(program, resolved, class, wanted, method) {
-                    Ok(()) => Ok(None),
-                    Err(_) => Err(AllocError),
-                }
-            }
+            Op::GetStatic(_, field) => Resumes::Gets(field),
+            Op::PutStatic(_, field) => Resumes::Puts(field),
+            Op::New(wanted) => Resumes::Makes(wanted),
+            Op::InvokeStatic(wanted, method) => Resumes::Calls(wanted, method),
             _ => unreachable!(),
         }
     }
 
-    /// Goes on up to what the innermost body does next, or up to a monitor that another thread holds.
+    /// Goes on up to what the innermost body does next, on a thread that is alone.
     pub(crate) fn say(&mut self, alloc: Global, program: &Program, resolved: &Code) -> Does
         requires code { IsCode resolved.now program.now }
-        ensures says { TurnSaysNext program.now self.old result self.new }
+        ensures says { AloneSaysNext program.now self.old result self.new }
         ensures sayable { IsSayable program.now self.old.phase result }
     {
-        match self.phase {
-            Phase::Ready(class) => match self.resume(program, resolved, class) {
-                Ok(None) => self.say_running(alloc, program, resolved),
-                Ok(Some(does)) => does,
+        let Phase::Ready(class) = self.phase else {
+            return self.say_running(alloc, program, resolved);
+        };
+        match self.resumes(program, resolved, class) {
+            Resumes::Gets(field) => self.get_static(program, class, field),
+            Resumes::Puts(field) => self.put_static(program, class, field),
+            Resumes::Makes(wanted) => match self.make(program, class, wanted) {
+                Ok(()) => self.say_running(alloc, program, resolved),
                 Err(_) => Does::Ended(Limit::Memory),
             },
-            _ => self.say_running(alloc, program, resolved),
+            Resumes::Calls(wanted, method) => {
+                match self.call_static(program, resolved, class, wanted, method) {
+                    Ok(()) => self.say_running(alloc, program, resolved),
+                    Err(_) => Does::Ended(Limit::Memory),
+                }
+            }
+            Resumes::Idles => {
+                self.phase = Phase::Runs;
+                self.say_running(alloc, program, resolved)
+            }
         }
     }
 
-    /// Goes on up to what the innermost body does next, which waits for no class, or up to a monitor that another thread holds.
+    /// Goes on up to what the innermost body does next, which waits for no class.
     fn say_running(&mut self, alloc: Global, program: &Program, resolved: &Code) -> Does
         requires code { IsCode resolved.now program.now }
         requires ready { NoClassReady self.old.phase }
-        ensures says { TurnSaysNext program.now self.old result self.new }
+        ensures says { AloneSaysNext program.now self.old result self.new }
         ensures sayable { (phase : _) → IsSayable program.now phase result }
     {
         loop {
             match self.phase {
                 Phase::Over(thrown) => return self.over(program, thrown),
-                Phase::Refused => return Does::Ended(Limit::Memory),
                 Phase::Spent => return Does::Ended(Limit::Steps),
                 Phase::Ready(_) => unreachable!(),
-                Phase::Locks(monitor, of_method) => match self.lock(program, monitor, of_method) {
-                    Ok(true) => {}
-                    Ok(false) => return Does::Waits,
-                    Err(_) => return Does::Ended(Limit::Memory),
-                },
-                Phase::Runs => match self.turn(alloc, program, resolved) {
+                Phase::Half => match self.say_half(alloc, program, resolved) {
                     Ok(None) => {}
                     Ok(Some(does)) => return does,
                     Err(_) => return Does::Ended(Limit::Memory),
                 },
+                Phase::Runs => match self.turn(program, resolved) {
+                    Ok(None) => {}
+                    Ok(Some(does)) => return does,
+                    Err(_) => return Does::Ended(Limit::Memory),
+                },
+                _ => match self.prepare(program, resolved) {
+                    Ok(true) => {}
+                    Ok(false) => return self.wait_in_vain(),
+                    Err(_) => return Does::Ended(Limit::Memory),
+                },
             }
         }
+    }
+
+    /// (There is no other thread that could hold a monitor.)
+    fn wait_in_vain(&mut self) -> Does
+        ensures does { result ≡ does.Ended Steps }
+        ensures spent { self.new ≡ record self.old { left = 0; phase = phases.Spent } }
+    {
+        self.left = 0;
+        self.phase = Phase::Spent;
+        Does::Ended(Limit::Steps)
     }
 }

@@ -16,7 +16,7 @@ pub struct TakenMonitor {
     pub monitor: Monitor,
 }
 
-/// The monitors that methods took whose frames are there. Contracts see the innermost first.
+/// The monitors that methods took and didn't leave: their frames are there, unless the machine ended them. Contracts see the innermost first.
 #[derive(Drop)]
 pub(crate) struct TakenMonitors {
     items: Vec<TakenMonitor>,

@@ -1,14 +1,14 @@
 //! A class that is initialized and published is passed by another thread while its record is still out.
 
 ghost use Rattle.std.specs.Prelude.{◌≡◌, ◌+◌, ◌<◌, ◌≤◌, ◌++◌, ◌∷◌, [], length, vec_len, Some, IfOk, true};
-ghost use Rattle.init_lock.specs.Known.{seen_at, out_of, IsAway};
+ghost use Rattle.init_lock.specs.Known.{seen_at, IsAway};
 ghost use Rattle.guest_threads.specs.Drawing.{MayDraw};
 ghost use Rattle.guest_threads.specs.Working.{MayBegin};
 ghost use Rattle.library_tests.specs.InHand.{IsInHand};
 
 use crate::steps::{Step, step_of};
 use bodies::{Limits, NoCode, ThreadOutcome};
-use guest_threads::{Guarded, NoGate, run_one};
+use guest_threads::{Common, Guarded, NoGate, run_one};
 use hierarchy::{ClassId, Program};
 use init_core::{ClassRecord, Decision, Event, Kind, Label};
 use init_lock::{Closed, Held, InitTable, Journal, Pass};
@@ -161,6 +161,7 @@ fn passes<W: Wait>(rt: &W, alloc: Global, program: &Program) -> Result<bool, All
         ..Limits::USUAL
     };
     let main = ClassId { number: 0 };
+    let common = Common::new(());
     let worked = run_one(
         rt,
         alloc,
@@ -172,6 +173,7 @@ fn passes<W: Wait>(rt: &W, alloc: Global, program: &Program) -> Result<bool, All
         main,
         second,
         NoCode,
+        &common,
     );
     table.give_back(&mut first, held);
     let is_normal = worked.outcome == ThreadOutcome::Normal;

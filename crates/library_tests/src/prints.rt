@@ -7,7 +7,7 @@ use code::resolve;
 use guest_threads::{Gate, run_threads};
 use hierarchy::{ClassId, Program};
 use init_core::Event;
-use interpreter::{SharedInterpreter, SharedObjects};
+use interpreter::{Interpreter, Objects};
 use std::alloc::Global;
 use std::rt::Clock;
 use std::sync::Wait;
@@ -63,13 +63,14 @@ pub(crate) fn run_code<R: Threads + Wait + Sync, G: Gate + Sync>(
         return None;
     }
     let code = resolve(alloc, program).ok()?;
-    let shared = SharedObjects::new(alloc);
     let mut bodies = Vec::new(alloc);
-    let body = SharedInterpreter::new(rt, alloc, &shared, 0, limits.steps, false);
-    bodies.push(body).ok()?;
-    let body = SharedInterpreter::new(rt, alloc, &shared, 1, limits.steps, false);
-    bodies.push(body).ok()?;
-    run_threads(rt, alloc, program, &code, &mains, bodies, limits, gate).ok()
+    bodies.push(Interpreter::new(alloc, 0, limits.steps)).ok()?;
+    bodies.push(Interpreter::new(alloc, 1, limits.steps)).ok()?;
+    let objects = Objects::new(alloc);
+    run_threads(
+        rt, alloc, program, &code, &mains, bodies, objects, limits, gate,
+    )
+    .ok()
 }
 
 /// A run in which this thread prints first.

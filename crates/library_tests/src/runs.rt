@@ -97,7 +97,17 @@ fn run<R: Threads + Wait + Sync, G: Gate + Sync, A: Gate>(
         return None;
     }
     let bodies = vec![in alloc; NoCode; mains.len()].ok()?;
-    match run_threads(rt, alloc, program, &(), mains, bodies, Limits::USUAL, gate) {
+    match run_threads(
+        rt,
+        alloc,
+        program,
+        &(),
+        mains,
+        bodies,
+        (),
+        Limits::USUAL,
+        gate,
+    ) {
         Ok(report) => {
             let events = report.events.as_slice();
             for event in events {

@@ -5,12 +5,12 @@ ghost use Rattle.std.specs.Str.{is_utf8};
 ghost use Rattle.hierarchy.specs.declared.value.Value.TheVariants.{Int};
 ghost use Rattle.bodies.specs.Doing.{MayDo};
 ghost use Rattle.bodies.specs.declared.does.Does.TheVariants.{Gets, Puts};
-ghost use Rattle.library_tests.specs.AnyBodies.{any_bodies};
+ghost use Rattle.library_tests.specs.AnyBodies.{any_limits};
 ghost use Rattle.library_tests.specs.declared.scripted.Scripted.{Scripted as ScriptedFacts};
 
 use crate::programs::{Question, Row};
 use crate::runs::are_of_files;
-use bodies::{Bodies, Does, Lends, Limit, Limits, Report, ThreadOutcome};
+use bodies::{Bodies, Does, Limit, Limits, Report, ThreadOutcome, Touched};
 use descriptors::BaseType;
 use frames::{Replaced, replacement};
 use guest_threads::{NoGate, run_threads};
@@ -34,6 +34,10 @@ const WRITTEN: Value = Value::Int(7);
 pub(crate) struct Scripted {
     /// Whether initializers throw.
     throws: bool,
+    /// Whether what `main` touches is held by another thread for ever.
+    is_stuck: bool,
+    /// Whether it has come to that.
+    is_held: bool,
     /// The initializers that run.
     depth: usize,
     /// The steps that `main` has done.
@@ -44,8 +48,8 @@ pub(crate) struct Scripted {
 
 /// A class whose first static field may be used: an int without a constant.
 fn ready(alloc: Global, program: &Program, last: Option<Completed>) -> Option<ClassId>
-    ensures gets { IfSome result (λ c. (z : ScriptedFacts) → MayDo program.now (any_bodies (λ (s : ScriptedFacts). s.done ≡ 5)) last (Gets c 0) z) }
-    ensures puts { IfSome result (λ c. (z : ScriptedFacts) → MayDo program.now (any_bodies (λ (s : ScriptedFacts). s.done ≡ 5)) last (Puts c 0 (Int (pos 7))) z) }
+    ensures gets { IfSome result (λ c. (z : ScriptedFacts) → MayDo program.now any_limits last (Gets c 0) z) }
+    ensures puts { IfSome result (λ c. (z : ScriptedFacts) → MayDo program.now any_limits last (Puts c 0 (Int (pos 7))) z) }
 {
     let Completed {
         class,
@@ -73,7 +77,7 @@ fn ready(alloc: Global, program: &Program, last: Option<Completed>) -> Option<Cl
 
 /// The use of a class.
 fn ask(program: &Program, _last: Option<Completed>) -> Does
-    ensures { (z : ScriptedFacts) → MayDo program.now (any_bodies (λ (s : ScriptedFacts). s.done ≡ 5)) _last result z }
+    ensures { (z : ScriptedFacts) → MayDo program.now any_limits _last result z }
 {
     if USED.number < program.len() {
         Does::Asks(USED)
@@ -84,7 +88,7 @@ fn ask(program: &Program, _last: Option<Completed>) -> Does
 
 /// The write of a field, or its read.
 fn use_field(alloc: Global, program: &Program, last: Option<Completed>, is_write: bool) -> Does
-    ensures { (z : ScriptedFacts) → MayDo program.now (any_bodies (λ (s : ScriptedFacts). s.done ≡ 5)) last result z }
+    ensures { (z : ScriptedFacts) → MayDo program.now any_limits last result z }
 {
     match ready(alloc, program, last) {
         Some(class) if is_write => Does::Puts {
@@ -100,7 +104,7 @@ fn use_field(alloc: Global, program: &Program, last: Option<Completed>, is_write
 /// The print of a text.
 fn print(alloc: Global, _program: &Program, _last: Option<Completed>, text: &[u8]) -> Does
     requires { IsTrue (is_utf8 text.now) }
-    ensures { (z : ScriptedFacts) → MayDo _program.now (any_bodies (λ (s : ScriptedFacts). s.done ≡ 5)) _last result z }
+    ensures { (z : ScriptedFacts) → MayDo _program.now any_limits _last result z }
 {
     match Text::copied(alloc, text) {
         Ok(text) => Does::Prints(text),
@@ -111,7 +115,7 @@ fn print(alloc: Global, _program: &Program, _last: Option<Completed>, text: &[u8
 /// The end of an initializer.
 #[tactic(auto, using(hierarchy::specs::Subclasses::itself))]
 fn end(program: &Program, _last: Option<Completed>, throws: bool) -> Does
-    ensures { (z : ScriptedFacts) → MayDo program.now (any_bodies (λ (s : ScriptedFacts). s.done ≡ 5)) _last result z }
+    ensures { (z : ScriptedFacts) → MayDo program.now any_limits _last result z }
 {
     if throws {
         return Does::Over(Some(program.built_in(BuiltIn::Throwable)));
@@ -122,11 +126,14 @@ fn end(program: &Program, _last: Option<Completed>, throws: bool) -> Does
 impl Bodies for Scripted {
     type Code = ();
 
-    ghost use Rattle.library_tests.specs.AnyBodies.{any_bodies, may_come_to_it, may_wait};
+    type Shared = ();
+
+    ghost use Rattle.std.specs.Prelude.{true};
+    ghost use Rattle.library_tests.specs.AnyBodies.{any_bodies, may_come_to_it};
 
     ghost is_code = { λ code p. Unit {0} };
 
-    ghost making = { λ p. any_bodies (λ s. s.done ≡ 5) };
+    ghost making = { λ p. any_bodies (λ s. s.is_held ≡ true) };
 
     fn start(&mut self, _alloc: Global, _program: &Program, _code: &(), _class: ClassId) {
         self.depth = self.depth.saturating_add(1);
@@ -152,10 +159,31 @@ impl Bodies for Scripted {
             1 | 3 => ask(program, last),
             2 => use_field(alloc, program, last, true),
             4 => use_field(alloc, program, last, false),
-            5 => Does::Waits,
+            5 => {
+                self.is_held = self.is_stuck;
+                Does::Touches
+            }
             6 if self.read == Some(WRITTEN) => print(alloc, program, last, b"7"),
             _ => Does::Over(None),
         }
+    }
+
+    fn touch(
+        &mut self,
+        _alloc: Global,
+        _program: &Program,
+        _code: &(),
+        _shared: &mut (),
+    ) -> Result<Touched, AllocError> {
+        Ok(if self.is_held {
+            Touched::Held
+        } else {
+            Touched::Done
+        })
+    }
+
+    fn waits(&self, _program: &Program, _shared: &()) -> bool {
+        self.is_held
     }
 
     fn get(&mut self, _program: &Program, value: Value) {
@@ -170,6 +198,7 @@ impl Bodies for Scripted {
         &mut self,
         _alloc: Global,
         program: &Program,
+        _shared: &mut (),
         thrown: ClassId,
     ) -> Result<ClassId, AllocError> {
         Ok(match replacement(program, thrown) {
@@ -178,25 +207,11 @@ impl Bodies for Scripted {
         })
     }
 
-    ghost waits_on = { may_wait };
+    fn end(&mut self, _program: &Program, _shared: &mut ()) {}
+
+    ghost waits_on = { λ p s u z h last again d touches waits does. tt };
 
     ghost limits_stay = { may_come_to_it };
-}
-
-impl Lends<()> for Scripted {
-    ghost use Rattle.bodies.specs.Lending.{nothing_shared};
-
-    ghost lending = { nothing_shared };
-
-    fn exchange(&mut self, _shared: &mut ()) {}
-
-    fn waits(&self, _program: &Program, _shared: &()) -> bool {
-        self.done == 5
-    }
-
-    fn end(&mut self, _program: &Program) {}
-
-    ghost limits_lent = { λ p l s shared h. h };
 }
 
 /// A run of a main class by such bodies, and what comes of it.
@@ -233,6 +248,8 @@ fn run<R: Threads + Wait + Sync>(
     let mut bodies = Vec::new(alloc);
     let body = Scripted {
         throws: script.throws,
+        is_stuck: script.ordered,
+        is_held: false,
         depth: 0,
         done: 0,
         read: None,
@@ -248,6 +265,7 @@ fn run<R: Threads + Wait + Sync>(
             &(),
             &mains,
             bodies,
+            (),
             Limits::USUAL,
             &NoGate,
         )

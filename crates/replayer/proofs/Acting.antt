@@ -39,7 +39,6 @@ use Rattle.bodies.specs.declared.report.Limit.TheVariants.{Steps}
 use Rattle.bodies.specs.declared.does.Does.{Does}
 use Rattle.bodies.specs.declared.does.Does.TheVariants as does
 use Rattle.bodies.specs.Doing.{MayDo}
-use Rattle.bodies.specs.Lending.{Lending, Lent, DoesWith, at_once, waited}
 use Rattle.bodies.specs.Making.{Making, stays, comes, maker_of}
 use Rattle.bodies.specs.ThreadStands.{OutsideOf, NoneOpenOf, ThreadStands}
 use Rattle.bodies.proofs.Asking.{IsBodyAt, of_main, of_class as of_a_class, body_at, looks_at, runs_at, running_at, not_running, body_error}
@@ -48,7 +47,7 @@ use Rattle.bodies.proofs.ThreadSteps.{allows_use, asks_one, uses_one, goes_of, p
 use Rattle.init_core.proofs.InterleavingParts.{no_more}
 use Rattle.replayer.specs.declared.log.EventLog.{EventLog}
 use Rattle.replayer.specs.declared.thread.Thread.{Thread}
-use Rattle.replayer.specs.Going.{Going, GoesOrEnds, HasStepped, IsWhy, IsInBody, HasComeTo, IsDoing, WaitsInside, IsOver, IsPaused, at_class, in_body, Resting, IsSameThread, TurnsTo, turn_by}
+use Rattle.replayer.specs.Going.{Going, GoesOrEnds, HasStepped, IsWhy, IsInBody, HasComeTo, IsDoing, IsHeldUp, WaitsInside, IsOver, IsPaused, at_class, in_body, Resting, IsSameThread, TurnsTo, turn_by}
 use Rattle.replayer.specs.declared.thread.Turn.{Turn}
 use Rattle.replayer.specs.declared.thread.Turn.TheVariants as turn
 use Rattle.replayer.specs.Logged.{IsLog, IsStateAfter, histories}
@@ -74,6 +73,11 @@ pub no_wait_by : {A : Type 0} (t : Turn) (o : Option Outcome) → t ≡ turn_by 
 no_wait_by t None is q = cc
 no_wait_by t (Some r) is q = cc
 
+-- what two facts of a value come to, where there is one
+pub if_both : {T E : Type 0} (P Q R : T → Type 0) (r : Result T E) → ((x : T) → P x → Q x → R x) → IfOk r P → IfOk r Q → IfOk r R
+if_both P Q R (Ok x) f p q = f x p q
+if_both P Q R (Err e) f p q = tt
+
 -- what holds of a turn in which an event was made, where it was
 pub by_event : {T E : Type 0} (P : Turn → Type 0) (made : Result T E) (r : Result Turn E) → MatchResult made (λ x. r ≡ Ok turn.Event) (λ e. r ≡ Err e) → OnOk made (P turn.Event) → IfOk r P
 by_event {E = E} P (Ok x) r is h = subst (λ (y : Result Turn E). IfOk y P) (sym is) h
@@ -83,11 +87,6 @@ by_event {E = E} P (Err e) r is h = subst (λ (y : Result Turn E). IfOk y P) (sy
 pub no_wait_event : {T E : Type 0} (A : Type 0) (made : Result T E) (r : Result Turn E) → MatchResult made (λ x. r ≡ Ok turn.Event) (λ e. r ≡ Err e) → IfOk r (λ t. t ≡ turn.Waits → A)
 no_wait_event {E = E} A (Ok x) r is = subst (λ (y : Result Turn E). IfOk y (λ t. t ≡ turn.Waits → A)) (sym is) (λ q. absurd cc)
 no_wait_event {E = E} A (Err e) r is = subst (λ (y : Result Turn E). IfOk y (λ t. t ≡ turn.Waits → A)) (sym is) tt
-
--- what a body does that has waited it does in the end
-pub waits_with : {S H : Type 0} {L : Lending S H} {M : Making S} {last : Option Completed} {d : Does} {s u z : Lent S H} → DoesWith L M last does.Waits s u → DoesWith L M last d u z → DoesWith L M last d s z
-waits_with (at_once first) next = waited first next
-waits_with (waited first more) next = waited first (waits_with more next)
 
 module _ {S : Type 0} (p : LinkedProgram) (M : Making S) where
   not_of_main : {A : Type 0} (w : Thread S) → IsInBody w → w.in_main ≡ false → w.procedure.frames ≡ [] → A
@@ -162,7 +161,7 @@ module _ {S : Type 0} (p : LinkedProgram) (M : Making S) where
   sees_print : (t : ℕ) (events : List Event) (text : List ℕ) → SeesMore (histories events) (λ d. []) (histories (events ++ printed t text ∷ []))
   sees_print t events text = record { adds = λ d. filter-append (λ e. is_class d e.class) events (printed t text ∷ []); agrees = λ d. tt }
 
-  pub printed_log : (l m : EventLog) (t : ℕ) (text : List ℕ) → t < l.threads.value → IsLog p l → (z : S) → MayDo p M None (does.Prints text) z → m.states ≡ l.states → m.threads ≡ l.threads → m.events.items ≡ l.events.items ++ printed t text ∷ [] → IsLog p m
+  pub printed_log : (l m : EventLog) (t : ℕ) (text : List ℕ) → t < l.threads.value → IsLog p l → (z : S) → MayDo p M.limits None (does.Prints text) z → m.states ≡ l.states → m.threads ≡ l.threads → m.events.items ≡ l.events.items ++ printed t text ∷ [] → IsLog p m
   printed_log l m t text low log z is states threads more = record {
     few = subst (λ n. n.value ≤ THREADS) (sym threads) log.few;
     count = ap (λ ss. length ss.items) states ∙ log.count;
@@ -295,30 +294,30 @@ module _ {S : Type 0} (p : LinkedProgram) (M : Making S) where
 
   -- ---- a body that goes on
 
-  -- what it does next, also after it has waited
-  pub next_does : (l : EventLog) (w : Thread S) (last : Option Completed) (d : Does) (z : S) → ((s u x : S) (o : Option Completed) → M.does s o does.Waits u → M.does u o d x → M.does s o d x) → last ≡ w.procedure.last → M.does w.bodies last d z → MayDo p M last d z → IsInBody w → GoesOn w.procedure.last → Resting p M l w → IsDoing p M l d (record w { bodies = z })
+  -- what it does next, also after it was held up
+  pub next_does : (l : EventLog) (w : Thread S) (last : Option Completed) (d : Does) (z : S) → ((s u x : S) (o : Option Completed) → M.does s o does.Touches u → M.waits u → M.does u o d x → M.does s o d x) → last ≡ w.procedure.last → M.does w.bodies last d z → MayDo p M.limits last d z → IsInBody w → GoesOn w.procedure.last → Resting p M l w → IsDoing p M l d (record w { bodies = z })
   next_does l w last d z law is made fits body on resting = ⊎_elim fresh again resting where
     does_now : M.does w.bodies w.procedure.last d z
     does_now = subst (λ (o : Option Completed). M.does w.bodies o d z) is made
 
-    fits_now : MayDo p M w.procedure.last d z
-    fits_now = subst (λ (o : Option Completed). MayDo p M o d z) is fits
+    fits_now : MayDo p M.limits w.procedure.last d z
+    fits_now = subst (λ (o : Option Completed). MayDo p M.limits o d z) is fits
 
     fresh : Going p M l w → IsDoing p M l d (record w { bodies = z })
     fresh g = record { from = w.bodies; going = g; body = record { requests = body.requests; main = body.main }; goes_on = on; does = does_now; fits = fits_now }
 
-    again : IsDoing p M l does.Waits w → IsDoing p M l d (record w { bodies = z })
-    again x = record { from = x.from; going = x.going; body = record { requests = body.requests; main = body.main }; goes_on = on; does = law x.from w.bodies z w.procedure.last x.does does_now; fits = fits_now }
+    again : IsHeldUp p M l w → IsDoing p M l d (record w { bodies = z })
+    again x = record { from = x.doing.from; going = x.doing.going; body = record { requests = body.requests; main = body.main }; goes_on = on; does = law x.doing.from w.bodies z w.procedure.last x.doing.does x.waits does_now; fits = fits_now }
 
-  -- it stands where it did, where it isn't in a body that has waited
+  -- it stands where it did, where it isn't in a body that was held up
   pub stands_still : (l : EventLog) (w : Thread S) → (IsInBody w → ⊥) → Resting p M l w → Going p M l w
-  stands_still l w other resting = ⊎_elim (λ g. g) (λ x. absurd (other (record { requests = x.body.requests; main = x.body.main }))) resting
+  stands_still l w other resting = ⊎_elim (λ g. g) (λ x. absurd (other (record { requests = x.doing.body.requests; main = x.doing.body.main }))) resting
 
   -- ---- where the machine may end a body
 
   -- where it stands
   pub has_come : (l : EventLog) (w : Thread S) → IsInBody w → Resting p M l w → HasComeTo p M l w
-  has_come l w body resting = ⊎_elim (λ g. record { from = w.bodies; going = g; body = body; come = stays }) (λ x. record { from = x.from; going = x.going; body = body; come = comes does.Waits x.goes_on x.does }) resting
+  has_come l w body resting = ⊎_elim (λ g. record { from = w.bodies; going = g; body = body; come = stays }) (λ x. record { from = x.doing.from; going = x.doing.going; body = body; come = comes does.Touches x.doing.goes_on x.doing.does }) resting
 
   -- or at what it does next
   pub has_come_on : (l : EventLog) (w : Thread S) (d : Does) → IsDoing p M l d w → HasComeTo p M l w
@@ -326,11 +325,7 @@ module _ {S : Type 0} (p : LinkedProgram) (M : Making S) where
 
   -- why the machine is ending it
   pub why_ended : (l : EventLog) (w : Thread S) (e : ClassId) → ending_error w.procedure ≡ Some e → Resting p M l w → IsWhy p M w.bodies l.threads.value w.gave_up e
-  why_ended l w e q resting = ⊎_elim (λ g. g.reason e q) (λ x. absurd (let z : None ≡ Some e = sym (goes_so w x.body x.goes_on) ∙ q in cc)) resting
-
-  -- where it came to the limit of its steps
-  pub why_spent : (l : EventLog) (w : Thread S) (e : ClassId) → e ≡ limit_error p → IsDoing p M l (does.Ended Steps) w → IsWhy p M w.bodies l.threads.value false e
-  why_spent l w e is x = λ limits may. (is, x.fits.0)
+  why_ended l w e q resting = ⊎_elim (λ g. g.reason e q) (λ x. absurd (let z : None ≡ Some e = sym (goes_so w x.doing.body x.doing.goes_on) ∙ q in cc)) resting
 
   -- the machine ended an active use in the body
   pub was_ended : (w : Thread S) (e : ClassId) → IsInBody w → ending_error w.procedure ≡ Some e → FitsBody p (given_up w.procedure.last) (Ended e)
@@ -355,7 +350,7 @@ module _ {S : Type 0} (p : LinkedProgram) (M : Making S) where
 
   -- nor one that is at something that another thread holds
   pub kept_calm : {W : Bool → S → Type 0} (l : EventLog) (w : Thread S) → WaitsInside p M W l w → w.gave_up ≡ false
-  kept_calm l w x = ⊎_elim (λ g. not_gone w.gave_up (λ y. g.gone y (goes_so w x.body x.goes_on))) (λ d. hasnt_given_up l w does.Waits d) x.resting
+  kept_calm l w x = ⊎_elim (λ g. not_gone w.gave_up (λ y. g.gone y (goes_so w x.body x.goes_on))) (λ d. hasnt_given_up l w does.Touches d.doing) x.resting
 
   -- where a body is at such a thing
   pub is_kept : {W : Bool → S → Type 0} (l : EventLog) (w : Thread S) → IsInBody w → ending_error w.procedure ≡ None → Resting p M l w → W true w.bodies → IsPaused p M W l w
@@ -412,7 +407,7 @@ module _ {S : Type 0} (p : LinkedProgram) (M : Making S) where
   runs_still l w c q n resting = let x = runs_at w.procedure c false q n in stands_at l w n (λ e. let z : frame c (Running false) ∷ x.below ≡ [] = sym x.frames ∙ e in cc) resting
 
   pub main_rests : (l : EventLog) (w : Thread S) → next_of w.procedure.frames ≡ next.Idle → w.in_main ≡ true → Resting p M l w → IsInBody w
-  main_rests l w q b resting = ⊎_elim (λ g. main_body p M l w q b g) (λ x. record { requests = x.body.requests; main = x.body.main }) resting
+  main_rests l w q b resting = ⊎_elim (λ g. main_body p M l w q b g) (λ x. record { requests = x.doing.body.requests; main = x.doing.body.main }) resting
 
   -- and else the body that waits is ended
   pub paused_come : {W : Bool → S → Type 0} (l : EventLog) (w : Thread S) → ((c : ClassId) → next_of w.procedure.frames ≢ next.Look c) → IsPaused p M W l w → HasComeTo p M l w

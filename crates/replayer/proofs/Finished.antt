@@ -26,7 +26,7 @@ use Rattle.bodies.specs.declared.report.Report.{Report}
 use Rattle.bodies.specs.declared.report.ThreadOutcome.{ThreadOutcome}
 use Rattle.bodies.specs.declared.report.ThreadOutcome.TheVariants as outcome
 use Rattle.bodies.specs.Output.{output_of}
-use Rattle.bodies.specs.Lending.{Lending, Lent, lent_at_start, lent_bodies}
+use Rattle.bodies.specs.Sharing.{Sharing, Used, used_at_start, used_bodies}
 use Rattle.bodies.specs.Making.{Making, maker_of}
 use Rattle.bodies.specs.Runs.{IsOutcome}
 use Rattle.replayer.specs.declared.log.EventLog.{EventLog}
@@ -80,8 +80,8 @@ module _ (p : LinkedProgram) where
 mine_one : (t : ℕ) → mine t (InProgress t) ≡ 1
 mine_one t = rw (eq-eqb t t refl) refl
 
-module _ {S H : Type 0} (p : LinkedProgram) (M : Making (Lent S H)) where
-  outcome_is : (limits : Limits) (threads : ℕ) → MayGiveUp M threads limits → (end : Lent S H) (r : Outcome) (gave_up : Bool) → ((e : ClassId) → r ≡ Ended e → IsWhy p M end threads gave_up e) → IsOutcome p M limits end r (outcome_by gave_up r)
+module _ {S H : Type 0} (p : LinkedProgram) (M : Making (Used S H)) where
+  outcome_is : (limits : Limits) (threads : ℕ) → MayGiveUp M threads limits → (end : Used S H) (r : Outcome) (gave_up : Bool) → ((e : ClassId) → r ≡ Ended e → IsWhy p M end threads gave_up e) → IsOutcome p M limits end r (outcome_by gave_up r)
   outcome_is limits threads may end Normal gave_up reason = refl
   outcome_is limits threads may end (Abrupt e) gave_up reason = refl
   outcome_is limits threads may end (Ended e) gave_up reason = reason e refl limits may
@@ -93,7 +93,7 @@ module _ {S H : Type 0} (p : LinkedProgram) (M : Making (Lent S H)) where
   not_memory false (Ended e) q = cc
 
   -- where a thread of the run has ended
-  record HasEndedAt (r : Run (Lent S H) H) (t : ℕ) (w : Thread (Lent S H)) : Type 0 where
+  record HasEndedAt (r : Run (Used S H) H) (t : ℕ) (w : Thread (Used S H)) : Type 0 where
     result : Outcome
     low : t < length r.threads.items
     is : slice_index_or r.threads.items t w ≡ w
@@ -101,39 +101,39 @@ module _ {S H : Type 0} (p : LinkedProgram) (M : Making (Lent S H)) where
     done : w.done ≡ Some result
     over : HasLeft p M r.log result w
 
-  same_item : (r : Run (Lent S H) H) (t : ℕ) (w other : Thread (Lent S H)) → t < length r.threads.items → slice_index_or r.threads.items t other ≡ slice_index_or r.threads.items t w
+  same_item : (r : Run (Used S H) H) (t : ℕ) (w other : Thread (Used S H)) → t < length r.threads.items → slice_index_or r.threads.items t other ≡ slice_index_or r.threads.items t w
   same_item r t w other low = at r.threads.items t low where
-    at : (ws : List (Thread (Lent S H))) (t : ℕ) → t < length ws → slice_index_or ws t other ≡ slice_index_or ws t w
+    at : (ws : List (Thread (Used S H))) (t : ℕ) → t < length ws → slice_index_or ws t other ≡ slice_index_or ws t w
     at [] t low = absurd (omega (arith, low))
     at (v ∷ ws) zero low = refl
     at (v ∷ ws) (suc t) low = at ws t (omega (arith, low))
 
-  over_of : (r : Run (Lent S H) H) (w : Thread (Lent S H)) (x : Outcome) → w.done ≡ Some x → IsThere p M r.log w → HasLeft p M r.log x w
+  over_of : (r : Run (Used S H) H) (w : Thread (Used S H)) (x : Outcome) → w.done ≡ Some x → IsThere p M r.log w → HasLeft p M r.log x w
   over_of r w x done there = subst (λ (o : Option Outcome). MatchOption o (Resting p M r.log w) (λ x. HasLeft p M r.log x w)) done there
 
-  thread_at : (r : Run (Lent S H) H) → AreGoing p M r → AllThreads (λ t w. HasDone w) r → (t : ℕ) → t < length r.threads.items → (w : Thread (Lent S H)) × HasEndedAt r t w
+  thread_at : (r : Run (Used S H) H) → AreGoing p M r → AllThreads (λ t w. HasDone w) r → (t : ℕ) → t < length r.threads.items → (w : Thread (Used S H)) × HasEndedAt r t w
   thread_at r going all t low =
       let any = some_of r.threads.items t low in
       let w = slice_index_or r.threads.items t any in
       let d = all t any low in
       (w, record { result = d.0; low = low; is = same_item r t any w low; number = going.numbers t any low; done = d.1; over = over_of r w d.0 d.1 (going.threads t any low) })
 
-  word_at : (r : Run (Lent S H) H) (t : ℕ) (w : Thread (Lent S H)) (h : HasEndedAt r t w) → ThreadWordOf p t (maker_of p M) w.start.value w.main (of_thread t r.log.events.items) h.result h.over.end
+  word_at : (r : Run (Used S H) H) (t : ℕ) (w : Thread (Used S H)) (h : HasEndedAt r t w) → ThreadWordOf p t (maker_of p M) w.start.value w.main (of_thread t r.log.events.items) h.result h.over.end
   word_at r t w h = subst (λ (n : ℕ). ThreadWordOf p n (maker_of p M) w.start.value w.main (of_thread n r.log.events.items) h.result h.over.end) h.number h.over.word
 
-  main_at : (r : Run (Lent S H) H) (t : ℕ) (w : Thread (Lent S H)) → HasEndedAt r t w → slice_get (mains_of r) t ≡ Some w.main
+  main_at : (r : Run (Used S H) H) (t : ℕ) (w : Thread (Used S H)) → HasEndedAt r t w → slice_get (mains_of r) t ≡ Some w.main
   main_at r t w h = slice_get_map (λ v. v.main) r.threads.items t w w h.low h.is
 
-  start_at : (r : Run (Lent S H) H) (t : ℕ) (w : Thread (Lent S H)) → HasEndedAt r t w → slice_get (starts_of r) t ≡ Some w.start.value
+  start_at : (r : Run (Used S H) H) (t : ℕ) (w : Thread (Used S H)) → HasEndedAt r t w → slice_get (starts_of r) t ≡ Some w.start.value
   start_at r t w h = slice_get_map (λ v. v.start.value) r.threads.items t w w h.low h.is
 
-  outcome_at : (r : Run (Lent S H) H) (t : ℕ) (w : Thread (Lent S H)) (h : HasEndedAt r t w) → slice_get (outcomes_of r) t ≡ Some (outcome_by w.gave_up h.result)
+  outcome_at : (r : Run (Used S H) H) (t : ℕ) (w : Thread (Used S H)) (h : HasEndedAt r t w) → slice_get (outcomes_of r) t ≡ Some (outcome_by w.gave_up h.result)
   outcome_at r t w h = slice_get_map (λ v. outcome_in v.done (outcome_by v.gave_up)) r.threads.items t w w h.low h.is ∙ ap (λ (o : Option Outcome). Some (outcome_in o (outcome_by w.gave_up))) h.done
 
-  pub many_mains : (r : Run (Lent S H) H) → length (mains_of r) ≡ length r.threads.items
+  pub many_mains : (r : Run (Used S H) H) → length (mains_of r) ≡ length r.threads.items
   many_mains r = length-map r.threads.items (λ w. w.main)
 
-  module _ (r : Run (Lent S H) H) (going : AreGoing p M r) (all : AllThreads (λ t w. HasDone w) r) where
+  module _ (r : Run (Used S H) H) (going : AreGoing p M r) (all : AllThreads (λ t w. HasDone w) r) where
     events_low : AllByRecursion (λ e. IsProgramEvent p (length (mains_of r)) e) r.log.events.items
     events_low = subst (λ (n : ℕ). AllByRecursion (λ e. IsProgramEvent p n e) r.log.events.items) (going.count ∙ sym (many_mains r)) going.log.events
 
@@ -173,7 +173,7 @@ module _ {S H : Type 0} (p : LinkedProgram) (M : Making (Lent S H)) where
           o,
           outcome_at r t w.0 h,
           subst (λ (c : ClassId). IsTurnsOf p M r.shared.first.value r.shared.turns.items start limits t c events o) main
-              (subst (λ (s : Lent S H). IsTurnsOf p M r.shared.first.value r.shared.turns.items s limits t w.0.main events o) begin
+              (subst (λ (s : Used S H). IsTurnsOf p M r.shared.first.value r.shared.turns.items s limits t w.0.main events o) begin
               (record {
                 run = record { result = h.result; end = h.over.end; word = word_at r t w.0 h; outcome = outcome_is limits (length (mains_of r)) may h.over.end h.result w.0.gave_up (λ e q. subst (λ (n : ℕ). IsWhy p M h.over.end n w.0.gave_up e) (going.count ∙ sym many) (h.over.reason e q)) };
                 last = w.0.bodies;
@@ -192,7 +192,7 @@ module _ {S H : Type 0} (p : LinkedProgram) (M : Making (Lent S H)) where
     none_to_come : AreToCome (outcomes_of r) r [] []
     none_to_come t other low x done = (refl, tt, slice_get_map (λ v. outcome_in v.done (outcome_by v.gave_up)) r.threads.items t other (slice_index_or r.threads.items t other) low refl ∙ ap (λ (o : Option Outcome). Some (outcome_in o (outcome_by (slice_index_or r.threads.items t other).gave_up))) done)
 
-    follows : (U : List (ℕ × H) → ℕ → Lent S H → Type 0) (W : List (ℕ × H) → ℕ → Bool → Lent S H → Type 0) (order later : List ℕ) (begin : Run (Lent S H) H) → AreGone [] begin → begin.log.events.items ≡ [] → begin.shared.turns.items ≡ [] → Leads p M U W order [] begin [] later r →
+    follows : (U : List (ℕ × H) → ℕ → Used S H → Type 0) (W : List (ℕ × H) → ℕ → Bool → Used S H → Type 0) (order later : List ℕ) (begin : Run (Used S H) H) → AreGone [] begin → begin.log.events.items ≡ [] → begin.shared.turns.items ≡ [] → Leads p M U W order [] begin [] later r →
         Follows p M U W (starts_of r) (mains_of r) (outcomes_of r) order [] [] [] r.log.events.items r.shared.turns.items
     follows U W order later begin fresh none no_turns leads =
         let gone = leads.have_gone fresh in
@@ -211,10 +211,10 @@ module _ {S H : Type 0} (p : LinkedProgram) (M : Making (Lent S H)) where
         (leads.follows fresh (outcomes_of r) [] [] none_to_come f))))
 
 -- what the threads of a run that is over have done is an ordered run
-pub ordered : {S H : Type 0} (p : LinkedProgram) (L : Lending S H) (M : Making S) (first : H) (r begin : Run (Lent S H) H) (starts : List S) (mains : List ClassId) (order later : List ℕ) (report : Report) → AreGoing p (lent_bodies L M) r → AllThreads (λ t w. HasDone w) r → AreInTurn r → r.shared.first.value ≡ first →
-    AreGone [] begin → begin.log.events.items ≡ [] → begin.shared.turns.items ≡ [] → mains_of begin ≡ mains → starts_of begin ≡ map lent_at_start starts → Leads p (lent_bodies L M) (HasUsed first) (WaitsAfter L M first) order [] begin [] later r →
-    report.outcomes ≡ outcomes_of r → report.events ≡ r.log.events.items → report.labels ≡ labels_of p r.log.events.items → report.output ≡ output_of r.log.events.items → IsOrderedRunOf p L M first starts mains order report
-ordered {S = S} {H = H} p L M first r begin starts mains order later report going all in_turn is_first fresh none no_turns is_mains is_starts leads outcomes events labels output = record {
+pub ordered : {S H : Type 0} (p : LinkedProgram) (M : Sharing S H) (first : H) (r begin : Run (Used S H) H) (starts : List S) (mains : List ClassId) (order later : List ℕ) (report : Report) → AreGoing p (used_bodies M) r → AllThreads (λ t w. HasDone w) r → AreInTurn r → r.shared.first.value ≡ first →
+    AreGone [] begin → begin.log.events.items ≡ [] → begin.shared.turns.items ≡ [] → mains_of begin ≡ mains → starts_of begin ≡ map used_at_start starts → Leads p (used_bodies M) (HasUsed first) (WaitsAfter M first) order [] begin [] later r →
+    report.outcomes ≡ outcomes_of r → report.events ≡ r.log.events.items → report.labels ≡ labels_of p r.log.events.items → report.output ≡ output_of r.log.events.items → IsOrderedRunOf p M first starts mains order report
+ordered {S = S} {H = H} p M first r begin starts mains order later report going all in_turn is_first fresh none no_turns is_mains is_starts leads outcomes events labels output = record {
   run = λ limits may. record {
     legal = subst (λ (es : List Event). IsLegal p mains es) (sym events) (subst (λ (ms : List ClassId). IsLegal p ms r.log.events.items) here (legal p B r going all));
     events = subst (λ (es : List Event). AllByRecursion (λ e. IsProgramEvent p (length mains) e) es) (sym events) (subst (λ (ms : List ClassId). AllByRecursion (λ e. IsProgramEvent p (length ms) e) r.log.events.items) here (events_low p B r going all));
@@ -227,27 +227,27 @@ ordered {S = S} {H = H} p L M first r begin starts mains order later report goin
   memory = λ t q. no_memory p B r going all t (ap (λ (os : List ThreadOutcome). slice_get os t) (sym outcomes) ∙ q);
   turns = r.shared.turns.items;
   threads = all_threads;
-  follows = subst (λ (ss : List (Lent S H)). Follows p B (HasUsed first) waits_so ss mains report.outcomes order [] [] [] report.events r.shared.turns.items) begun
+  follows = subst (λ (ss : List (Used S H)). Follows p B (HasUsed first) waits_so ss mains report.outcomes order [] [] [] report.events r.shared.turns.items) begun
       (subst (λ (ms : List ClassId). Follows p B (HasUsed first) waits_so (starts_of r) ms report.outcomes order [] [] [] report.events r.shared.turns.items) here
       (subst (λ (os : List ThreadOutcome). Follows p B (HasUsed first) waits_so (starts_of r) (mains_of r) os order [] [] [] report.events r.shared.turns.items) (sym outcomes)
       (subst (λ (es : List Event). Follows p B (HasUsed first) waits_so (starts_of r) (mains_of r) (outcomes_of r) order [] [] [] es r.shared.turns.items) (sym events) (follows p B r going all (HasUsed first) waits_so order later begin fresh none no_turns leads))));
 } where
-  B : Making (Lent S H)
-  B = lent_bodies L M
+  B : Making (Used S H)
+  B = used_bodies M
 
-  waits_so : List (ℕ × H) → ℕ → Bool → Lent S H → Type 0
-  waits_so = WaitsAfter L M first
+  waits_so : List (ℕ × H) → ℕ → Bool → Used S H → Type 0
+  waits_so = WaitsAfter M first
 
   here : mains_of r ≡ mains
   here = leads.mains ∙ is_mains
 
-  begun : starts_of r ≡ map lent_at_start starts
+  begun : starts_of r ≡ map used_at_start starts
   begun = leads.starts ∙ is_starts
 
-  all_threads : (limits : Limits) → MayGiveUp B (length mains) limits → AreTurnsOf p B first r.shared.turns.items (map lent_at_start starts) mains limits report.events report.outcomes
+  all_threads : (limits : Limits) → MayGiveUp B (length mains) limits → AreTurnsOf p B first r.shared.turns.items (map used_at_start starts) mains limits report.events report.outcomes
   all_threads limits may =
-      subst (λ (h : H). AreTurnsOf p B h r.shared.turns.items (map lent_at_start starts) mains limits report.events report.outcomes) is_first
-      (subst (λ (ss : List (Lent S H)). AreTurnsOf p B r.shared.first.value r.shared.turns.items ss mains limits report.events report.outcomes) begun
+      subst (λ (h : H). AreTurnsOf p B h r.shared.turns.items (map used_at_start starts) mains limits report.events report.outcomes) is_first
+      (subst (λ (ss : List (Used S H)). AreTurnsOf p B r.shared.first.value r.shared.turns.items ss mains limits report.events report.outcomes) begun
       (subst (λ (ms : List ClassId). AreTurnsOf p B r.shared.first.value r.shared.turns.items (starts_of r) ms limits report.events report.outcomes) here
       (subst (λ (os : List ThreadOutcome). AreTurnsOf p B r.shared.first.value r.shared.turns.items (starts_of r) (mains_of r) limits report.events os) (sym outcomes)
       (subst (λ (es : List Event). AreTurnsOf p B r.shared.first.value r.shared.turns.items (starts_of r) (mains_of r) limits es (outcomes_of r)) (sym events)

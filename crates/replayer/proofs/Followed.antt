@@ -260,7 +260,7 @@ module _ {S H : Type 0} (p : LinkedProgram) (M : Making S) (U : List (ℕ × H) 
     )
     by w is calm (in_body x) = inr (⊎_elim
         (λ y. record { before = w.bodies; body = in_body_at t s other w w.bodies low is g y x.body; now = w.bodies; come = inl refl; waits = x.waits })
-        (λ d. record { before = d.from; body = in_body_at t s other w d.from low is g d.going x.body; now = w.bodies; come = inr d.does; waits = x.waits })
+        (λ h. let d = h.doing in record { before = d.from; body = in_body_at t s other w d.from low is g d.going x.body; now = w.bodies; come = inr d.does; waits = x.waits })
         x.resting)
 
   -- a thread that has ended

@@ -1,4 +1,5 @@
 pub mod Turned
+pub mod Touching
 pub mod JustMade
 pub mod Logged
 pub mod Stepping
@@ -8,4 +9,4 @@ pub mod Replaced
 pub mod Fresh
 pub mod Followed
 pub mod Finished
-pub mod Alone
+pub mod Freely

@@ -54,7 +54,10 @@ module _ {S : Type 0} (p : LinkedProgram) (M : Making S) where
 
   others_rest : (t : ℕ) (l m : EventLog) (w : Thread S) → HasMade t l m → IsLog p m → w.number ≢ t → Resting p M l w → Resting p M m w
   others_rest t l m w made log other (inl g) = inl (others_going t l m w made log other g)
-  others_rest t l m w made log other (inr d) = inr (record { from = d.from; going = others_going t l m (record w { bodies = d.from }) made log other d.going; body = d.body; goes_on = d.goes_on; does = d.does; fits = d.fits })
+  others_rest t l m w made log other (inr held) = inr (record {
+    doing = (let d = held.doing in record { from = d.from; going = others_going t l m (record w { bodies = d.from }) made log other d.going; body = d.body; goes_on = d.goes_on; does = d.does; fits = d.fits });
+    waits = held.waits;
+  })
 
   others_over : (t : ℕ) (l m : EventLog) (r : Outcome) (w : Thread S) → HasMade t l m → w.number ≢ t → HasLeft p M l r w → HasLeft p M m r w
   others_over t l m r w made other o = record {

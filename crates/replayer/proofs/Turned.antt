@@ -1,11 +1,10 @@
 -- The turns that threads have had, one after the other.
 use Rattle.std.proofs.Common.{◌≡◌, ◌≢◌, ◌⊎◌, inl, inr, ℕ, ◌<◌, ◌==◌, List, [], ◌∷◌, ◌++◌, Bool, true, false, length, refl, sym, ap, subst, ◌∙◌, append-nil, append_assoc, arith}
 use Rattle.std.specs.Prelude.{slice_index_or}
-use Rattle.std.proofs.lemmas.Bool.{eq-eqb, ne_eqb}
+use Rattle.std.proofs.lemmas.Bool.{ne_eqb}
 use Rattle.std.proofs.lemmas.Bool.Decides.{eqb_tells}
 use Rattle.hierarchy.specs.LinkedProgram.{LinkedProgram}
-use Rattle.bodies.specs.declared.report.Limit.{Limit}
-use Rattle.bodies.specs.Lending.{Lending, Lent, StepsWith}
+use Rattle.bodies.specs.Sharing.{Used}
 use Rattle.bodies.specs.Making.{Making}
 use Rattle.replayer.specs.declared.run.Run.{Run}
 use Rattle.replayer.specs.declared.shared.Shared.{Shared}
@@ -40,9 +39,9 @@ module _ {H : Type 0} where
   pub no_turn : (t : ℕ) (s : Shared H) (uses : List (H × H)) → HasTurned t s s uses uses
   no_turn t s uses = record { turned = []; own = tt; turns = sym (append-nil s.turns.items); state = refl; has_used = sym (append-nil uses); first = refl }
 
-  -- the same of a thread whose bodies have done nothing
-  pub none_turned : {S : Type 0} (t : ℕ) (s : Shared H) (before after : Lent S H) → after ≡ before → HasTurned t s s before.uses after.uses
-  none_turned t s before after same = subst (λ z. HasTurned t s s before.uses z.uses) (sym same) (no_turn t s before.uses)
+  -- the same of a thread whose bodies have touched nothing
+  pub none_turned : (t : ℕ) (s : Shared H) (uses used : List (H × H)) → used ≡ uses → HasTurned t s s uses used
+  none_turned t s uses used same = subst (λ (us : List (H × H)). HasTurned t s s uses us) (sym same) (no_turn t s uses)
 
   -- turns, and further ones
   pub then_turned : {t : ℕ} {r s u : Shared H} {uses used more : List (H × H)} → HasTurned t r s uses used → HasTurned t s u used more → HasTurned t r u uses more
@@ -59,30 +58,9 @@ module _ {H : Type 0} where
   pub then_by : {t n : ℕ} {r s u : Shared H} {uses used more : List (H × H)} → n ≡ t → HasTurned t r s uses used → HasTurned n s u used more → HasTurned t r u uses more
   then_by {r = r} {s = s} {u = u} {used = used} {more = more} same a b = then_turned a (subst (λ (k : ℕ). HasTurned k s u used more) same b)
 
-  -- the turn in which a thread met this and left that
-  pub turned_once : (t : ℕ) (r m s : Shared H) {uses had used : List (H × H)} {met left : H} → had ≡ uses → met ≡ r.state → m.first ≡ r.first → m.turns ≡ r.turns → s.state ≡ left → s.first ≡ m.first → s.turns.items ≡ m.turns.items ++ (t, left) ∷ [] → used ≡ had ++ (met, left) ∷ [] → HasTurned t r s uses used
-  turned_once t r m s {left = left} same is first turns state still more more_uses = record {
-    turned = (t, left) ∷ [];
-    own = (refl, tt);
-    turns = more ∙ ap (λ xs. xs.items ++ (t, left) ∷ []) turns;
-    state = state;
-    has_used = more_uses ∙ rw (eq-eqb t t refl, same, is) refl;
-    first = still ∙ first;
-  }
-
--- a step of a thread that takes what is shared and gives back what it left
-pub steps_with : {S H : Type 0} (L : Lending S H) (R : S → S → Type 0) {a u z : Lent S H} {v : S} {h k met : H} → u ≡ record a { state = L.with_shared a.state h } → k ≡ L.shared_of a.state → met ≡ h → R u.state v → z.state ≡ L.with_shared v k → z.uses ≡ u.uses ++ (met, L.shared_of v) ∷ [] → StepsWith L R a z
-steps_with L R {a = a} {v = v} {h = h} own is same step state uses = record {
-  met = h;
-  left = v;
-  step = subst (λ b. R b v) (ap (λ l. l.state) own) step;
-  state = state ∙ ap (L.with_shared v) is;
-  uses = uses ∙ rw (own, same) refl;
-}
-
 -- the turns of one thread leave all in turn
-pub still_in_turn : {S H : Type 0} (t : ℕ) (r s : Run (Lent S H) H) (w x : Thread (Lent S H)) → t < length r.threads.items → ((other : Thread (Lent S H)) → slice_index_or r.threads.items t other ≡ w) → ((other : Thread (Lent S H)) → slice_index_or s.threads.items t other ≡ x) →
-    ((u : ℕ) (other : Thread (Lent S H)) → u ≢ t → slice_index_or s.threads.items u other ≡ slice_index_or r.threads.items u other) → length s.threads.items ≡ length r.threads.items → HasTurned t r.shared s.shared w.bodies.uses x.bodies.uses → AreInTurn r → AreInTurn s
+pub still_in_turn : {S H : Type 0} (t : ℕ) (r s : Run (Used S H) H) (w x : Thread (Used S H)) → t < length r.threads.items → ((other : Thread (Used S H)) → slice_index_or r.threads.items t other ≡ w) → ((other : Thread (Used S H)) → slice_index_or s.threads.items t other ≡ x) →
+    ((u : ℕ) (other : Thread (Used S H)) → u ≢ t → slice_index_or s.threads.items u other ≡ slice_index_or r.threads.items u other) → length s.threads.items ≡ length r.threads.items → HasTurned t r.shared s.shared w.bodies.uses x.bodies.uses → AreInTurn r → AreInTurn s
 still_in_turn {S} {H} t r s w x within was now others many turned before = record {
   state = turned.state ∙ (ap (λ (h : H). left_by h turned.turned) before.state ∙ (sym (left_append r.shared.first.value r.shared.turns.items turned.turned) ∙ same_left));
   uses = λ u other low. at u other (subst (λ (n : ℕ). u < n) many low) (eqb_tells u t);
@@ -94,34 +72,27 @@ still_in_turn {S} {H} t r s w x within was now others many turned before = recor
   after : (u : ℕ) → uses_of u s.shared.first.value s.shared.turns.items ≡ uses_of u r.shared.first.value r.shared.turns.items ++ uses_of u r.shared.state turned.turned
   after u = ap (uses_of u s.shared.first.value) turned.turns ∙ (ap (λ f. uses_of u f.value (r.shared.turns.items ++ turned.turned)) turned.first ∙ (uses_append u r.shared.first.value r.shared.turns.items turned.turned ∙ ap (λ (h : H). uses_of u r.shared.first.value r.shared.turns.items ++ uses_of u h turned.turned) (sym before.state)))
 
-  at : (u : ℕ) (other : Thread (Lent S H)) → u < length r.threads.items → ((u == t) ≡ true × (u ≡ t)) ⊎ (((u == t) ≡ false) × (u ≢ t)) → (slice_index_or s.threads.items u other).bodies.uses ≡ uses_of u s.shared.first.value s.shared.turns.items
+  at : (u : ℕ) (other : Thread (Used S H)) → u < length r.threads.items → ((u == t) ≡ true × (u ≡ t)) ⊎ (((u == t) ≡ false) × (u ≢ t)) → (slice_index_or s.threads.items u other).bodies.uses ≡ uses_of u s.shared.first.value s.shared.turns.items
   at u other low (inl e) = subst (λ (n : ℕ). (slice_index_or s.threads.items n other).bodies.uses ≡ uses_of n s.shared.first.value s.shared.turns.items) (sym e.1)
       (ap (λ v. v.bodies.uses) (now other) ∙ (turned.has_used ∙ (ap (λ (us : List (H × H)). us ++ uses_of t r.shared.state turned.turned) (sym (ap (λ v. v.bodies.uses) (was other)) ∙ before.uses t other within) ∙ sym (after t))))
   at u other low (inr n) = ap (λ v. v.bodies.uses) (others u other n.1) ∙ (before.uses u other low ∙ (sym (append-nil _) ∙ (ap (λ (us : List (H × H)). uses_of u r.shared.first.value r.shared.turns.items ++ us) (sym (no_use t u r.shared.state turned.turned n.1 turned.own)) ∙ sym (after u))))
 
-module _ {S H : Type 0} (p : LinkedProgram) (M : Making (Lent S H)) (U : List (ℕ × H) → ℕ → Lent S H → Type 0) (W : List (ℕ × H) → ℕ → Bool → Lent S H → Type 0) where
+module _ {S H : Type 0} (p : LinkedProgram) (M : Making (Used S H)) (U : List (ℕ × H) → ℕ → Used S H → Type 0) (W : List (ℕ × H) → ℕ → Bool → Used S H → Type 0) where
   -- where the thread has had them that was replaced
-  pub replaced_in_turn : {t : ℕ} {r s : Run (Lent S H) H} {w x : Thread (Lent S H)} → IsReplaced p M U W t r s w x → HasTurned t r.shared s.shared w.bodies.uses x.bodies.uses → AreInTurn r → AreInTurn s
+  pub replaced_in_turn : {t : ℕ} {r s : Run (Used S H) H} {w x : Thread (Used S H)} → IsReplaced p M U W t r s w x → HasTurned t r.shared s.shared w.bodies.uses x.bodies.uses → AreInTurn r → AreInTurn s
   replaced_in_turn {t = t} {r = r} {s = s} {w = w} {x = x} h turned before = still_in_turn t r s w x h.within (was_there p M U W h) (now_there p M U W h) (others_same p M U W h).others (same_many p M U W h) turned before
 
   -- and has used what is shared in its turns
-  pub has_used : {t : ℕ} {r s : Run (Lent S H) H} {w x : Thread (Lent S H)} → IsReplaced p M U W t r s w x → s.shared.first ≡ r.shared.first → AreInTurn s → HasUsed r.shared.first.value s.shared.turns.items t x.bodies
+  pub has_used : {t : ℕ} {r s : Run (Used S H) H} {w x : Thread (Used S H)} → IsReplaced p M U W t r s w x → s.shared.first ≡ r.shared.first → AreInTurn s → HasUsed r.shared.first.value s.shared.turns.items t x.bodies
   has_used {t = t} {s = s} {x = x} h first in_turn = ap (λ v. v.bodies.uses) (sym (now_there p M U W h x)) ∙ (in_turn.uses t x (let many = same_many p M U W h in let low = h.within in omega (arith, many, low)) ∙ ap (λ f. uses_of t f.value s.shared.turns.items) first)
 
 -- what is shared is what the turns have left
-pub shared_now : {S H : Type 0} (r s : Run (Lent S H) H) → s.shared.first ≡ r.shared.first → AreInTurn s → s.shared.state ≡ left_by r.shared.first.value s.shared.turns.items
+pub shared_now : {S H : Type 0} (r s : Run (Used S H) H) → s.shared.first ≡ r.shared.first → AreInTurn s → s.shared.state ≡ left_by r.shared.first.value s.shared.turns.items
 shared_now r s first in_turn = in_turn.state ∙ ap (λ f. left_by f.value s.shared.turns.items) first
 
 -- all are in turn as the run begins
-pub fresh_in_turn : {S H : Type 0} (r : Run (Lent S H) H) → r.shared.state ≡ r.shared.first.value → r.shared.turns.items ≡ [] → AllThreads (λ t w. w.bodies.uses ≡ []) r → AreInTurn r
+pub fresh_in_turn : {S H : Type 0} (r : Run (Used S H) H) → r.shared.state ≡ r.shared.first.value → r.shared.turns.items ≡ [] → AllThreads (λ t w. w.bodies.uses ≡ []) r → AreInTurn r
 fresh_in_turn {S} {H} r state none uses = record {
   state = state ∙ ap (left_by r.shared.first.value) (sym none);
   uses = λ t other low. uses t other low ∙ ap (λ (xs : List (ℕ × H)). uses_of t r.shared.first.value xs) (sym none);
 }
-
--- where the machine has ended a body of a thread at a limit, whatever was shared then, it has ended the next at this limit too
-pub lent_limits_stay : {S H : Type 0} (L : Lending S H) (M : Making S) → ((k : Limit) (s z : S) → M.limits k s → M.is_ended s z → M.limits k z) → ((k : Limit) (s : S) (h : H) → M.limits k s → M.limits k (L.with_shared s h)) →
-    (k : Limit) (s z : Lent S H) → M.limits k s.state → StepsWith L M.is_ended s z → M.limits k z.state
-lent_limits_stay L M stay lent k s z there ended =
-    let left : M.limits k ended.left = stay k (L.with_shared s.state ended.met) ended.left (lent k s.state ended.met there) ended.step in
-    subst (λ u. M.limits k u) (sym ended.state) (lent k ended.left (L.shared_of s.state) left)

@@ -16,7 +16,7 @@ use Rattle.bodies.specs.declared.report.Limits.{Limits}
 use Rattle.bodies.specs.declared.report.ThreadOutcome.{ThreadOutcome}
 use Rattle.bodies.specs.declared.report.ThreadOutcome.TheVariants as outcome
 use Rattle.bodies.specs.declared.does.Does.{Does}
-use Rattle.bodies.specs.declared.does.Does.TheVariants.{Waits}
+use Rattle.bodies.specs.declared.does.Does.TheVariants.{Touches}
 use Rattle.bodies.specs.Doing.{MayDo}
 use Rattle.bodies.specs.Making.{Making, HasCome, maker_of}
 use Rattle.bodies.specs.Runs.{IsEndedAt}
@@ -94,11 +94,16 @@ pub record IsDoing {S : Type 0} (p : LinkedProgram) (M : Making S) (l : EventLog
   pub body : IsInBody w
   pub goes_on : GoesOn w.procedure.last
   pub does : M.does from w.procedure.last d w.bodies
-  pub fits : MayDo p M w.procedure.last d w.bodies
+  pub fits : MayDo p M.limits w.procedure.last d w.bodies
 
--- where a thread stands, in a body maybe after it has come to something that another thread holds
+-- what runs its bodies has come to something that another thread held
+pub record IsHeldUp {S : Type 0} (p : LinkedProgram) (M : Making S) (l : EventLog) (w : Thread S) : Type 0 where
+  pub doing : IsDoing p M l Touches w
+  pub waits : M.waits w.bodies
+
+-- where a thread stands, in a body maybe after it has come to something that another thread held
 abbrev pub Resting : {S : Type 0} → LinkedProgram → Making S → EventLog → Thread S → Type 0
-Resting p M l w = Going p M l w ⊎ IsDoing p M l Waits w
+Resting p M l w = Going p M l w ⊎ IsHeldUp p M l w
 
 -- the thread has ended with this result
 pub record IsOver {S : Type 0} (p : LinkedProgram) (M : Making S) (l : EventLog) (r : Outcome) (w : Thread S) : Type 0 where

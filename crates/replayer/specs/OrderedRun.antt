@@ -21,8 +21,8 @@ use Rattle.bodies.specs.declared.report.Limits.{Limits}
 use Rattle.bodies.specs.declared.report.Report.{Report}
 use Rattle.bodies.specs.declared.report.ThreadOutcome.{ThreadOutcome}
 use Rattle.bodies.specs.declared.report.ThreadOutcome.TheVariants as outcome
-use Rattle.bodies.specs.declared.does.Does.TheVariants.{Waits}
-use Rattle.bodies.specs.Lending.{Lending, Lent, lent_at_start, lent_bodies}
+use Rattle.bodies.specs.declared.does.Does.TheVariants.{Touches}
+use Rattle.bodies.specs.Sharing.{Sharing, Used, used_at_start, used_bodies}
 use Rattle.bodies.specs.Making.{Making}
 use Rattle.bodies.specs.Runs.{IsRunOf, IsThreadRun}
 use Rattle.bodies.specs.ThreadStands.{ThreadStands}
@@ -71,7 +71,7 @@ pub record WaitsInBody {S : Type 0} (p : LinkedProgram) (M : Making S) (W : S �
   pub before : S
   pub body : IsInBodyAt p M starts mains t h before
   pub now : S
-  pub come : (now ≡ before) ⊎ M.does before body.standing.last Waits now
+  pub come : (now ≡ before) ⊎ M.does before body.standing.last Touches now
   pub waits : W now
 
 -- t waits, and is none of those that have given up; W says in which states, in a body or (false) for a class
@@ -129,38 +129,38 @@ pub data Follows {S H : Type 0} (p : LinkedProgram) (M : Making S) (U : List (�
   ended : {gone : List ℕ} {h : List Event} {g : List (ℕ × H)} → ((t : ℕ) → t < length mains → HasEnded {H = H} outcomes gone t [] []) → Follows p M U W starts mains outcomes [] gone h g [] []
 
 -- thread t has used in its turns what is shared, where this was shared at first
-abbrev pub HasUsed : {S H : Type 0} → H → List (ℕ × H) → ℕ → Lent S H → Type 0
+abbrev pub HasUsed : {S H : Type 0} → H → List (ℕ × H) → ℕ → Used S H → Type 0
 HasUsed first turns t s = s.uses ≡ uses_of t first turns
 
 -- it waits in a body where this is shared; it waits for a class whatever is
-abbrev pub WaitsAt : {S H : Type 0} → Lending S H → Making S → H → Bool → Lent S H → Type 0
-WaitsAt L M met false s = Unit {0}
-WaitsAt L M met true s = M.waits (L.with_shared s.state met)
+abbrev pub WaitsAt : {S H : Type 0} → Sharing S H → H → Bool → Used S H → Type 0
+WaitsAt M met false s = Unit {0}
+WaitsAt M met true s = M.waits s.state met
 
 -- and it waits with what they left
-abbrev pub WaitsAfter : {S H : Type 0} → Lending S H → Making S → H → List (ℕ × H) → ℕ → Bool → Lent S H → Type 0
-WaitsAfter L M first turns t in_body s = HasUsed first turns t s × WaitsAt L M (left_by first turns) in_body s
+abbrev pub WaitsAfter : {S H : Type 0} → Sharing S H → H → List (ℕ × H) → ℕ → Bool → Used S H → Type 0
+WaitsAfter M first turns t in_body s = HasUsed first turns t s × WaitsAt M (left_by first turns) in_body s
 
 -- Thread t of main class m did this and ended so, from this start, and then left what it held. What it met and left of what is
 -- shared is what these turns have of it, where `first` was shared at first.
-pub record IsTurnsOf {S H : Type 0} (p : LinkedProgram) (M : Making (Lent S H)) (first : H) (turns : List (ℕ × H)) (start : Lent S H) (limits : Limits) (t : ℕ) (m : ClassId) (events : List Event) (o : ThreadOutcome) : Type 0 where
+pub record IsTurnsOf {S H : Type 0} (p : LinkedProgram) (M : Making (Used S H)) (first : H) (turns : List (ℕ × H)) (start : Used S H) (limits : Limits) (t : ℕ) (m : ClassId) (events : List Event) (o : ThreadOutcome) : Type 0 where
   pub run : IsThreadRun p M start limits t m events o
-  pub last : Lent S H
+  pub last : Used S H
   pub ends : M.ends run.end last
   pub uses : HasUsed first turns t last
 
 -- each thread has done so
-abbrev pub AreTurnsOf : {S H : Type 0} → LinkedProgram → Making (Lent S H) → H → List (ℕ × H) → List (Lent S H) → List ClassId → Limits → List Event → List ThreadOutcome → Type 0
-AreTurnsOf {S} {H} p M first turns starts mains limits events outcomes = (t : ℕ) (m : ClassId) (start : Lent S H) → slice_get mains t ≡ Some m → slice_get starts t ≡ Some start →
+abbrev pub AreTurnsOf : {S H : Type 0} → LinkedProgram → Making (Used S H) → H → List (ℕ × H) → List (Used S H) → List ClassId → Limits → List Event → List ThreadOutcome → Type 0
+AreTurnsOf {S} {H} p M first turns starts mains limits events outcomes = (t : ℕ) (m : ClassId) (start : Used S H) → slice_get mains t ≡ Some m → slice_get starts t ≡ Some start →
     (o : ThreadOutcome) × (slice_get outcomes t ≡ Some o) × IsTurnsOf p M first turns start limits t m (of_thread t events) o
 
 -- The run of these main classes in this order, each on a thread of its own whose bodies are made from the start of its number: a
 -- legal interleaving with its outcomes, labels and output, as within each limits that let a thread give up. What the threads share is
 -- one, which is `first` at first, and which each meets as the turn before left it. The run keeps the order, and no thread is ended
 -- since memory ran out.
-pub record IsOrderedRunOf {S H : Type 0} (p : LinkedProgram) (L : Lending S H) (M : Making S) (first : H) (starts : List S) (mains : List ClassId) (order : List ℕ) (r : Report) : Type 0 where
-  pub run : (limits : Limits) → MayGiveUp (lent_bodies L M) (length mains) limits → IsRunOf p (lent_bodies L M) (map lent_at_start starts) mains limits r
+pub record IsOrderedRunOf {S H : Type 0} (p : LinkedProgram) (M : Sharing S H) (first : H) (starts : List S) (mains : List ClassId) (order : List ℕ) (r : Report) : Type 0 where
+  pub run : (limits : Limits) → MayGiveUp (used_bodies M) (length mains) limits → IsRunOf p (used_bodies M) (map used_at_start starts) mains limits r
   pub memory : (t : ℕ) → slice_get r.outcomes t ≢ Some (outcome.Ended Memory)
   pub turns : List (ℕ × H)
-  pub threads : (limits : Limits) → MayGiveUp (lent_bodies L M) (length mains) limits → AreTurnsOf p (lent_bodies L M) first turns (map lent_at_start starts) mains limits r.events r.outcomes
-  pub follows : Follows p (lent_bodies L M) (HasUsed first) (WaitsAfter L M first) (map lent_at_start starts) mains r.outcomes order [] [] [] r.events turns
+  pub threads : (limits : Limits) → MayGiveUp (used_bodies M) (length mains) limits → AreTurnsOf p (used_bodies M) first turns (map used_at_start starts) mains limits r.events r.outcomes
+  pub follows : Follows p (used_bodies M) (HasUsed first) (WaitsAfter M first) (map used_at_start starts) mains r.outcomes order [] [] [] r.events turns

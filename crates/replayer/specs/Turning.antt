@@ -1,7 +1,6 @@
 -- The turns that the threads of a run have had, and what comes of each call on the run.
 use Rattle.std.specs.Prelude.{◌≡◌, ℕ, [], ◌++◌, List, map}
-use Rattle.bodies.specs.Lending.{Lending, Lent, lent_at_start, lent_bodies}
-use Rattle.bodies.specs.Making.{Making}
+use Rattle.bodies.specs.Sharing.{Sharing, Used, used_at_start, used_bodies}
 use Rattle.hierarchy.specs.declared.class.ClassId.{ClassId}
 use Rattle.hierarchy.specs.LinkedProgram.{LinkedProgram}
 use Rattle.replayer.specs.declared.log.EventLog.{EventLog}
@@ -25,32 +24,32 @@ pub record HasTurned {H : Type 0} (t : ℕ) (before after : Shared H) (uses used
   pub first : after.first ≡ before.first
 
 -- what a turn of a thread comes to, while the threads share h
-abbrev pub TurnsWith : {S H : Type 0} → LinkedProgram → Lending S H → Making S → H → EventLog → Thread (Lent S H) → EventLog → Thread (Lent S H) → Turn → Type 0
-TurnsWith p L M h l w m x = TurnsTo p (lent_bodies L M) (WaitsAt L M h) l w m x
+abbrev pub TurnsWith : {S H : Type 0} → LinkedProgram → Sharing S H → H → EventLog → Thread (Used S H) → EventLog → Thread (Used S H) → Turn → Type 0
+TurnsWith p M h l w m x = TurnsTo p (used_bodies M) (WaitsAt M h) l w m x
 
 -- a thread waits, while they share h
-abbrev pub IsPausedWith : {S H : Type 0} → LinkedProgram → Lending S H → Making S → H → EventLog → Thread (Lent S H) → Type 0
-IsPausedWith p L M h l w = IsPaused p (lent_bodies L M) (WaitsAt L M h) l w
+abbrev pub IsPausedWith : {S H : Type 0} → LinkedProgram → Sharing S H → H → EventLog → Thread (Used S H) → Type 0
+IsPausedWith p M h l w = IsPaused p (used_bodies M) (WaitsAt M h) l w
 
 -- what all threads share is what the turns left, and each thread has used it in its turns
-pub record AreInTurn {S H : Type 0} (r : Run (Lent S H) H) : Type 0 where
+pub record AreInTurn {S H : Type 0} (r : Run (Used S H) H) : Type 0 where
   pub state : r.shared.state ≡ left_by r.shared.first.value r.shared.turns.items
   pub uses : AllThreads (λ t w. w.bodies.uses ≡ uses_of t r.shared.first.value r.shared.turns.items) r
 
 -- a run has just begun, of threads with these main classes and these bodies, which share h
-pub record HasBegun {S H : Type 0} (p : LinkedProgram) (L : Lending S H) (M : Making S) (ms : List ClassId) (bodies : List S) (h : H) (r : Run (Lent S H) H) : Type 0 where
-  pub going : AreGoing p (lent_bodies L M) r
+pub record HasBegun {S H : Type 0} (p : LinkedProgram) (M : Sharing S H) (ms : List ClassId) (bodies : List S) (h : H) (r : Run (Used S H) H) : Type 0 where
+  pub going : AreGoing p (used_bodies M) r
   pub in_turn : AreInTurn r
   pub fresh : AreGone [] r
   pub events : r.log.events.items ≡ []
   pub turns : r.shared.turns.items ≡ []
   pub mains : mains_of r ≡ ms
-  pub starts : starts_of r ≡ map lent_at_start bodies
+  pub starts : starts_of r ≡ map used_at_start bodies
   pub first : r.shared.first.value ≡ h
 
 -- the run goes on; what its threads shared at first is the same
-pub record StillGoes {S H : Type 0} (p : LinkedProgram) (L : Lending S H) (M : Making S) (before after : Run (Lent S H) H) : Type 0 where
-  pub going : AreGoing p (lent_bodies L M) after
+pub record StillGoes {S H : Type 0} (p : LinkedProgram) (M : Sharing S H) (before after : Run (Used S H) H) : Type 0 where
+  pub going : AreGoing p (used_bodies M) after
   pub in_turn : AreInTurn after
   pub first : after.shared.first ≡ before.shared.first
 
@@ -61,23 +60,23 @@ pub record HadTurnsAlone {S H : Type 0} (t : ℕ) (before after : Run S H) : Typ
   pub turns : after.shared.turns.items ≡ before.shared.turns.items ++ turned
 
 -- the run goes on by thread t alone
-pub record GoesAlone {S H : Type 0} (p : LinkedProgram) (L : Lending S H) (M : Making S) (t : ℕ) (before after : Run (Lent S H) H) : Type 0 where
-  pub still : StillGoes p L M before after
+pub record GoesAlone {S H : Type 0} (p : LinkedProgram) (M : Sharing S H) (t : ℕ) (before after : Run (Used S H) H) : Type 0 where
+  pub still : StillGoes p M before after
   pub turned : HadTurnsAlone t before after
   pub others : IsSameBut t before after
 
 -- what came of it that thread t went on
-abbrev pub HasGoneWith : {S H : Type 0} → LinkedProgram → Lending S H → Making S → ℕ → Run (Lent S H) H → Run (Lent S H) H → Turn → Type 0
-HasGoneWith p L M t before after = HasGone p (lent_bodies L M) (HasUsed before.shared.first.value) (WaitsAfter L M before.shared.first.value) t before after
+abbrev pub HasGoneWith : {S H : Type 0} → LinkedProgram → Sharing S H → ℕ → Run (Used S H) H → Run (Used S H) H → Turn → Type 0
+HasGoneWith p M t before after = HasGone p (used_bodies M) (HasUsed before.shared.first.value) (WaitsAfter M before.shared.first.value) t before after
 
 -- what came of it that the lowest thread that can went on
-abbrev pub IsFoundWith : {S H : Type 0} → LinkedProgram → Lending S H → Making S → Run (Lent S H) H → Run (Lent S H) H → Found → Type 0
-IsFoundWith p L M before after = IsFound p (lent_bodies L M) (HasUsed before.shared.first.value) (WaitsAfter L M before.shared.first.value) before after
+abbrev pub IsFoundWith : {S H : Type 0} → LinkedProgram → Sharing S H → Run (Used S H) H → Run (Used S H) H → Found → Type 0
+IsFoundWith p M before after = IsFound p (used_bodies M) (HasUsed before.shared.first.value) (WaitsAfter M before.shared.first.value) before after
 
 -- thread t waits, and hasn't given up
-abbrev pub IsHeldAt : {S H : Type 0} → LinkedProgram → Lending S H → Making S → ℕ → Run (Lent S H) H → Type 0
-IsHeldAt p L M t r = ThreadAt r t (IsHeld p (lent_bodies L M) (WaitsAfter L M r.shared.first.value r.shared.turns.items t) r.log)
+abbrev pub IsHeldAt : {S H : Type 0} → LinkedProgram → Sharing S H → ℕ → Run (Used S H) H → Type 0
+IsHeldAt p M t r = ThreadAt r t (IsHeld p (used_bodies M) (WaitsAfter M r.shared.first.value r.shared.turns.items t) r.log)
 
 -- the run has followed this order to its end; if no thread had given up before it, these have after it
-abbrev pub HasFollowed : {S H : Type 0} → LinkedProgram → Lending S H → Making S → List ℕ → Run (Lent S H) H → List ℕ → Run (Lent S H) H → Type 0
-HasFollowed p L M order before gone after = Leads p (lent_bodies L M) (HasUsed before.shared.first.value) (WaitsAfter L M before.shared.first.value) order [] before [] gone after
+abbrev pub HasFollowed : {S H : Type 0} → LinkedProgram → Sharing S H → List ℕ → Run (Used S H) H → List ℕ → Run (Used S H) H → Type 0
+HasFollowed p M order before gone after = Leads p (used_bodies M) (HasUsed before.shared.first.value) (WaitsAfter M before.shared.first.value) order [] before [] gone after

@@ -1,4 +1,5 @@
--- What all threads of a run share, which each has in its turns and leaves for the next.
+-- What all threads of a run share, which each has in its turns and leaves for the next. A turn is one touch; step 11, where an
+-- initializer threw; or the end of a thread.
 use Rattle.std.specs.Prelude.{◌≡◌, ℕ, List, [], ◌∷◌, if◌then◌else◌, nat_eq}
 use Rattle.std.specs.List.{AllByRecursion}
 

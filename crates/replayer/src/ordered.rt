@@ -4,16 +4,16 @@ ghost use Rattle.std.specs.Prelude.{◌≡◌, ◌<◌, IfOk, length, vec_len};
 ghost use Rattle.std.specs.List.{AllByRecursion};
 ghost use Rattle.init_core.specs.Interleaving.{labels_of};
 ghost use Rattle.bodies.specs.Output.{output_of};
-ghost use Rattle.bodies.specs.Lending.{lent_bodies};
+ghost use Rattle.bodies.specs.Sharing.{used_bodies};
 ghost use Rattle.bodies.specs.Runs.{AreMains};
 ghost use Rattle.replayer.specs.AllGoing.{AllThreads, AreGoing, HasDone, outcomes_of};
 ghost use Rattle.replayer.specs.Going.{outcome_by};
 ghost use Rattle.replayer.specs.OrderedRun.{IsOrderedRunOf};
 
-use crate::lent::Lent;
 use crate::run::Run;
 use crate::thread::Thread;
-use bodies::{Lends, Limit, Report, ThreadOutcome, printed_by};
+use crate::used::Used;
+use bodies::{Bodies, Limit, Report, ThreadOutcome, printed_by};
 use hierarchy::{ClassId, Program};
 use init_core::Outcome;
 use sequence::Sequence;
@@ -49,12 +49,14 @@ fn outcomes<B, H>(alloc: Global, run: &Run<B, H>) -> Result<Sequence<ThreadOutco
 }
 
 /// The report of a run that is over. An `Err` means out of memory.
-fn report<H: Drop, B: Lends<H>>(
+fn report<B: Bodies>(
     alloc: Global,
     program: &Program,
-    run: Run<Lent<B, H>, H>,
+    run: Run<Used<B, B::Shared>, B::Shared>,
 ) -> Result<Report, AllocError>
-    requires going { AreGoing program.now (lent_bodies B.lending (B.making program.now)) run }
+where
+    B::Shared: Drop,
+    requires going { AreGoing program.now (used_bodies (B.making program.now)) run }
     requires ended { AllThreads (λ t w. HasDone w) run }
     ensures outcomes { IfOk result (λ r. r.outcomes ≡ outcomes_of run) }
     ensures events { IfOk result (λ r. r.events ≡ run.log.events.items) }
@@ -75,8 +77,8 @@ fn report<H: Drop, B: Lends<H>>(
 
 /// Runs 1 to 16 main classes of a program in this order, on the calling thread. Thread t is that of the t-th main class: the
 /// procedure for that class, with all that it needs, and then the method `main` (JLS SE 8 12.4.2). What its initializers and
-/// `main` do is what the t-th of `bodies` says that they do. What the threads share is `shared` at first; each has it for each step of its
-/// bodies, and meets it as the step before, of whichever thread, left it. `code` is the code of the program, as the bodies have it.
+/// `main` do is what the t-th of `bodies` says that they do. What the threads share is `shared` at first; each has it for each touch
+/// of its bodies, and meets it as the touch before, of whichever thread, left it. `code` is the code of the program, as the bodies have it.
 ///
 /// Each number of the order lets that thread go on until it has made one event, has ended or can't go on; it can't go on while it
 /// waits for a class that another thread initializes, or in a body. Then the number is used up. After the order the lowest
@@ -84,21 +86,24 @@ fn report<H: Drop, B: Lends<H>>(
 /// ended by InternalError, at the limit of its patience, and ends the classes that it has begun, the innermost first. At other
 /// limits of its bodies a thread is ended so too.
 ///
-/// An `Err` means out of memory: that of the run ran out, or the bodies end since theirs did ([`Limit::Memory`]).
-pub fn run_ordered<H: Drop, B: Lends<H>>(
+/// An `Err` means out of memory: that of the run ran out, or that of its bodies did, as they went on, at a touch or in step 11
+/// ([`Limit::Memory`]).
+pub fn run_ordered<B: Bodies>(
     alloc: Global,
     program: &Program,
     code: &B::Code,
     mains: &[ClassId],
     order: &[usize],
     bodies: Vec<B>,
-    shared: H,
+    shared: B::Shared,
 ) -> Result<Report, AllocError>
+where
+    B::Shared: Drop,
     requires code { B.is_code code.now program.now }
     requires mains { AreMains program.now mains.now }
     requires count { vec_len bodies ≡ length mains.now }
     requires order { AllByRecursion (λ t. t < length mains.now) order.now }
-    ensures { IfOk result (IsOrderedRunOf program.now B.lending (B.making program.now) shared bodies.items mains.now order.now) }
+    ensures { IfOk result (IsOrderedRunOf program.now (B.making program.now) shared bodies.items mains.now order.now) }
 {
     let mut run = Run::begin(alloc, program, mains, bodies, shared)?;
     run.follow(alloc, program, code, order)?;

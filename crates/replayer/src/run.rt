@@ -4,14 +4,14 @@ ghost use Rattle.std.specs.Prelude.{◌≡◌, ℕ, ◌<◌, List, [], IfOk, OnO
 ghost use Rattle.bodies.specs.Runs.{AreMains};
 ghost use Rattle.replayer.specs.AllGoing.{AllThreads, AreGoing, HasDone, IsSameThere, ThreadAt};
 ghost use Rattle.replayer.specs.Turning.{AreInTurn, GoesAlone, HasGoneWith, HasBegun, HasFollowed, IsHeldAt, IsFoundWith, StillGoes};
-ghost use Rattle.bodies.specs.Lending.{lent_bodies};
+ghost use Rattle.bodies.specs.Sharing.{used_bodies};
 ghost use Rattle.std.specs.List.{AllByRecursion};
 
-use crate::lent::Lent;
 use crate::log::EventLog;
 use crate::shared::Shared;
 use crate::thread::{Thread, Turn};
-use bodies::Lends;
+use crate::used::Used;
+use bodies::Bodies;
 use hierarchy::{ClassId, Program};
 use std::alloc::{AllocError, Global};
 
@@ -34,18 +34,21 @@ pub(crate) enum Found {
     Ended,
 }
 
-impl<H: Drop, B: Lends<H>> Run<Lent<B, H>, H> {
+impl<B: Bodies> Run<Used<B, B::Shared>, B::Shared>
+where
+    B::Shared: Drop,
+{
     /// Each main class is requested, by a thread of its own. An `Err` means out of memory.
     pub(crate) fn begin(
         alloc: Global,
         program: &Program,
         mains: &[ClassId],
         bodies: Vec<B>,
-        shared: H,
+        shared: B::Shared,
     ) -> Result<Self, AllocError>
         requires mains { AreMains program.now mains.now }
         requires count { vec_len bodies ≡ length mains.now }
-        ensures { IfOk result (HasBegun program.now B.lending (B.making program.now) mains.now bodies.items shared) }
+        ensures { IfOk result (HasBegun program.now (B.making program.now) mains.now bodies.items shared) }
     {
         let log = EventLog::new(alloc, program, mains.len())?;
         let mut threads = Vec::new(alloc);
@@ -71,11 +74,11 @@ impl<H: Drop, B: Lends<H>> Run<Lent<B, H>, H> {
         number: usize,
     ) -> Result<Turn, AllocError>
         requires code { B.is_code code.now program.now }
-        requires going { AreGoing program.now (lent_bodies B.lending (B.making program.now)) self.old }
+        requires going { AreGoing program.now (used_bodies (B.making program.now)) self.old }
         requires in_turn { AreInTurn self.old }
         requires number { number < length self.old.threads.items }
-        ensures alone { IfOk result (λ turn. GoesAlone program.now B.lending (B.making program.now) number self.old self.new) }
-        ensures gone { IfOk result (HasGoneWith program.now B.lending (B.making program.now) number self.old self.new) }
+        ensures alone { IfOk result (λ turn. GoesAlone program.now (B.making program.now) number self.old self.new) }
+        ensures gone { IfOk result (HasGoneWith program.now (B.making program.now) number self.old self.new) }
         ensures there { IfOk result (λ turn. IsSameThere number self.old self.new) }
     {
         let thread = &mut self.threads[number];
@@ -101,11 +104,11 @@ impl<H: Drop, B: Lends<H>> Run<Lent<B, H>, H> {
         order: &[usize],
     ) -> Result<(), AllocError>
         requires code { B.is_code code.now program.now }
-        requires going { AreGoing program.now (lent_bodies B.lending (B.making program.now)) self.old }
+        requires going { AreGoing program.now (used_bodies (B.making program.now)) self.old }
         requires in_turn { AreInTurn self.old }
         requires order { AllByRecursion (λ t. t < length self.old.threads.items) order.now }
-        ensures still { OnOk result (StillGoes program.now B.lending (B.making program.now) self.old self.new) }
-        ensures follows { OnOk result (HasFollowed program.now B.lending (B.making program.now) order.now self.old [] self.new) }
+        ensures still { OnOk result (StillGoes program.now (B.making program.now) self.old self.new) }
+        ensures follows { OnOk result (HasFollowed program.now (B.making program.now) order.now self.old [] self.new) }
     {
         'order: for number in order {
             self.go(alloc, program, code, *number)?;
@@ -121,10 +124,10 @@ impl<H: Drop, B: Lends<H>> Run<Lent<B, H>, H> {
         code: &B::Code,
     ) -> Result<Found, AllocError>
         requires code { B.is_code code.now program.now }
-        requires going { AreGoing program.now (lent_bodies B.lending (B.making program.now)) self.old }
+        requires going { AreGoing program.now (used_bodies (B.making program.now)) self.old }
         requires in_turn { AreInTurn self.old }
-        ensures still { IfOk result (λ found. StillGoes program.now B.lending (B.making program.now) self.old self.new) }
-        ensures found { IfOk result (IsFoundWith program.now B.lending (B.making program.now) self.old self.new) }
+        ensures still { IfOk result (λ found. StillGoes program.now (B.making program.now) self.old self.new) }
+        ensures found { IfOk result (IsFoundWith program.now (B.making program.now) self.old self.new) }
     {
         let mut held = None;
         'threads: for number in 0..self.threads.len() {
@@ -143,16 +146,16 @@ impl<H: Drop, B: Lends<H>> Run<Lent<B, H>, H> {
 
     /// A thread that waits gives up.
     fn give_up(&mut self, program: &Program, number: usize)
-        requires going { AreGoing program.now (lent_bodies B.lending (B.making program.now)) self.old }
+        requires going { AreGoing program.now (used_bodies (B.making program.now)) self.old }
         requires in_turn { AreInTurn self.old }
         requires number { number < length self.old.threads.items }
-        requires held { IsHeldAt program.now B.lending (B.making program.now) number self.old }
-        ensures alone { GoesAlone program.now B.lending (B.making program.now) number self.old self.new }
+        requires held { IsHeldAt program.now (B.making program.now) number self.old }
+        ensures alone { GoesAlone program.now (B.making program.now) number self.old self.new }
         ensures log { self.new.log ≡ self.old.log }
         ensures gave_up { ThreadAt self.new number (λ w. w.gave_up ≡ true) }
     {
         let thread = &mut self.threads[number];
-        if let Some(done) = thread.give_up(program, &self.log, &mut self.shared) {
+        if let Some(done) = thread.give_up(program, &self.log, &self.shared) {
             thread.end(program, &mut self.shared, done);
         }
     }
@@ -166,10 +169,10 @@ impl<H: Drop, B: Lends<H>> Run<Lent<B, H>, H> {
         code: &B::Code,
     ) -> Result<(), AllocError>
         requires code { B.is_code code.now program.now }
-        requires going { AreGoing program.now (lent_bodies B.lending (B.making program.now)) self.old }
+        requires going { AreGoing program.now (used_bodies (B.making program.now)) self.old }
         requires in_turn { AreInTurn self.old }
-        ensures still { OnOk result (StillGoes program.now B.lending (B.making program.now) self.old self.new) }
-        ensures follows { OnOk result ((later : List ℕ) × HasFollowed program.now B.lending (B.making program.now) [] self.old later self.new) }
+        ensures still { OnOk result (StillGoes program.now (B.making program.now) self.old self.new) }
+        ensures follows { OnOk result ((later : List ℕ) × HasFollowed program.now (B.making program.now) [] self.old later self.new) }
         ensures ended { OnOk result (AllThreads (λ t w. HasDone w) self.new) }
     {
         'rounds: for _ in 0..u64::MAX {

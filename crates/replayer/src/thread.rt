@@ -4,16 +4,16 @@ ghost use Rattle.std.specs.Prelude.{◌≡◌, ◌≢◌, ◌<◌, [], Err, IfOk
 ghost use Rattle.init_core.specs.declared.procedure.Next.TheVariants as nexts;
 ghost use Rattle.init_core.specs.Advance.{next_of, is_running};
 ghost use Rattle.init_core.specs.ProcedureWord.{IsOfFiles};
-ghost use Rattle.bodies.specs.Lending.{lent_at_start, lent_bodies};
+ghost use Rattle.bodies.specs.Sharing.{used_at_start, used_bodies};
 ghost use Rattle.replayer.specs.Going.{Going, GoesOrEnds, HasStepped, IsNew, IsSameThread, Resting, turn_by};
 ghost use Rattle.replayer.specs.declared.thread.Turn.TheVariants as turns;
 ghost use Rattle.replayer.specs.Logged.{IsLog};
 ghost use Rattle.replayer.specs.Turning.{HasTurned, IsPausedWith, TurnsWith};
 
-use crate::lent::Lent;
 use crate::log::EventLog;
 use crate::shared::Shared;
-use bodies::Lends;
+use crate::used::Used;
+use bodies::Bodies;
 use hierarchy::{BuiltIn, ClassId, Program};
 use init_core::{Answer, Completed, Ending, Kind, Next, Outcome, Procedure};
 use std::alloc::{AllocError, Global};
@@ -71,7 +71,7 @@ pub(crate) struct Thread<B> {
     pub done: Option<Outcome>,
 }
 
-impl<H, B: Lends<H>> Thread<Lent<B, H>> {
+impl<B: Bodies> Thread<Used<B, B::Shared>> {
     /// Its main class is requested. An `Err` means out of memory.
     pub(crate) fn begin(
         alloc: Global,
@@ -85,12 +85,12 @@ impl<H, B: Lends<H>> Thread<Lent<B, H>> {
         requires number { number < log.now.threads.value }
         requires log { IsLog program.now log.now }
         requires none { log.now.events.items ≡ [] }
-        ensures { IfOk result (IsNew program.now (lent_bodies B.lending (B.making program.now)) log.now number main (lent_at_start bodies)) }
+        ensures { IfOk result (IsNew program.now (used_bodies (B.making program.now)) log.now number main (used_at_start bodies)) }
     {
         let _ = &log.events;
         let mut procedure = Procedure::new(alloc);
         procedure.request(main)?;
-        let bodies = Lent::new(bodies);
+        let bodies = Used::new(bodies);
         Ok(Thread {
             number,
             procedure,
@@ -109,12 +109,12 @@ impl<H, B: Lends<H>> Thread<Lent<B, H>> {
         alloc: Global,
         program: &Program,
         log: &mut EventLog,
-        shared: &Shared<H>,
+        shared: &Shared<B::Shared>,
         class: ClassId,
     ) -> Result<Turn, AllocError>
-        requires going { Going program.now (lent_bodies B.lending (B.making program.now)) log.old self.old }
+        requires going { Going program.now (used_bodies (B.making program.now)) log.old self.old }
         requires next { next_of self.old.procedure.frames ≡ nexts.Look class }
-        ensures turn { IfOk result (TurnsWith program.now B.lending (B.making program.now) shared.now.state log.old self.old log.new self.new) }
+        ensures turn { IfOk result (TurnsWith program.now (B.making program.now) shared.now.state log.old self.old log.new self.new) }
         ensures same { IsSameThread self.old self.new }
         ensures bodies { self.new.bodies ≡ self.old.bodies }
     {
@@ -136,21 +136,19 @@ impl<H, B: Lends<H>> Thread<Lent<B, H>> {
         program: &Program,
         code: &B::Code,
         log: &mut EventLog,
-        shared: &mut Shared<H>,
         class: ClassId,
     ) -> Result<(), AllocError>
         requires code { B.is_code code.now program.now }
-        requires going { Going program.now (lent_bodies B.lending (B.making program.now)) log.old self.old }
+        requires going { Going program.now (used_bodies (B.making program.now)) log.old self.old }
         requires next { next_of self.old.procedure.frames ≡ nexts.Body class }
         requires before { is_running self.old.procedure.frames ≡ false }
-        ensures stepped { OnOk result (HasStepped program.now (lent_bodies B.lending (B.making program.now)) log.old self.old log.new self.new) }
+        ensures stepped { OnOk result (HasStepped program.now (used_bodies (B.making program.now)) log.old self.old log.new self.new) }
         ensures same { IsSameThread self.old self.new }
-        ensures turned { OnOk result (HasTurned self.old.number shared.old shared.new self.old.bodies.uses self.new.bodies.uses) }
+        ensures uses { self.new.bodies.uses ≡ self.old.bodies.uses }
     {
         log.add(program, self.number, class, Kind::Runs)?;
         self.procedure.run_body();
-        self.bodies
-            .start(alloc, program, code, self.number, shared, class);
+        self.bodies.start(alloc, program, code, class);
         Ok(())
     }
 
@@ -162,9 +160,9 @@ impl<H, B: Lends<H>> Thread<Lent<B, H>> {
         class: ClassId,
         ending: Ending,
     ) -> Result<(), AllocError>
-        requires going { Going program.now (lent_bodies B.lending (B.making program.now)) log.old self.old }
+        requires going { Going program.now (used_bodies (B.making program.now)) log.old self.old }
         requires next { next_of self.old.procedure.frames ≡ nexts.End class ending }
-        ensures stepped { OnOk result (HasStepped program.now (lent_bodies B.lending (B.making program.now)) log.old self.old log.new self.new) }
+        ensures stepped { OnOk result (HasStepped program.now (used_bodies (B.making program.now)) log.old self.old log.new self.new) }
         ensures same { IsSameThread self.old self.new }
         ensures bodies { self.new.bodies ≡ self.old.bodies }
     {
@@ -181,15 +179,14 @@ impl<H, B: Lends<H>> Thread<Lent<B, H>> {
         program: &Program,
         code: &B::Code,
         log: &EventLog,
-        shared: &mut Shared<H>,
     ) -> Option<Outcome>
         requires code { B.is_code code.now program.now }
-        requires going { Going program.now (lent_bodies B.lending (B.making program.now)) log.now self.old }
+        requires going { Going program.now (used_bodies (B.making program.now)) log.now self.old }
         requires idle { next_of self.old.procedure.frames ≡ nexts.Idle }
         requires before { self.old.in_main ≡ false }
-        ensures going { GoesOrEnds program.now (lent_bodies B.lending (B.making program.now)) log.now self.new result }
+        ensures going { GoesOrEnds program.now (used_bodies (B.making program.now)) log.now self.new result }
         ensures same { IsSameThread self.old self.new }
-        ensures turned { HasTurned self.old.number shared.old shared.new self.old.bodies.uses self.new.bodies.uses }
+        ensures uses { self.new.bodies.uses ≡ self.old.bodies.uses }
     {
         let _ = &log.events;
         let Some(Completed { outcome, .. }) = self.procedure.last() else {
@@ -198,8 +195,7 @@ impl<H, B: Lends<H>> Thread<Lent<B, H>> {
         let Outcome::Normal = outcome else {
             return Some(outcome);
         };
-        self.bodies
-            .enter(alloc, program, code, self.number, shared, self.main);
+        self.bodies.enter(alloc, program, code, self.main);
         self.procedure.forget_last();
         self.in_main = true;
         None
@@ -212,11 +208,11 @@ impl<H, B: Lends<H>> Thread<Lent<B, H>> {
         program: &Program,
         code: &B::Code,
         log: &mut EventLog,
-        shared: &mut Shared<H>,
+        shared: &mut Shared<B::Shared>,
     ) -> Result<Turn, AllocError>
         requires code { B.is_code code.now program.now }
-        requires resting { Resting program.now (lent_bodies B.lending (B.making program.now)) log.old self.old }
-        ensures turn { IfOk result (TurnsWith program.now B.lending (B.making program.now) shared.new.state log.old self.old log.new self.new) }
+        requires resting { Resting program.now (used_bodies (B.making program.now)) log.old self.old }
+        ensures turn { IfOk result (TurnsWith program.now (B.making program.now) shared.new.state log.old self.old log.new self.new) }
         ensures same { IsSameThread self.old self.new }
         ensures turned { IfOk result (λ turn. HasTurned self.old.number shared.old shared.new self.old.bodies.uses self.new.bodies.uses) }
         ensures still { IfOk result (λ turn. turn ≡ turns.Waits → shared.new ≡ shared.old) }
@@ -226,14 +222,14 @@ impl<H, B: Lends<H>> Thread<Lent<B, H>> {
                 if self.in_main {
                     return self.go_on(alloc, program, code, log, shared);
                 }
-                Ok(turn_of(self.enter_main(alloc, program, code, log, shared)))
+                Ok(turn_of(self.enter_main(alloc, program, code, log)))
             }
             Next::Look(class) => self.look(alloc, program, log, shared, class),
             Next::Body(class) => {
                 if self.procedure.is_running() {
                     return self.go_on(alloc, program, code, log, shared);
                 }
-                event_of(self.run_body(alloc, program, code, log, shared, class))
+                event_of(self.run_body(alloc, program, code, log, class))
             }
             Next::End(class, ending) => event_of(self.end_class(program, log, class, ending)),
         }
@@ -247,11 +243,11 @@ impl<H, B: Lends<H>> Thread<Lent<B, H>> {
         program: &Program,
         code: &B::Code,
         log: &mut EventLog,
-        shared: &mut Shared<H>,
+        shared: &mut Shared<B::Shared>,
     ) -> Result<Turn, AllocError>
         requires code { B.is_code code.now program.now }
-        requires resting { Resting program.now (lent_bodies B.lending (B.making program.now)) log.old self.old }
-        ensures turn { IfOk result (TurnsWith program.now B.lending (B.making program.now) shared.new.state log.old self.old log.new self.new) }
+        requires resting { Resting program.now (used_bodies (B.making program.now)) log.old self.old }
+        ensures turn { IfOk result (TurnsWith program.now (B.making program.now) shared.new.state log.old self.old log.new self.new) }
         ensures moves { IfOk result (λ turn. turn ≢ turns.Silent) }
         ensures same { IsSameThread self.old self.new }
         ensures turned { IfOk result (λ turn. HasTurned self.old.number shared.old shared.new self.old.bodies.uses self.new.bodies.uses) }
@@ -273,9 +269,14 @@ impl<H, B: Lends<H>> Thread<Lent<B, H>> {
     }
 
     /// The thread has ended with this result.
-    pub(crate) fn end(&mut self, program: &Program, shared: &mut Shared<H>, outcome: Outcome)
+    pub(crate) fn end(
+        &mut self,
+        program: &Program,
+        shared: &mut Shared<B::Shared>,
+        outcome: Outcome,
+    )
         ensures same { IsSameThread (record self.old { done = Some outcome }) self.new }
-        ensures ends { (lent_bodies B.lending (B.making program.now)).ends self.old.bodies self.new.bodies }
+        ensures ends { (used_bodies (B.making program.now)).ends self.old.bodies self.new.bodies }
         ensures turned { HasTurned self.old.number shared.old shared.new self.old.bodies.uses self.new.bodies.uses }
     {
         self.bodies.end(program, self.number, shared);
@@ -287,13 +288,14 @@ impl<H, B: Lends<H>> Thread<Lent<B, H>> {
         &mut self,
         program: &Program,
         log: &EventLog,
-        shared: &mut Shared<H>,
+        shared: &Shared<B::Shared>,
     ) -> Option<Outcome>
-        requires paused { IsPausedWith program.now B.lending (B.making program.now) shared.old.state log.now self.old }
-        ensures going { GoesOrEnds program.now (lent_bodies B.lending (B.making program.now)) log.now self.new result }
+        requires paused { IsPausedWith program.now (B.making program.now) shared.now.state log.now self.old }
+        ensures going { GoesOrEnds program.now (used_bodies (B.making program.now)) log.now self.new result }
         ensures same { IsSameThread (record self.old { gave_up = true }) self.new }
-        ensures turned { HasTurned self.old.number shared.old shared.new self.old.bodies.uses self.new.bodies.uses }
+        ensures uses { self.new.bodies.uses ≡ self.old.bodies.uses }
     {
+        let _ = &shared.state;
         let error = program.built_in(BuiltIn::InternalError);
         match self.procedure.next() {
             Next::Look(_) => {
@@ -301,7 +303,7 @@ impl<H, B: Lends<H>> Thread<Lent<B, H>> {
                 self.gave_up = true;
                 None
             }
-            _ => self.leave(program, log, shared, error, true),
+            _ => self.leave(program, log, error, true),
         }
     }
 }

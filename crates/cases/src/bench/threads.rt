@@ -166,7 +166,17 @@ fn run_time<R: Clock + Threads + Wait + Sync, G: Gate + Sync>(
     }
     let bodies = vec![in alloc; NoCode; mains.len()]?;
     let watch = Watch::start(rt);
-    match run_threads(rt, alloc, program, &(), mains, bodies, Limits::USUAL, gate) {
+    match run_threads(
+        rt,
+        alloc,
+        program,
+        &(),
+        mains,
+        bodies,
+        (),
+        Limits::USUAL,
+        gate,
+    ) {
         Ok(report) => watch.share(rt, report.events.len()),
         Err(_) => Err(Failure::Run),
     }

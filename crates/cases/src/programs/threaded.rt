@@ -8,7 +8,7 @@ use code::resolve;
 use command_line::Run;
 use guest_threads::{NoGate, run_threads};
 use hierarchy::{ClassId, Edition, LinkFault, Program, link_as};
-use interpreter::{SharedInterpreter, SharedObjects};
+use interpreter::{Interpreter, Objects};
 use jasmin_text::ClassText;
 use std::alloc::Global;
 use std::sync::Wait;
@@ -61,15 +61,24 @@ fn run_main<R: Threads + Wait + Sync>(
         ran.is_refused = true;
         return;
     };
-    let shared = SharedObjects::new(alloc);
     let mut bodies = Vec::new(alloc);
-    let sleeps = limits.patience == 0;
-    let body = SharedInterpreter::new(rt, alloc, &shared, 0, limits.steps, sleeps);
+    let body = Interpreter::new(alloc, 0, limits.steps);
     if bodies.push(body).is_err() {
         ran.is_refused = true;
         return;
     }
-    match run_threads(rt, alloc, program, &code, &[main], bodies, limits, &NoGate) {
+    let objects = Objects::new(alloc);
+    match run_threads(
+        rt,
+        alloc,
+        program,
+        &code,
+        &[main],
+        bodies,
+        objects,
+        limits,
+        &NoGate,
+    ) {
         Ok(report) => put_report(alloc, program, &report, ran),
         Err(_) => ran.is_refused = true,
     }

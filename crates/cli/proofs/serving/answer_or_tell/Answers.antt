@@ -1,8 +1,7 @@
-use Rattle.std.proofs.Common.{◌≡◌, ◌≤◌, ◌++◌, None, arith, refl, rules, subst, sym}
+use Rattle.std.proofs.Common.{◌≡◌, ◌≤◌, ◌++◌, arith, refl, rules, subst}
 use Rattle.command_line.specs.CommandLine.{request_of}
 use Rattle.cli.specs.FaultText.{fault_line}
 use Rattle.cli.specs.Serving.{IsServed, around}
-use Rattle.cli.specs.Status.{status_of}
 use Rattle.cli.proofs.CutShort.{cut_short, served_status}
 use Rattle.cli.proofs.Emitted.{kept_appends}
 use Rattle.cli.proofs.KnownOutput.{appends_then}

@@ -1,5 +1,6 @@
 use Rattle.std.proofs.Common.{arith, refl, subst, sym}
 use Rattle.std.proofs.lemmas.Grind.{common_steps}
+use Rattle.bodies.specs.Sharing.{free_bodies}
 use Rattle.guest_threads.specs.declared.work.Worked.{Worked}
 use Rattle.guest_threads.specs.AllWork.{PlanFacts}
 use Rattle.bodies.specs.declared.report.Limit.TheVariants.{Memory}
@@ -21,5 +22,5 @@ returns-then-not-wait_for_start g c =
     record {
       number = refl;
       works = c.requires.pass.works;
-      done = λ m q. refused (g.B.Bodies.making k.program) (record { program = k.program; table = k.table; limits = k.limits; number = c.args.job.pass.number; main = m; start = c.args.job.bodies }) w refl refl c.requires.pass.none;
+      done = λ m q. refused (free_bodies (g.B.Bodies.making k.program)) (record { program = k.program; table = k.table; limits = k.limits; number = c.args.job.pass.number; main = m; start = c.args.job.bodies }) w refl refl c.requires.pass.none;
     }

@@ -11,6 +11,7 @@ use Rattle.init_core.specs.ProgramEvents.{IsProgramEvent}
 use Rattle.init_lock.specs.Log.{AllAllowed}
 use Rattle.init_lock.specs.Closing.{numbers, written, HasJournals, FollowsAll}
 use Rattle.init_lock.specs.Known.{PassFacts, TableFacts, IsAway}
+use Rattle.bodies.specs.Sharing.{free_bodies}
 use Rattle.guest_threads.specs.declared.guarded.Guarded.{Guarded}
 use Rattle.guest_threads.specs.declared.work.Worked.{Worked}
 use Rattle.guest_threads.specs.Drawing.{MayDraw, Follows, merged}
@@ -56,7 +57,7 @@ returns g c =
           let events : c.in_ok-events.events.items ≡ merged log = c.in_ok-events.ensures log (journals_are making k starts ds all log rs journals follows (length rs) fair c.finish-records.result.journals.items (f.journals ∙ ap (map written) is)) in
           let merges : c.from_vec.result ≡ merged log = c.from_vec.ensures ∙ events in
           let prints : c.in_ok-output.output ≡ output_of (merged log) = c.in_ok-output.ensures ∙ ap output_of (c.as_slice-2.ensures.value ∙ events) in
-          let run : IsRunOf p (making p) starts mains k.limits (record { outcomes = map (λ (w : Worked). w.outcome) ds; events = merged log; labels = c.in_ok-labels.labels; output = output_of (merged log) }) = record {
+          let run : IsRunOf p (free_bodies (making p)) starts mains k.limits (record { outcomes = map (λ (w : Worked). w.outcome) ds; events = merged log; labels = c.in_ok-labels.labels; output = output_of (merged log) }) = record {
             legal = h.0;
             events = subst (λ (n : ℕ). AllByRecursion (λ e. IsProgramEvent p n e) (merged log)) plan.threads (events_are making k starts ds all log rs journals follows (length rs) fair);
             labels = c.in_ok-labels.ensures.labels ∙ (ap (λ (xs : List Guarded). map (λ r. label_of r.record.events) xs) c.as_slice.ensures.value ∙ h.1);
@@ -66,8 +67,8 @@ returns g c =
             output = refl;
           } in (
             subst (IsMergeOf (map (λ (w : Worked). w.pass.journal) ds)) (sym merges) (merge_is making k starts ds all log rs journals follows (length rs) fair),
-            subst (λ (xs : List ℕ). IsRunOf p (making p) starts mains k.limits (record { outcomes = c.in_ok-passes.outcomes; events = c.from_vec.result; labels = c.in_ok-labels.labels; output = xs })) (sym prints)
-                (subst (λ (es : List Event). IsRunOf p (making p) starts mains k.limits (record { outcomes = c.in_ok-passes.outcomes; events = es; labels = c.in_ok-labels.labels; output = output_of (merged log) })) (sym merges)
-                (subst (λ (os : List ThreadOutcome). IsRunOf p (making p) starts mains k.limits (record { outcomes = os; events = merged log; labels = c.in_ok-labels.labels; output = output_of (merged log) })) (sym c.in_ok-passes.ensures.outcomes) run)),
+            subst (λ (xs : List ℕ). IsRunOf p (free_bodies (making p)) starts mains k.limits (record { outcomes = c.in_ok-passes.outcomes; events = c.from_vec.result; labels = c.in_ok-labels.labels; output = xs })) (sym prints)
+                (subst (λ (es : List Event). IsRunOf p (free_bodies (making p)) starts mains k.limits (record { outcomes = c.in_ok-passes.outcomes; events = es; labels = c.in_ok-labels.labels; output = output_of (merged log) })) (sym merges)
+                (subst (λ (os : List ThreadOutcome). IsRunOf p (free_bodies (making p)) starts mains k.limits (record { outcomes = os; events = merged log; labels = c.in_ok-labels.labels; output = output_of (merged log) })) (sym c.in_ok-passes.ensures.outcomes) run)),
           );
     }

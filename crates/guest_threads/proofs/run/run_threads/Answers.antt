@@ -1,5 +1,6 @@
 use Rattle.std.proofs.Common.{◌≡◌, ◌≤◌, List, length, map, subst, sym, ◌∙◌, refl, arith}
 use Rattle.init_core.specs.declared.event.TheConstants.{THREADS}
+use Rattle.bodies.specs.Sharing.{free_bodies}
 use Rattle.guest_threads.specs.AllWork.{PlanFacts, IsPlan}
 use Rattle.bodies.specs.Runs.{AreMains, IsRunOf}
 use Rattle.guest_threads.specs.Working.{IsTableOf}
@@ -49,5 +50,5 @@ returns g c =
         count = journal_count g.B.Bodies.making k starts c.in_ok-done.done.items c.in_ok-done.ensures.done;
         merge = reports.0;
       };
-      ran = subst (λ (starts : List g.row.B.Denot). IsRunOf k.program (g.B.Bodies.making k.program) starts k.mains k.limits c.in_ok-report.field-0) c.in_ok-jobs.ensures.bodies reports.1;
+      ran = subst (λ (starts : List g.row.B.Denot). IsRunOf k.program (free_bodies (g.B.Bodies.making k.program)) starts k.mains k.limits c.in_ok-report.field-0) c.in_ok-jobs.ensures.bodies reports.1;
     }

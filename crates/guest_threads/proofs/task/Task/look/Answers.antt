@@ -3,6 +3,7 @@ use Rattle.init_core.specs.declared.event.Event.{Event}
 use Rattle.init_core.specs.declared.event.Kind.{Kind}
 use Rattle.init_core.specs.Decisions.{event, kind_of}
 use Rattle.init_core.specs.Standing.{Standing}
+use Rattle.bodies.specs.Sharing.{free_bodies}
 use Rattle.guest_threads.specs.declared.guarded.Guarded.{Guarded}
 use Rattle.guest_threads.specs.Tasks.{room_of}
 use Rattle.guest_threads.specs.Working.{Working, drawn}
@@ -21,7 +22,7 @@ pub give_up-requires-in_default-told-clause-working : goal.give_up-requires-in_d
 give_up-requires-in_default-told-clause-working g c = working_at g.B.Bodies.making c.self.view_is (let took = c.in-Ok.ensures.took in
     let e = c.in_default-told.ensures in
     let l = looks_at c.args.work.now.procedure c.args.class c.requires.next in
-    subst (λ (s : Standing). Working (g.B.Bodies.making c.self.inside.program.now) (by_fields c.self.view_is) (record c.args.work.now { pass = c.give_back_untouched.new.pass; procedure = s })) (sym e.err_standing)
+    subst (λ (s : Standing). Working (free_bodies (g.B.Bodies.making c.self.inside.program.now)) (by_fields c.self.view_is) (record c.args.work.now { pass = c.give_back_untouched.new.pass; procedure = s })) (sym e.err_standing)
     (untouched _ _ c.args.work.now c.args.class c.take_record-taken.new.pass c.give_back_untouched.new.pass c.in-Ok.held c.in-Ok.held.place c.look_at-told.new.class_record.events c.kept.result.now.record (in_files c.self.inside.program.now c.args.work.now.procedure c.args.class _ l.1 (working_at g.B.Bodies.making (sym c.self.view_is) c.requires.working).stands.files)
     took.place e.err_events (ap (λ (x : Guarded). x.record) c.kept.ensures.record) took c.give_back_untouched.ensures.back c.give_back_untouched.ensures.journal c.give_back_untouched.ensures.room (working_at g.B.Bodies.making (sym c.self.view_is) c.requires.working)))
 
@@ -66,7 +67,7 @@ give_back_asleep-requires-clause-back g c = may_go_back c.in-Ok.ensures.took _ _
 pub give_up-requires-clause-working : goal.give_up-requires-clause-working
 give_up-requires-clause-working g c =
     let u = c.in_default.ensures.gave_up in
-    roomier (g.B.Bodies.making c.args.self.now.program) c.args.self.now c.args.work.now c.take_record-taken.new.pass c.args.work.now.slack u.same u.journal u.places
+    roomier (free_bodies (g.B.Bodies.making c.args.self.now.program)) c.args.self.now c.args.work.now c.take_record-taken.new.pass c.args.work.now.slack u.same u.journal u.places
     (let r = c.requires.working.room in let s = c.in_default.ensures.room in omega arith) c.requires.working
 
 pub take_record-taken-requires-clause-works : goal.take_record-taken-requires-clause-works

@@ -7,7 +7,7 @@ use Rattle.bodies.specs.declared.report.Limit.TheVariants.{Memory}
 use Rattle.interpreter.specs.declared.interpreter.Interpreter.{Interpreter}
 use Rattle.interpreter.specs.Memory.{TakesMemory}
 use Rattle.interpreter.specs.Rows.{Row, Rows}
-use Rattle.interpreter.specs.Says.{Says, SaysNext}
+use Rattle.interpreter.specs.Says.{SaysNext}
 use Rattle.interpreter.proofs.Running.{nothing_runs, then_refused, then_row_of, then_says}
 use Rattle.interpreter.proofs.interpreter.Interpreter.turn.Goals as goal
 
@@ -19,7 +19,7 @@ turn_rows : {E : Type 0} (p : LinkedProgram) (s u z : Interpreter) (r : Result (
 turn_rows p s u z (Ok d) rows h = λ none. then_row_of p s u z rows (h none)
 turn_rows p s u z (Err e) rows h = tt
 
-turn_says : {E : Type 0} (p : LinkedProgram) (s u z : Interpreter) (r : Result (Option Does) E) → Rows p s u → IfOk r (λ d. IfSome d (λ x. Says p u x z)) → IfOk r (λ d. IfSome d (λ x. SaysNext p s x z))
+turn_says : {E : Type 0} (p : LinkedProgram) (s u z : Interpreter) (r : Result (Option Does) E) → Rows p s u → IfOk r (λ d. IfSome d (λ x. SaysNext p u x z)) → IfOk r (λ d. IfSome d (λ x. SaysNext p s x z))
 turn_says p s u z (Ok None) rows h = tt
 turn_says p s u z (Ok (Some d)) rows h = then_says p s u z d rows h
 turn_says p s u z (Err e) rows h = tt
