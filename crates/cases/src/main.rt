@@ -1,7 +1,7 @@
 //! Judges the cases of files: `cases FILE..`. See [`archive`] for their form. A file's folder says what its cases
 //! are: files in the Jasmin form (`jasmin`), classes (`classes`), traces (`traces`), and a file `NAME.txtar` is a
-//! whole command line with its files (`programs`). `cases bench NAME` measures times ([`bench`]), and `cases call NAME ..` makes
-//! one call of a library ([`calls`]).
+//! whole command line with its files (`programs`). `cases stop FILE..` judges them with each command run with its streams stopped too.
+//! `cases bench NAME` measures times ([`bench`]), and `cases call NAME ..` makes one call of a library ([`calls`]).
 //!
 //! The number of cases of each file, and each case that failed, is reported on standard output. The exit status is 0
 //! where all files could be read and all cases passed, else 1.
@@ -43,12 +43,12 @@ fn judge<R: Threads + Wait + Sync>(
     rt: &R,
     alloc: Global,
     file: &str,
+    stops: bool,
     parts: &[Part<'_>],
     report: &mut Report<'_>,
 ) {
     if file.ends_with(".txtar") {
-        // (the runs of other folders, and those on fewer processors, are made for other reasons)
-        programs::judge(rt, alloc, file.starts_with("programs/"), parts, report)
+        programs::judge(rt, alloc, stops, parts, report)
     } else if file.contains("jasmin/") {
         jasmin::judge(alloc, parts, report)
     } else if file.contains("classes/") || file.contains("traces/") {
@@ -63,6 +63,7 @@ fn judge_bytes<R: Threads + Wait + Sync>(
     rt: &R,
     alloc: Global,
     file: &str,
+    stops: bool,
     bytes: &[u8],
     report: &mut Report<'_>,
 ) {
@@ -72,7 +73,7 @@ fn judge_bytes<R: Threads + Wait + Sync>(
     } else if let Some(line) = archive.bad_line {
         report.fails(line, b"a good escape", b"a bad one");
     } else {
-        judge(rt, alloc, file, &archive.parts, report);
+        judge(rt, alloc, file, stops, &archive.parts, report);
     }
 }
 
@@ -81,6 +82,7 @@ fn judge_file<'a, R: Files + Alloc + Clock + Threads + Wait + Sync>(
     rt: &R,
     alloc: Global,
     file: &'a str,
+    stops: bool,
     benchmarks: &[Benchmark],
     report: &mut Report<'a>,
 ) {
@@ -89,7 +91,7 @@ fn judge_file<'a, R: Files + Alloc + Clock + Threads + Wait + Sync>(
         bench::judge(rt, alloc, benchmarks, report);
     } else {
         match fs::read(rt, file) {
-            Ok(bytes) => judge_bytes(rt, alloc, file, &bytes, report),
+            Ok(bytes) => judge_bytes(rt, alloc, file, stops, &bytes, report),
             Err(_) => report.fails(0, b"a file", b"none that can be read"),
         }
     }
@@ -102,18 +104,19 @@ fn args_of(rt: &HostRuntime) -> io::Result<Vec<String>> {
     Ok(args)
 }
 
-/// Judges the files of these names, after the program's own, and prints what came of them.
+/// Judges the files of these names, and prints what came of them.
 fn judge_all<R: Files + Alloc + Clock + Print + Threads + Wait + Sync>(
     rt: &R,
     alloc: Global,
-    args: &[String],
+    files: &[String],
+    stops: bool,
     benchmarks: &[Benchmark],
 ) -> ExitCode {
     let mut report = Report::new(alloc);
-    for file in args.iter().skip(1) {
-        judge_file(rt, alloc, file.as_str(), benchmarks, &mut report);
+    for file in files {
+        judge_file(rt, alloc, file.as_str(), stops, benchmarks, &mut report);
     }
-    let has_passed = report.closes();
+    let has_passed = report.closes(stops);
     let is_written = rt.write_all(&report.text.bytes).is_ok();
     ExitCode::from(if has_passed && is_written { 0 } else { 1 })
 }
@@ -132,7 +135,11 @@ fn answer<R: Files + Alloc + Clock + Print + Eprint + Threads + Wait + Sync>(
         [_, word, name, files @ ..] if word.as_str() == "call" => {
             calls::answer(rt, alloc, name.as_str(), files)
         }
-        _ => judge_all(rt, alloc, args, benchmarks),
+        [_, word, files @ ..] if word.as_str() == "stop" => {
+            judge_all(rt, alloc, files, true, benchmarks)
+        }
+        [_, files @ ..] => judge_all(rt, alloc, files, false, benchmarks),
+        [] => ExitCode::from(1),
     }
 }
 

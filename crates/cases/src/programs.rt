@@ -14,10 +14,10 @@
 //!
 //! A file that no `left` names holds after the run what it held before, and the run makes no file but those. Where a command runs
 //! one main class, its run on a thread of its own must come to the same output, lines and trace, with any patience and with the least.
-//! A trace that a run wrote into a file must be judged legal. Each command of the folder `programs` is run too with its output stopped at each byte of it, and likewise with its
-//! standard error (after 800 bytes at every 997th): the answer must be status 3 (in the words that explain a fault, that of the fault), with just the bytes before on the stream that is
-//! stopped, and where that is the output, no file written and `io: output` on standard error. With room for just the whole it must come to the same as
-//! without a limit.
+//! A trace that a run wrote into a file must be judged legal. With `cases stop` each command is run too with its output stopped at each byte of it,
+//! and likewise with its standard error (after 800 bytes at every 997th): the answer must be status 3 (in the words that explain a fault, that of
+//! the fault), with just the bytes before on the stream that is stopped, and where that is the output, no file written and `io: output` on
+//! standard error. With room for just the whole it must come to the same as without a limit. (That is 62,000 runs, which the kit would make twice.)
 
 mod checked;
 mod named_texts;

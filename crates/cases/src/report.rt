@@ -105,10 +105,12 @@ impl<'a> Report<'a> {
         self.judges(line);
     }
 
-    /// Reports how many cases passed and failed, and answers whether all passed.
-    pub(crate) fn closes(&mut self) -> bool {
-        self.text.show(&self.stopped);
-        self.text.push(b" runs stopped\n");
+    /// Reports how many cases passed and failed, and, where it `stops`, first how many runs were stopped. Answers whether all passed.
+    pub(crate) fn closes(&mut self, stops: bool) -> bool {
+        if stops {
+            self.text.show(&self.stopped);
+            self.text.push(b" runs stopped\n");
+        }
         self.text.show(&self.passed);
         self.text.push(b" passed, ");
         self.text.show(&self.failed);
