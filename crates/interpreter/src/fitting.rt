@@ -5,7 +5,7 @@ ghost use Rattle.frames.specs.Activations.{operands_of};
 ghost use Rattle.heap.specs.Instances.{IsInstance};
 ghost use Rattle.hierarchy.specs.LinkedProgram.{id};
 ghost use Rattle.hierarchy.specs.MethodResolution.{kind_of};
-ghost use Rattle.interpreter.specs.Fitting.{AreOnTop, FitsType, IsCallable, IsCallableOn, IsFit, IsInstanceIn, IsReceiver, built_in_type as type_of_built_in, cell_of as cell_of_value, exact_type as exact_type_of, is_int_type as has_ints, is_kind as is_kind_by, value_of as value_of_cell};
+ghost use Rattle.interpreter.specs.Fitting.{AreOnTop, ArePlain, FitsType, HasPlainArguments, IsCallable, IsCallableOn, IsFit, IsInstanceIn, IsPlain, IsReceiver, built_in_type as type_of_built_in, cell_of as cell_of_value, exact_type as exact_type_of, is_int_type as has_ints, is_kind as is_kind_by, value_of as value_of_cell};
 ghost use Rattle.jasmin_text.specs.declared.class_text.ClassKind.TheVariants as kind;
 ghost use Rattle.interpreter.specs.Rows.{IsKindOf};
 
@@ -106,6 +106,42 @@ pub(crate) fn is_callable(
                 && are_on_top(frames, heap, program, code.parameters.as_slice())
         }
         None => false,
+    }
+}
+
+/// Whether what a value refers to isn't asked, to know whether it fits a type.
+pub(crate) fn is_plain(wanted: Option<ResolvedType>, value: Option<Cell>) -> bool
+    ensures { IsTrue result ↔ IsPlain wanted value }
+{
+    match (wanted, value) {
+        (Some(wanted), Some(Cell::Reference(_))) => matches!(wanted.element, Element::Any),
+        _ => true,
+    }
+}
+
+/// Whether that isn't asked of an operand for each of these types, that for the last the uppermost.
+fn are_plain(frames: &Frames, types: &[ResolvedType]) -> bool
+    ensures { IsTrue result ↔ ArePlain (reverse types.now) (operands_of frames.now) }
+{
+    let mut depth = 0;
+    let mut rest = types;
+    while let [before @ .., last] = rest {
+        if !is_plain(Some(*last), frames.operand(depth)) {
+            return false;
+        }
+        depth += 1;
+        rest = before;
+    }
+    true
+}
+
+/// Whether that isn't asked of the arguments of a static method, if it is there.
+pub(crate) fn has_plain_arguments(frames: &Frames, callee: Option<&MethodCode>) -> bool
+    ensures { IsTrue result ↔ HasPlainArguments (option_copied callee.entry) (operands_of frames.now) }
+{
+    match callee {
+        Some(code) => are_plain(frames, code.parameters.as_slice()),
+        None => true,
     }
 }
 

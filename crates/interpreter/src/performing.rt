@@ -191,7 +191,7 @@ impl Interpreter {
     }
 
     /// A monitor is to be entered before the frame goes on.
-    fn enter_monitor(&mut self, reference: u32)
+    pub(crate) fn enter_monitor(&mut self, reference: u32)
         ensures { EntersMonitor reference self.old self.new }
     {
         take(&mut self.frames, 1);

@@ -24,7 +24,7 @@ use hierarchy::{BuiltIn, ClassId, Program};
 use std::alloc::AllocError;
 
 /// The first method of a body of a class: the initializer's, or `main`, which has an argument.
-fn first_method(
+pub(crate) fn first_method(
     program: &Program,
     resolved: &Code,
     class: ClassId,

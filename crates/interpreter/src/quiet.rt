@@ -6,51 +6,81 @@ ghost use Rattle.bodies.specs.declared.does.Does.TheVariants as does;
 ghost use Rattle.heap.specs.declared.object.HeapObject.{HeapObject};
 ghost use Rattle.interpreter.specs.Rows.{IsHere, Row, Rows, to_do};
 ghost use Rattle.interpreter.specs.Says.{IsSayable, NoClassReady};
-ghost use Rattle.interpreter.specs.Leads.{IsQuietLead, LeadsTo, MayBeQuiet};
-ghost use Rattle.interpreter.specs.Touching.{ComesNext, Quietly, TouchesNothing};
+ghost use Rattle.interpreter.specs.Leads.{AsksNothing, IsQuietLead, LeadsTo};
+ghost use Rattle.interpreter.specs.Touching.{ComesNext, IsToTouch, Quietly, RowsBetween, TouchesNothing};
 ghost use Rattle.interpreter.specs.declared.lead.Lead.{Lead as LeadFacts};
 ghost use Rattle.interpreter.specs.declared.phase.Phase.TheVariants as phases;
 
+use crate::fitting::{built_in_type, has_plain_arguments, is_plain};
 use crate::halves::asks_of;
 use crate::interpreter::Interpreter;
 use crate::lead::{Lead, lead_of};
-use crate::methods::method_code;
-use crate::moves::jump;
+use crate::methods::{method_code, static_type};
+use crate::moves::{give, jump, take};
 use crate::phase::Phase;
+use crate::preparing::first_method;
 use crate::says::Resumes;
 use bodies::{Does, Limit};
 use code::{Code, MethodCode, Op, instructions_name_what_is_there};
-use frames::{FramePlace, Stop};
+use frames::{Cell, FramePlace, Frames, Stop};
 use heap::Heap;
-use hierarchy::Program;
+use hierarchy::{BuiltIn, Program};
 use std::alloc::Global;
 
-/// Whether an instruction may come to something that touches nothing.
-fn may_be_quiet(op: Op) -> bool
-    ensures { IsTrue result ↔ MayBeQuiet op }
+/// Whether an instruction asks nothing of what is shared before it goes on, before its active use, or before it enters a monitor.
+fn asks_nothing(
+    frames: &Frames,
+    program: &Program,
+    resolved: &Code,
+    code: &MethodCode,
+    op: Op,
+) -> bool
+    requires code { IsCode resolved.now program.now }
+    ensures { IsTrue result ↔ AsksNothing program.now frames.now code.now op }
 {
-    matches!(
-        op,
-        Op::GetStatic(_, _)
-            | Op::PutStatic(_, _)
-            | Op::New(_)
-            | Op::InvokeStatic(_, _)
-            | Op::Switch
-            | Op::Return
-            | Op::ReturnInt
-    )
+    let top = frames.operand(0);
+    match op {
+        Op::Switch
+        | Op::New(_)
+        | Op::EnterMonitor
+        | Op::GetStatic(_, _)
+        | Op::GetOut
+        | Op::ReturnInt
+        | Op::Return => true,
+        Op::CheckCast(_) | Op::CheckCastMissing | Op::InstanceOf(_) | Op::InstanceOfMissing => {
+            matches!(top, Some(Cell::Null))
+        }
+        Op::PutStatic(class, field) => {
+            let wanted = static_type(program, resolved, class as usize, field as usize);
+            is_plain(wanted, top)
+        }
+        Op::PutOut => is_plain(Some(built_in_type(program, BuiltIn::PrintStream)), top),
+        Op::InvokeStatic(class, method) => {
+            let callee = method_code(program, resolved, class as usize, method as usize);
+            has_plain_arguments(frames, callee)
+        }
+        Op::ReturnReference => is_plain(code.result, top),
+        _ => false,
+    }
 }
 
-/// Whether what an instruction comes to is an active use, a jump or a return.
+/// Whether what an instruction comes to is an active use, a jump, another operand, a return, or a monitor that is entered next.
 fn is_quiet(lead: Lead) -> bool
     ensures { IsTrue result ↔ IsQuietLead lead }
 {
-    matches!(lead, Lead::Uses(_) | Lead::Jumps(_) | Lead::Returns(_))
+    matches!(
+        lead,
+        Lead::Uses(_)
+            | Lead::Jumps(_)
+            | Lead::Gives(_, _)
+            | Lead::Drops(_)
+            | Lead::Returns(_)
+            | Lead::EntersMonitor(_)
+    )
 }
 
 impl Interpreter {
-    /// What an instruction comes to, where that is an active use, a jump or a return, whatever was made: a reference that it takes refers to
-    /// what was there before the program, or is of a type that every reference fits.
+    /// What an instruction comes to that asks nothing, where it goes on so ([`is_quiet`]): the same whatever was made.
     fn quiet_lead(
         &self,
         alloc: Global,
@@ -62,9 +92,10 @@ impl Interpreter {
     ) -> Option<Lead>
         requires code { IsCode resolved.now program.now }
         ensures always { IfSome result (λ l. (made : List HeapObject) → LeadsTo program.now made self.now.frames at code.now op l) }
-        ensures none { IfNone result ((l : LeadFacts) → MayBeQuiet op → LeadsTo program.now [] self.now.frames at code.now op l → IsQuietLead l → ⊥) }
+        ensures quiet { IfSome result (λ l. AsksNothing program.now self.now.frames code.now op × IsQuietLead l) }
+        ensures none { IfNone result ((l : LeadFacts) → AsksNothing program.now self.now.frames code.now op → LeadsTo program.now [] self.now.frames at code.now op l → IsQuietLead l → ⊥) }
     {
-        if !may_be_quiet(op) {
+        if !asks_nothing(&self.frames, program, resolved, code, op) {
             return None;
         }
         let nothing = Heap::new(alloc);
@@ -90,6 +121,7 @@ impl Interpreter {
         ensures less { result ≡ Some None → to_do self.new < to_do self.old }
         ensures says { IfSome result (λ d. IfSome d (λ x. Quietly (ComesNext program.now x) self.old self.new)) }
         ensures sayable { IfSome result (λ d. IfSome d (IsSayable program.now phases.Runs)) }
+        ensures free { IfSome result (λ d. IsToTouch program.now self.old self.old.phase → ⊥) }
         ensures none { result ≡ None → self.new ≡ self.old }
         ensures touches { result ≡ None → TouchesNothing program.now self.old.frames self.old.taken code.now op → ⊥ }
     {
@@ -103,6 +135,21 @@ impl Interpreter {
             (Lead::Jumps(to), _) => {
                 self.left -= 1;
                 jump(&mut self.frames, to);
+                Some(None)
+            }
+            (Lead::Gives(count, value), _) => {
+                self.left -= 1;
+                give(&mut self.frames, count, value);
+                Some(None)
+            }
+            (Lead::Drops(count), _) => {
+                self.left -= 1;
+                take(&mut self.frames, count);
+                Some(None)
+            }
+            (Lead::EntersMonitor(reference), _) => {
+                self.left -= 1;
+                self.enter_monitor(reference);
                 Some(None)
             }
             (Lead::Returns(value), _) if self.taken_here().is_none() => {
@@ -124,7 +171,7 @@ impl Interpreter {
     ) -> Option<Option<Does>>
         requires code { IsCode resolved.now program.now }
         requires phase { self.old.phase ≡ phases.Runs }
-        ensures rows { result ≡ Some None → Quietly (λ u v. Rows program.now u v) self.old self.new }
+        ensures rows { result ≡ Some None → Quietly (RowsBetween program.now) self.old self.new }
         ensures less { result ≡ Some None → to_do self.new < to_do self.old }
         ensures says { IfSome result (λ d. IfSome d (λ x. Quietly (ComesNext program.now x) self.old self.new)) }
         ensures sayable { IfSome result (λ d. IfSome d (IsSayable program.now phases.Runs)) }
@@ -176,6 +223,12 @@ impl Interpreter {
                     if self.begin_body(program, resolved, class, given).is_err() {
                         return Does::Ended(Limit::Memory);
                     }
+                }
+                Phase::Enters(class) => {
+                    if first_method(program, resolved, class, Some(0)).is_some() {
+                        return Does::Touches;
+                    }
+                    self.phase = Phase::Over(None);
                 }
                 _ => return Does::Touches,
             }

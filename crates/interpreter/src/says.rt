@@ -1,6 +1,6 @@
 //! What the innermost body does next.
 
-ghost use Rattle.std.specs.Prelude.{◌≡◌, ◌↔◌, IsTrue, true, IfNone, IfOk, IfSome, None, OnErr, OnOk, option_copied};
+ghost use Rattle.std.specs.Prelude.{◌≡◌, ◌<◌, ◌↔◌, IsTrue, true, IfNone, IfOk, IfSome, None, OnErr, OnOk, length, option_copied};
 ghost use Rattle.code.specs.IsCode.{IsCode};
 ghost use Rattle.bodies.specs.declared.does.Does.TheVariants as does;
 ghost use Rattle.bodies.specs.declared.report.Limit.TheVariants.{Steps};
@@ -199,6 +199,7 @@ impl Interpreter {
         requires at { IsAtOp program.now self.old.frames (op.InvokeStatic class method) }
         requires arguments { HasArguments (method_at program.now class method) (operands_of self.old.frames) }
         ensures row { OnOk result (Row program.now self.old self.new) }
+        ensures quiet { length self.old.frames < 512 → OnOk result (Quietly (Row program.now) self.old self.new) }
         ensures unready { OnOk result (NoClassReady self.new.phase) }
         ensures memory { OnErr result (TakesMemory program.now self.old) }
         ensures err { OnErr result (self.new ≡ self.old) }

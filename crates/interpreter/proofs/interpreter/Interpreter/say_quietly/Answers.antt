@@ -1,7 +1,7 @@
 use Rattle.std.proofs.Common.{◌<◌, ◌≤◌, inl, refl, subst}
 use Rattle.bodies.specs.declared.does.Does.TheVariants.{Ended}
 use Rattle.bodies.specs.declared.report.Limit.TheVariants.{Memory}
-use Rattle.interpreter.proofs.Quietly.{called_quietly, quiet_rows, says_quietly, then_quiet_next, then_quiet_row, touches_ready}
+use Rattle.interpreter.proofs.Quietly.{free_called, free_idle, quiet_rows, says_quietly, then_quiet_next, then_quiet_row, touches_ready}
 use Rattle.interpreter.proofs.Saying.{calls_there_are, calls_takes, idles_on, refused_still}
 use Rattle.interpreter.specs.Touching.{with_objects}
 use Rattle.interpreter.specs.declared.says.Resumes.TheVariants as resumes
@@ -28,14 +28,15 @@ returns-in-Ok-clause-sayable c = c.run_quietly-in-Ok.ensures.sayable c.args.self
 pub returns-in-Ok-clause-says : goal.returns-in-Ok-clause-says
 returns-in-Ok-clause-says c = then_quiet_next c.args.program.now c.args.self.now c.call_static.new.self c.run_quietly-in-Ok.new.self c.run_quietly-in-Ok.result
     (then_quiet_row c.args.program.now c.args.self.now c.args.self.now c.call_static.new.self (quiet_rows c.args.program.now c.args.self.now)
-    (called_quietly c.args.program.now c.args.self.now c.call_static.new.self c.in-Ready.class c.in-Calls.wanted c.in-Calls.method c.in-Ready.is (calls_there_are c.args.program.now c.args.self.now.frames c.in-Ready.class c.in-Calls.wanted c.in-Calls.method c.in-Calls.ensures).1 (subst (λ n. n < 512) c.len.ensures c.if-len-ge512.false) c.in-Ok.ensures.row)) c.run_quietly-in-Ok.ensures.says
+    (free_called c.args.program.now c.args.self.now c.in-Ready.class c.in-Calls.wanted c.in-Calls.method c.in-Ready.is c.in-Calls.ensures (subst (λ n. n < 512) c.len.ensures c.if-len-ge512.false))
+    (c.in-Ok.ensures.quiet (subst (λ n. n < 512) c.len.ensures c.if-len-ge512.false))) c.run_quietly-in-Ok.ensures.says
 
 pub returns-in-Err-clause-says : goal.returns-in-Err-clause-says
 returns-in-Err-clause-says c = rw c.in-Err.ensures.err (says_quietly c.args.program.now c.args.self.now c.args.self.now (Ended Memory) (refused_still c.args.program.now c.args.self.now
     (λ o. calls_takes c.args.program.now (with_objects c.args.self.now o) c.in-Ready.class c.in-Calls.wanted c.in-Calls.method c.in-Ready.is (calls_there_are c.args.program.now c.args.self.now.frames c.in-Ready.class c.in-Calls.wanted c.in-Calls.method c.in-Calls.ensures).0 (calls_there_are c.args.program.now c.args.self.now.frames c.in-Ready.class c.in-Calls.wanted c.in-Calls.method c.in-Calls.ensures).1 (calls_there_are c.args.program.now c.args.self.now.frames c.in-Ready.class c.in-Calls.wanted c.in-Calls.method c.in-Calls.ensures).2 (inl (subst (λ n. n < 512) c.len.ensures c.if-len-ge512.false)))))
 
 pub returns-in-Idles-clause-says : goal.returns-in-Idles-clause-says
-returns-in-Idles-clause-says c = then_quiet_next c.args.program.now c.args.self.now _ c.run_quietly-in-Idles.new.self c.run_quietly-in-Idles.result (then_quiet_row c.args.program.now c.args.self.now c.args.self.now _ (quiet_rows c.args.program.now c.args.self.now) (idles_on c.args.program.now c.args.self.now _ c.in-Ready.class c.in-Ready.is c.in-Idles.ensures refl)) c.run_quietly-in-Idles.ensures.says
+returns-in-Idles-clause-says c = then_quiet_next c.args.program.now c.args.self.now _ c.run_quietly-in-Idles.new.self c.run_quietly-in-Idles.result (then_quiet_row c.args.program.now c.args.self.now c.args.self.now _ (quiet_rows c.args.program.now c.args.self.now) (free_idle c.args.program.now c.args.self.now c.in-Ready.class c.in-Ready.is c.in-Idles.ensures) (idles_on c.args.program.now c.args.self.now _ c.in-Ready.class c.in-Ready.is c.in-Idles.ensures refl)) c.run_quietly-in-Idles.ensures.says
 
 pub returns-in-Idles-clause-sayable : goal.returns-in-Idles-clause-sayable
 returns-in-Idles-clause-sayable c = c.run_quietly-in-Idles.ensures.sayable c.args.self.now.phase

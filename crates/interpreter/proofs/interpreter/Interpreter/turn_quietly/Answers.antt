@@ -15,7 +15,7 @@ pub returns-in-Limit-clause-says : goal.returns-in-Limit-clause-says
 returns-in-Limit-clause-says c = then_quiet_next c.args.program.now c.args.self.now c.go_in-stop.new.self _ (Ended Steps) c.in-Limit.ensures.quiet (spent_quietly c.args.program.now c.go_in-stop.new.self c.in-Limit.ensures.stopped.0 c.in-Some-method_code.code.now c.in-Limit.ensures.stopped.1)
 
 pub returns-in-LeadsOut-clause-rows : goal.returns-in-LeadsOut-clause-rows
-returns-in-LeadsOut-clause-rows c = turned_on c.args.program.now c.args.self.now c.go_in-stop.new.self c.lead_quietly.new.self c.lead_quietly.result c.in-LeadsOut.ensures.quiet c.lead_quietly.ensures.row
+returns-in-LeadsOut-clause-rows c = turned_on c.args.program.now c.args.self.now c.go_in-stop.new.self c.lead_quietly.new.self c.lead_quietly.result c.in-LeadsOut.ensures.quiet c.lead_quietly.ensures.free c.lead_quietly.ensures.row
 
 pub returns-in-LeadsOut-clause-says : goal.returns-in-LeadsOut-clause-says
 returns-in-LeadsOut-clause-says c = turned_says c.args.program.now c.args.self.now c.go_in-stop.new.self c.lead_quietly.new.self c.lead_quietly.result c.in-LeadsOut.ensures.quiet c.lead_quietly.ensures.says
